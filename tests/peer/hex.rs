@@ -1,0 +1,27 @@
+//! Bytes as text: two upper-case digits each, and `-` for none.
+
+pub fn text(bytes: &[u8]) -> String {
+    if bytes.is_empty() {
+        return "-".to_string();
+    }
+    bytes.iter().map(|b| format!("{:02X}", b)).collect()
+}
+
+pub fn bytes(text: &str) -> Option<Vec<u8>> {
+    if text == "-" {
+        return Some(Vec::new());
+    }
+    if text.is_empty() || text.len() % 2 != 0 {
+        return None;
+    }
+    (0..text.len() / 2).map(|i| Some(number(text.get(2 * i..2 * i + 2)?, 2)? as u8)).collect()
+}
+
+/// A number of exactly so many digits.
+pub fn number(text: &str, digits: usize) -> Option<u32> {
+    let is_digit = |c: char| c.is_ascii_digit() || ('A'..='F').contains(&c);
+    if text.len() != digits || !text.chars().all(is_digit) {
+        return None;
+    }
+    u32::from_str_radix(text, 16).ok()
+}

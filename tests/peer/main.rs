@@ -1,0 +1,46 @@
+//! The peer: what the proved programs are held to from outside. It is written from the paper and from section 3 of the J11
+//! specification alone, shares no code and no table with the crates, and uses nothing but Rust's standard library.
+//!
+//!     peer selftest    its own CRC-32 and frames against published values and the paper's examples
+//!     peer cases       the request lines that `vectors` is tried with
+//!     peer vectors     the answer to each request line on standard input (lines.rs has the form of both)
+mod cases;
+mod crc;
+mod frame;
+mod hex;
+mod lines;
+mod selftest;
+
+use std::io::{self, Read, Write};
+use std::process::exit;
+
+fn main() {
+    let words: Vec<String> = std::env::args().skip(1).collect();
+    let done = match words.iter().map(String::as_str).collect::<Vec<_>>()[..] {
+        ["selftest"] => selftest::run(),
+        ["cases"] => write_out(&cases::all()),
+        ["vectors"] => read_in().and_then(|text| write_out(&lines::answers(&text))),
+        _ => {
+            eprintln!("usage: peer selftest | cases | vectors");
+            exit(2)
+        }
+    };
+    if let Err(why) = done {
+        eprintln!("peer: {}", why);
+        exit(1);
+    }
+}
+
+fn read_in() -> Result<Vec<u8>, String> {
+    let mut text = Vec::new();
+    io::stdin().read_to_end(&mut text).map_err(|e| e.to_string())?;
+    Ok(text)
+}
+
+fn write_out(lines: &[String]) -> Result<(), String> {
+    let mut text = lines.join("\n");
+    if !lines.is_empty() {
+        text.push('\n');
+    }
+    io::stdout().write_all(text.as_bytes()).map_err(|e| e.to_string())
+}

@@ -1,0 +1,111 @@
+//! The peer held to what others have published, so that an agreement with it means something.
+use crate::{crc, frame, hex};
+
+pub fn run() -> Result<(), String> {
+    let checks = [crcs(), continued(), checksums(), frames(), faults()];
+    let count: usize = checks.iter().map(Vec::len).sum();
+    match checks.concat().into_iter().find(|(_, good)| !good) {
+        Some((what, _)) => Err(format!("selftest: {}", what)),
+        None => {
+            println!("peer selftest: {} values hold", count);
+            Ok(())
+        }
+    }
+}
+
+type Checks = Vec<(String, bool)>;
+
+/// `123456789` is the check value of the catalogues of CRCs (CRC-32/ISO-HDLC); the others are what zlib's crc32 gives
+/// (python3 -c 'import zlib; print(hex(zlib.crc32(bytes(65536))))' for the longest).
+fn crcs() -> Checks {
+    let ramp: Vec<u8> = (0..32).collect();
+    let fox = b"The quick brown fox jumps over the lazy dog";
+    let published: [(&str, &[u8], u32); 9] = [
+        ("no bytes", b"", 0x0000_0000),
+        ("a", b"a", 0xE8B7_BE43),
+        ("abc", b"abc", 0x3524_41C2),
+        ("123456789", b"123456789", 0xCBF4_3926),
+        ("32 bytes 00", &[0x00; 32], 0x190A_55AD),
+        ("32 bytes FF", &[0xFF; 32], 0xFF6C_AB0B),
+        ("bytes 0 to 31", &ramp, 0x9126_7E8A),
+        ("the quick brown fox", fox, 0x414F_A339),
+        ("65,536 bytes 00", &[0x00; 65_536], 0xD797_8EEB),
+    ];
+    published.iter().map(|(what, bytes, crc)| (format!("CRC-32 of {}", what), crc::crc32(bytes) == *crc)).collect()
+}
+
+/// A published value again, from two parts at each place where it can be cut.
+fn continued() -> Checks {
+    let text = b"123456789";
+    (0..=text.len())
+        .map(|cut| {
+            let crc = !crc::more(crc::more(!0, &text[..cut]), &text[cut..]);
+            (format!("CRC-32 of 123456789, cut at {}", cut), crc == 0xCBF4_3926)
+        })
+        .collect()
+}
+
+/// The two sums of the specification's section 3.4, and those of the paper's examples 4, 5 and 11.
+fn checksums() -> Checks {
+    let mut sector = vec![0x00, 0x03, 0x02, 0x00, 0x01, 0x02, 0x03, 0x04];
+    sector.resize(4 + 512, 0xFF);
+    [
+        ("example 1", bytes("0161"), 0x9E),
+        ("example 2", bytes("00010004FF804022"), 0x1A),
+        ("example 4", bytes("094014000A001403DFFF"), 0xA4),
+        ("example 5", bytes("094014000A00140049FF"), 0x3D),
+        ("example 11", sector, 0xED),
+    ]
+    .iter()
+    .map(|(what, covered, sum)| (format!("checksum of {}", what), frame::checksum(covered) == *sum))
+    .collect()
+}
+
+/// The frames of the paper's examples, made and read again.
+fn frames() -> Checks {
+    let mut sector = vec![0x01, 0x02, 0x03, 0x04];
+    sector.resize(512, 0xFF);
+    let long = format!("0200030200{}ED17", hex::text(&sector));
+    let start = |end: &str| bytes(&format!("14000A00{}", end));
+    [
+        ("example 1", frame::control(0x61, &[]), "0101619E03"),
+        ("example 1, answer", frame::control(0x71, &[0x06]), "010271068703"),
+        ("example 2", frame::write(1, &bytes("FF804022"), frame::END), "0200010004FF8040221A03"),
+        ("example 3", frame::control(0xE0, &[0x05]), "0102E0051903"),
+        ("example 4", frame::control(0x40, &start("1403DFFF")), "01094014000A001403DFFFA403"),
+        ("example 5", frame::control(0x40, &start("140049FF")), "01094014000A00140049FF3D03"),
+        ("example 6", Some(frame::ERROR.to_vec()), "0102E0071703"),
+        ("example 11", frame::write(3, &sector, frame::CONTINUED), &long),
+    ]
+    .iter()
+    .map(|(what, made, wanted)| {
+        let again = made.as_deref().and_then(frame::read).and_then(|read| match read {
+            frame::Frame::Control { code, parameters } => frame::control(code, &parameters),
+            frame::Frame::Write { sector, data, footer } => frame::write(sector, &data, footer),
+        });
+        (format!("frame of {}", what), *made == Some(bytes(wanted)) && again == *made)
+    })
+    .collect()
+}
+
+/// One of each fault that the paper lists.
+fn faults() -> Checks {
+    [
+        ("no bytes (example 6)", ""),
+        ("another first byte", "0301619E03"),
+        ("L of 0", "01000003"),
+        ("a byte more", "0101619E0300"),
+        ("a byte less", "0101619E"),
+        ("a length of one more", "0102619D03"),
+        ("a wrong checksum", "0101619F03"),
+        ("footer 17 on a control frame", "0101619E17"),
+        ("another footer on a write frame", "0200010004FF8040221A04"),
+    ]
+    .iter()
+    .map(|(what, datagram)| (format!("fault: {}", what), frame::read(&bytes(datagram)).is_none()))
+    .collect()
+}
+
+fn bytes(text: &str) -> Vec<u8> {
+    if text.is_empty() { Vec::new() } else { hex::bytes(text).expect("hex in the self-test") }
+}
