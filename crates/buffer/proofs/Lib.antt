@@ -1,1 +1,5 @@
+pub mod Comparing
 pub mod Fold
+pub mod Numbers
+pub mod Parts
+pub mod Places
