@@ -3,8 +3,10 @@
 use mathlib.Core.Path.{_≡_, refl, sym, ap, _∙_}
 use mathlib.Core.List.{List, [], _∷_, _++_, foldl}
 use Prim.Native.Nat.{ℕ, zero, suc, _+_, _-_, _*_, _/_, _%_, _^_, _≤_, _<_}
-use native.Mathlib.Nat.{pow-suc, div-one}
+use native.Mathlib.Nat.{pow-succ', one-le-pow, div-one, add-mul, mul-assoc, add-assoc, zero-mul, zero-add, mod-eq-of-lt}
 use native.Mathlib.Omega.{arith}
+use lib.Arith.{mod-mul}
+use lib.Dec.{lit<}
 use lib.ListN.{length, getD, take, drop}
 use borrow.Author.Tests.{le-leb, lt-leb}
 use Rattle.buffer.specs.Number.{further, numberOf, bytesOf, numberAt}
@@ -41,6 +43,20 @@ pub length-bytes : (w n : ℕ) → length (bytesOf w n) ≡ w
 unfolding bytesOf
 length-bytes zero n = refl
 length-bytes (suc w) n = ap suc (length-bytes w n)
+
+-- a number written behind another, and read
+fold-bytes : (w n a : ℕ) → foldl further a (bytesOf w n) ≡ a * 256 ^ w + n % 256 ^ w
+unfolding bytesOf
+fold-bytes zero n a = omega arith
+fold-bytes (suc w) n a =
+    fold-bytes w n (further a (n / 256 ^ w % 256))
+    ∙ (simp (add-mul, mul-assoc, add-assoc))
+    ∙ sym (ap (λ (m : ℕ). a * m + n % m) (pow-succ' 256 w) ∙ ap (λ (m : ℕ). a * (256 * 256 ^ w) + m) (mod-mul n {m = 256} {c = 256 ^ w} (lit< tt) (one-le-pow w 256 (lit< tt))))
+
+-- a number that fits its bytes is read as it was written
+pub number-bytes : (w n : ℕ) → n < 256 ^ w → numberOf (bytesOf w n) ≡ n
+unfolding numberOf
+number-bytes w n h = fold-bytes w n 0 ∙ rw (zero-mul, zero-add) (mod-eq-of-lt h)
 
 pub bytes-two : (n : ℕ) → bytesOf 2 n ≡ n / 256 % 256 ∷ n % 256 ∷ []
 unfolding bytesOf
