@@ -1,14 +1,12 @@
 -- What a buffer holds after bytes were put to a place of it.
 -- Assumes nothing.
 use mathlib.Core.Path.{_≡_, refl, sym, ap, _∙_}
-use mathlib.Core.Bool.{Bool, cond}
 use mathlib.Core.List.{List, _++_}
 use Prim.Native.Nat.{ℕ, zero, _+_, _≤_, _<_}
 use native.Mathlib.Nat.{zero-add}
 use native.Mathlib.Omega.{arith}
-use lib.Dec.{leb}
-use lib.ListN.{length, take, drop, length-append, length-drop}
-use lib.Seq.{length-paste, take-length, take-at, drop-at}
+use lib.ListN.{length, take, drop, length-append}
+use lib.Seq.{take-at, drop-at, take-append-seam, drop-append-add}
 use borrow.Author.Tests.{le-leb, lt-leb}
 use Rattle.buffer.specs.Place.{placeOf, frontOf}
 
@@ -41,3 +39,10 @@ module _ (buffer bytes : List ℕ) where
 
   pub front-drop : length bytes ≤ length buffer → drop (length bytes) (frontOf buffer bytes) ≡ drop (length bytes) buffer
   front-drop h = ap (drop (length bytes)) (front-fits h) ∙ drop-at bytes (drop (length bytes) buffer) (length bytes) refl
+
+-- bytes put right behind a beginning
+pub place-next : (a rest bytes : List ℕ) → length bytes ≤ length rest → placeOf (a ++ rest) (length a) bytes ≡ a ++ bytes ++ drop (length bytes) rest
+place-next a rest bytes h =
+    let n : length (a ++ rest) ≡ length a + length rest = length-append a rest in
+    place-fits (a ++ rest) (length a) bytes (omega arith)
+    ∙ rw (take-append-seam a rest, drop-append-add a rest (length bytes))
