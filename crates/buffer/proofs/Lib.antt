@@ -1,3 +1,4 @@
+pub mod Bools
 pub mod Comparing
 pub mod Fold
 pub mod Numbers

@@ -4,10 +4,14 @@ use mathlib.Core.Path.{_≡_, refl}
 use mathlib.Core.Bool.{Bool, true, false}
 use mathlib.Core.List.{List}
 use Prim.Native.Nat.{ℕ, _+_, _-_, _≤_}
+use native.Mathlib.Omega.{arith}
 use lib.Dec.{eqb}
 use lib.ListN.{length, List·getD-eq-default}
+use borrow.Author.Tests.{eq-eqb, ne-eqb}
 use Rattle.buffer.specs.Number.{numberAt}
+use Rattle.frame.specs.Frame.{footerByte}
 use Rattle.frame.specs.Read.{byteAt, checkedAt, readControl, readWrite, readOf}
+use Rattle.frame.specs.declared.read.Footer.{Footer}
 use Rattle.frame.specs.declared.read.Footer.the-variants.{End, Continued}
 use Rattle.frame.specs.declared.read.Read.the-variants.{Fault, Control, Write}
 
@@ -52,6 +56,11 @@ module _ (d : List ℕ) (m : ℕ) (e : m ≡ numberAt 2 d 3) where
   pub write-footer : eqb (length d) (m + 7) ≡ true → checkedAt d (m + 5) ≡ true → eqb (byteAt d (m + 6)) 0x03 ≡ false → eqb (byteAt d (m + 6)) 0x17 ≡ false → Fault ≡ readWrite d
   unfolding readWrite
   write-footer n s f g = rw (← e, n, s, f, g)
+
+  -- either footer
+  pub write-good : (footer : Footer) → eqb (length d) (m + 7) ≡ true → checkedAt d (m + 5) ≡ true → byteAt d (m + 6) ≡ footerByte footer → Write (numberAt 2 d 1) m footer ≡ readWrite d
+  write-good End n s f = write-end n s (eq-eqb (byteAt d (m + 6)) 0x03 f)
+  write-good Continued n s f = write-continued n s (ne-eqb (byteAt d (m + 6)) 0x03 (λ q. omega arith)) (eq-eqb (byteAt d (m + 6)) 0x17 f)
 
 module _ (d : List ℕ) where
   pub read-empty : length d ≤ 0 → Fault ≡ readOf d
