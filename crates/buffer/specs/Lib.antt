@@ -1,1 +1,4 @@
+pub mod Compare
 pub mod Fill
+pub mod Number
+pub mod Place

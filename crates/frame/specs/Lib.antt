@@ -1,0 +1,4 @@
+pub mod Checksum
+pub mod Frame
+pub mod Read
+pub mod Write

@@ -1,0 +1,4 @@
+pub mod Cases
+pub mod RoundTrip
+pub mod Told
+pub mod Writing
