@@ -60,8 +60,8 @@ impl Cases {
         self.draw(65_536) as u16
     }
 
-    /// Every length to 600 twice, every single byte, and every single bit of 64 bytes: a CRC is a sum over bits, so that a
-    /// wrong entry of any table shows.
+    /// Every length to 600 twice, every single byte, and every single bit of a short message and of one that no way for short
+    /// messages takes: a CRC is a sum over bits, so that a wrong entry of any table shows.
     fn crcs(&mut self) {
         for _ in 0..2 {
             for length in 0..=600 {
@@ -72,10 +72,12 @@ impl Cases {
         for byte in 0..=255 {
             self.add(format!("crc {}", hex::text(&[byte])));
         }
-        for bit in 0..512 {
-            let mut bytes = [0; 64];
-            bytes[bit / 8] = 1 << (bit % 8);
-            self.add(format!("crc {}", hex::text(&bytes)));
+        for length in [16, 192] {
+            for bit in 0..8 * length {
+                let mut bytes = vec![0; length];
+                bytes[bit / 8] = 1 << (bit % 8);
+                self.add(format!("crc {}", hex::text(&bytes)));
+            }
         }
     }
 

@@ -1,0 +1,163 @@
+// The requests that read a frame or write one.
+use crate::say;
+use crate::text;
+use frame::read::Footer;
+use frame::read::Read;
+
+// What the reader says lies inside the datagram; nothing, should it not.
+fn part(datagram: &[u8], from: usize, count: usize) -> &[u8] {
+    if from > datagram.len() {
+        return &datagram[..0];
+    }
+    if count > datagram.len() - from {
+        return &datagram[..0];
+    }
+    let end = from + count;
+    &datagram[from..end]
+}
+
+fn say_control(code: u8, parameters: &[u8]) {
+    say::text(b"control ");
+    say::byte(code);
+    say::text(b" ");
+    say::bytes(parameters);
+    say::end();
+}
+
+fn say_length(length: usize) {
+    if length < 65536 {
+        say::pair(length as u16);
+    }
+}
+
+fn say_write(sector: u16, length: usize, footer: Footer, data: &[u8]) {
+    say::text(b"write ");
+    say::pair(sector);
+    say::text(b" ");
+    say_length(length);
+    say::text(b" ");
+    say::footer(footer);
+    say::text(b" ");
+    say::bytes(data);
+    say::end();
+}
+
+fn say_read(datagram: &[u8]) {
+    match frame::read::read_frame(datagram) {
+        Read::Fault => say::text(b"fault\n"),
+        Read::Control { code, parameters } => say_control(code, part(datagram, 3, parameters)),
+        Read::Write {
+            sector,
+            length,
+            footer,
+        } => say_write(sector, length, footer, part(datagram, 5, length)),
+    }
+}
+
+pub fn read(fields: &[u8]) -> bool {
+    let mut bytes = [0u8; 2048];
+    let got = text::bytes(fields, &mut bytes);
+    if got < 0 {
+        return false;
+    }
+    let n = io::count(got, &bytes);
+    say_read(&bytes[..n]);
+    true
+}
+
+// The buffer that a frame is written to holds A5 before.
+const LARGEST_BUFFER: usize = 600;
+
+fn say_buffer(buffer: &[u8]) {
+    say::bytes(buffer);
+    say::end();
+}
+
+fn put_control(buffer: &mut [u8], code: u8, parameters: &[u8]) {
+    frame::write::put_control(buffer, code, parameters);
+    say_buffer(buffer);
+}
+
+fn control_in(room: usize, code: u8, parameters: &[u8]) -> bool {
+    if room > LARGEST_BUFFER {
+        return false;
+    }
+    let mut buffer = [0xA5u8; LARGEST_BUFFER];
+    let n = io::count(room as isize, &buffer);
+    put_control(&mut buffer[..n], code, parameters);
+    true
+}
+
+pub fn control(fields: &[u8]) -> bool {
+    let code = text::number(text::first(fields), 2);
+    if code > 255 {
+        return false;
+    }
+    let later = text::rest(fields);
+    let mut bytes = [0u8; 2048];
+    let got = text::bytes(text::first(later), &mut bytes);
+    if got < 0 {
+        return false;
+    }
+    let n = io::count(got, &bytes);
+    control_in(text::decimal(text::rest(later)), code as u8, &bytes[..n])
+}
+
+fn put_write(buffer: &mut [u8], sector: u16, data: &[u8], footer: Footer) {
+    frame::write::put_write(buffer, sector, data, footer);
+    say_buffer(buffer);
+}
+
+fn write_in(room: usize, sector: u16, data: &[u8], footer: Footer) -> bool {
+    if room > LARGEST_BUFFER {
+        return false;
+    }
+    let mut buffer = [0xA5u8; LARGEST_BUFFER];
+    let n = io::count(room as isize, &buffer);
+    put_write(&mut buffer[..n], sector, data, footer);
+    true
+}
+
+// The last two fields are the footer and the room.
+fn write_footed(sector: u16, data: &[u8], fields: &[u8]) -> bool {
+    let footer = text::number(text::first(fields), 2);
+    let room = text::decimal(text::rest(fields));
+    if footer == 0x03 {
+        return write_in(room, sector, data, Footer::End);
+    }
+    if footer == 0x17 {
+        return write_in(room, sector, data, Footer::Continued);
+    }
+    false
+}
+
+pub fn write(fields: &[u8]) -> bool {
+    let sector = text::number(text::first(fields), 4);
+    if sector > 65535 {
+        return false;
+    }
+    let later = text::rest(fields);
+    let mut bytes = [0u8; 2048];
+    let got = text::bytes(text::first(later), &mut bytes);
+    if got < 0 {
+        return false;
+    }
+    let n = io::count(got, &bytes);
+    write_footed(sector as u16, &bytes[..n], text::rest(later))
+}
+
+fn put_error(buffer: &mut [u8]) {
+    frame::write::put_error(buffer);
+    say_buffer(buffer);
+}
+
+pub fn error(fields: &[u8]) -> bool {
+    let room = text::decimal(fields);
+    if room > LARGEST_BUFFER {
+        return false;
+    }
+    let mut buffer = [0xA5u8; LARGEST_BUFFER];
+    let n = io::count(room as isize, &buffer);
+    put_error(&mut buffer[..n]);
+    true
+}
