@@ -28,6 +28,20 @@ fn data_lengths() -> Vec<usize> {
 
 const SECTORS: [u16; 9] = [0, 1, 2, 255, 256, 491, 492, 0x1234, 0xFFFF];
 
+/// By the word that they begin with; `|` parts one line from the next.
+const NO_REQUESTS: [&str; 10] = [
+    "| |-|?|\t|crcs 00|cr 00|CRC 00|CRCRUN 00 1",
+    "crc|crc |crc  |crc 0|crc 000|crc 0G|crc 0a|crc --|crc -0|crc 00 | crc 00|crc 00 00|crc  00|crc\t00|crc 00\r",
+    "more|more 00000000|more 0000000 00|more 000000000 00|more 00000000 0|more - 00|more FFFFFFFG -",
+    "crcrun 00|crcrun - 1|crcrun 0 1|crcrun 000 1|crcrun 00 -|crcrun 00 1x|crcrun 00 000001|crcrun 00 0000001",
+    "crcrun 00 300001|crcrun 00 999999|crcrun 00 1000000|crcramp|crcramp |crcramp -|crcramp 300001|crcramp 0x10",
+    "sum|sum 1|sum 00 11|read|read 0|read 01 01",
+    "control 61 -|control 61 - |control 6 - 9|control 061 - 9|control 61 - 601|control 61 - 1000|control 61  9",
+    "control 61 - 9 9|control - - 9|write 0001 - 03|write 001 - 03 9|write 00001 - 03 9|write 0001 - 04 9",
+    "write 0001 - 3 9|write 0001 - 003 9|write 0001 - 17 601|write 0001 0 17 60|write 0001 - - 9",
+    "error|error |error -|error -1|error 601|error 6 6|error 00006|error 000006|error 0000006",
+];
+
 struct Cases {
     lines: Vec<String>,
     state: u64,
@@ -324,20 +338,10 @@ impl Cases {
 
     /// Lines that are no request: the two readers of this form are held to each other too.
     fn no_requests(&mut self) {
-        let lines = [
-            "", " ", "-", "crc", "crc ", "crc  ", "crc 0", "crc 000", "crc 0G", "crc 0a", "crc --", "crc -0", "crc 00 ", " crc 00",
-            "crc 00 00", "crc  00", "crcs 00", "cr 00", "CRC 00", "CRCRUN 00 1", "more", "more 00000000", "more 0000000 00",
-            "more 000000000 00", "more 00000000 0", "more - 00", "more FFFFFFFG -", "crcrun 00", "crcrun - 1", "crcrun 0 1",
-            "crcrun 000 1", "crcrun 00 300001", "crcrun 00 999999", "crcrun 00 1000000", "crcrun 00 -", "crcrun 00 1x",
-            "crcrun 00 000001", "crcrun 00 0000001", "crcramp", "crcramp ", "crcramp -", "crcramp 300001", "crcramp 0x10", "sum",
-            "sum 1", "sum 00 11", "read", "read 0", "read 01 01", "control 61 -", "control 61 - ", "control 6 - 9",
-            "control 061 - 9", "control 61 - 601", "control 61 - 1000", "control 61  9", "control 61 - 9 9", "control - - 9",
-            "write 0001 - 03", "write 001 - 03 9", "write 00001 - 03 9", "write 0001 - 04 9", "write 0001 - 3 9",
-            "write 0001 - 003 9", "write 0001 - 17 601", "write 0001 0 17 60", "write 0001 - - 9", "error", "error ", "error -",
-            "error -1", "error 601", "error 6 6", "error 00006", "error 000006", "error 0000006", "\t", "crc\t00", "crc 00\r", "?",
-        ];
-        for line in lines {
-            self.add(line.to_string());
+        for group in NO_REQUESTS {
+            for line in group.split('|') {
+                self.add(line.to_string());
+            }
         }
         for digits in [4090, 4091, 4092, 4094, 5000, 9000] {
             self.add(format!("crc {}", "0".repeat(digits)));

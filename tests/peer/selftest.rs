@@ -107,5 +107,9 @@ fn faults() -> Checks {
 }
 
 fn bytes(text: &str) -> Vec<u8> {
-    if text.is_empty() { Vec::new() } else { hex::bytes(text).expect("hex in the self-test") }
+    if text.is_empty() {
+        Vec::new()
+    } else {
+        hex::bytes(text).expect("hex in the self-test")
+    }
 }
