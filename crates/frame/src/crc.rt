@@ -1,15 +1,15 @@
-// CRC-32 of IEEE 802.3: bit by bit for a short part, six registers side by side for a longer one.
+// CRC-32 of IEEE 802.3: one register, bit by bit, for a short part, and six side by side for a longer one.
 mod tables;
 
 ghost use mathlib.Core.Path.{_≡_};
 ghost use Prim.Native.Nat.{_+_, _-_, _*_, _%_, _≤_, _<_};
 ghost use lib.Bits.{bitXor};
-ghost use lib.ListN.{length, drop};
+ghost use lib.ListN.{length};
 ghost use Rattle.frame.specs.Braid.{Jumps, wordAt, crcWord};
-ghost use Rattle.frame.specs.Crc.{crcBit, crcBits, crcMore, CrcMore·Is, Crc32·Is};
+ghost use Rattle.frame.specs.Crc.{crcBit, crcBits, CrcMore·Is, Crc32·Is};
 
-// Below so many bytes, bit by bit is faster than the tables, which are copied at each call.
-const SHORT: usize = 80;
+// Below so many bytes one register is faster than the tables, which are copied at each call.
+const SHORT: usize = 64;
 
 // One bit of the register.
 fn bit(register: u32) -> u32
@@ -31,20 +31,6 @@ fn bits(register: u32, n: u32) -> u32
     while k < n {
         r = bit(r);
         k += 1;
-    }
-    r
-}
-
-// The bytes from an index on, bit by bit.
-fn onward(register: u32, part: &[u8], from: usize) -> u32
-    requires { ⌜ from ≤ length (now part) ⌝ }
-    ensures { λ r. ⌜ r ≡ crcMore register (drop from (now (part .entry))) ⌝ }
-{
-    let mut r = register;
-    let mut i = from;
-    while i < part.len() {
-        r = bits(r ^ (part[i] as u32), 8);
-        i += 1;
     }
     r
 }
@@ -82,10 +68,10 @@ fn jump(t: &[u32; 1024], register: u32) -> u32
     requires { ⌜ Jumps (now t) ⌝ }
     ensures { λ r. ⌜ r ≡ crcBits 192 register ⌝ }
 {
-    let d = look(t, 3, register >> 24);
-    let c = look(t, 2, register >> 16);
-    let b = look(t, 1, register >> 8);
     let a = look(t, 0, register);
+    let b = look(t, 1, register >> 8);
+    let c = look(t, 2, register >> 16);
+    let d = look(t, 3, register >> 24);
     a ^ (b ^ (c ^ d))
 }
 
@@ -98,7 +84,7 @@ fn far(t: &[u32; 1024], held: u32, part: &[u8], i: usize) -> u32
     jump(t, held ^ word(part, i))
 }
 
-// A register's last word, taken into the one register that is left.
+// A word, with what is held for it, taken into the register.
 fn near(register: u32, held: u32, part: &[u8], i: usize) -> u32
     requires { ⌜ i + 4 ≤ length (now part) ⌝ }
     ensures { λ r. ⌜ r ≡ crcWord register (bitXor held (wordAt (now (part .entry)) i)) ⌝ }
@@ -106,9 +92,27 @@ fn near(register: u32, held: u32, part: &[u8], i: usize) -> u32
     bits(register ^ (held ^ word(part, i)), 32)
 }
 
+// One register: word by word, and the last bytes one by one.
+fn plain(register: u32, part: &[u8]) -> u32
+    ensures { λ r. ⌜ CrcMore·Is register (now (part .entry)) r ⌝ }
+{
+    let mut r = register;
+    let mut i = 0;
+    while 4 <= part.len() - i {
+        r = near(r, 0, part, i);
+        i += 4;
+    }
+    while i < part.len() {
+        r = bits(r ^ (part[i] as u32), 8);
+        i += 1;
+    }
+    r
+}
+
 // Six registers side by side, so that none waits for another; at the last 24 bytes they become one.
 fn braid(register: u32, part: &[u8]) -> u32
     requires { ⌜ 24 ≤ length (now part) ⌝ }
+    requires { ⌜ length (now part) % 24 ≡ 0 ⌝ }
     ensures { λ r. ⌜ CrcMore·Is register (now (part .entry)) r ⌝ }
 {
     let t = jumps();
@@ -134,17 +138,20 @@ fn braid(register: u32, part: &[u8]) -> u32
     d = near(c, d, part, i + 12);
     e = near(d, e, part, i + 16);
     f = near(e, f, part, i + 20);
-    onward(a ^ f, part, i + 24)
+    a ^ f
 }
 
-// The register after a part: what is checked in pieces goes on from where it stood.
+// The register after a part: what comes in pieces goes on from where it stood. The bytes that are no whole turn of the six
+// go first, so that they run while the tables are copied.
 pub fn crc_more(register: u32, part: &[u8]) -> u32
     ensures { λ r. ⌜ CrcMore·Is register (now (part .entry)) r ⌝ }
 {
     if part.len() < SHORT {
-        onward(register, part, 0)
+        plain(register, part)
     } else {
-        braid(register, part)
+        let odd = part.len() % 24;
+        let r = plain(register, &part[..odd]);
+        braid(r, &part[odd..])
     }
 }
 

@@ -7,6 +7,7 @@ use native.Mathlib.Nat.{add-comm, mul-suc}
 use native.Mathlib.Omega.{arith}
 use lib.Bits.{bitXor, xor-zero-r}
 use lib.ListN.{length, drop}
+use Rattle.buffer.proofs.Fold.{fold-done}
 use Rattle.frame.specs.Crc.{crcBits, crcByte}
 use Rattle.frame.specs.Braid.{wordAt, crcWord}
 use Rattle.frame.proofs.crc.Linear.{xor-assoc, xor-swap, bits-xor, bits-zero, bits-add, bits-swap}
@@ -97,12 +98,14 @@ word-first : (n x : ℕ) → crcBits n (crcWord 0 x) ≡ crcBits (32 + n) x
 unfolding crcWord
 word-first n x = bits-add 32 n x
 
--- at the end the first goes 24 bytes on, and the others become one
-pub braid-end : (l : List ℕ) (a b c d e f i : ℕ)
-    → foldl crcByte (bitXor (crcBits 192 (bitXor a (wordAt l i))) (crcWord (crcWord (crcWord (crcWord (crcWord 0 (bitXor b (wordAt l (i + 4)))) (bitXor c (wordAt l (i + 8)))) (bitXor d (wordAt l (i + 12)))) (bitXor e (wordAt l (i + 16)))) (bitXor f (wordAt l (i + 20))))) (drop (i + 24) l)
+-- at the last 24 bytes the first goes as far as these, and the others become one
+pub braid-end : (l : List ℕ) (a b c d e f i : ℕ) → length l ≤ i + 24
+    → bitXor (crcBits 192 (bitXor a (wordAt l i))) (crcWord (crcWord (crcWord (crcWord (crcWord 0 (bitXor b (wordAt l (i + 4)))) (bitXor c (wordAt l (i + 8)))) (bitXor d (wordAt l (i + 12)))) (bitXor e (wordAt l (i + 16)))) (bitXor f (wordAt l (i + 20))))
     ≡ braided a b c d e f l i
 unfolding braided
-braid-end l a b c d e f i =
+braid-end l a b c d e f i h =
+    let x : ℕ = bitXor a (wordAt l i) in
     let others : List ℕ = bitXor b (wordAt l (i + 4)) ∷ bitXor c (wordAt l (i + 8)) ∷ bitXor d (wordAt l (i + 12)) ∷ bitXor e (wordAt l (i + 16)) ∷ bitXor f (wordAt l (i + 20)) ∷ [] in
-    ap (λ (q : ℕ). foldl crcByte (bitXor q (foldl crcWord 0 others)) (drop (i + 24) l)) (sym (word-first 160 (bitXor a (wordAt l i))))
-    ∙ ap (λ (q : ℕ). foldl crcByte q (drop (i + 24) l)) (sym (words-apart (crcWord 0 (bitXor a (wordAt l i))) others))
+    ap (λ (q : ℕ). bitXor q (foldl crcWord 0 others)) (sym (word-first 160 x))
+    ∙ sym (words-apart (crcWord 0 x) others)
+    ∙ sym (fold-done crcByte l (foldl crcWord 0 (x ∷ others)) (i + 24) h)

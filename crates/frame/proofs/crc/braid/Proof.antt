@@ -1,11 +1,9 @@
 -- `frame::crc::braid` meets its contract: the six registers, with the words that they are at and the bytes after these, come to the whole.
 -- Assumes nothing.
-use mathlib.Core.Path.{_≡_, ap, ap₂, _∙_}
+use mathlib.Core.Path.{_≡_, _∙_}
 use mathlib.Core.List.{List, foldl}
-use Prim.Native.Nat.{ℕ, _+_, _-_, _≤_}
-use native.Mathlib.Omega.{arith}
-use lib.Bits.{bitXor}
-use lib.ListN.{length, drop}
+use Prim.Native.Nat.{ℕ, _+_, _-_, _%_, _≤_}
+use lib.ListN.{length}
 use borrow.Author.Needs.{needs}
 use Rattle.frame.specs.Crc.{crcByte, crcMore}
 use Rattle.frame.proofs.crc.Strands.{braided, braid-start, braid-turn, braid-end}
@@ -13,7 +11,7 @@ use Rattle.frame.proofs.crc.braid.Statement.{statement}
 use Rattle.frame.proofs.crc.braid.Tie as tie
 
 abbrev Inv-loop : tie.InvT-loop
-Inv-loop register part t a₀ b₀ c₀ d₀ e₀ f₀ i₀ a b c d e f i = (i + 24 ≤ length part) × (braided a b c d e f part i ≡ foldl crcByte register part)
+Inv-loop register part t a₀ b₀ c₀ d₀ e₀ f₀ i₀ a b c d e f i = (i + 24 ≤ length part) × ((length part - i) % 24 ≡ 0) × (braided a b c d e f part i ≡ foldl crcByte register part)
 
 abbrev μ-loop : tie.MeasureT-loop
 μ-loop register part t a₀ b₀ c₀ d₀ e₀ f₀ i₀ a b c d e f i = length part - i
@@ -22,7 +20,7 @@ jumps-requires : tie.Need-jumps-requires Inv-loop μ-loop
 jumps-requires c κs = search needs
 
 loop-holds : tie.Need-loop-holds Inv-loop μ-loop
-loop-holds c = (search needs, braid-start ((c .before .before .args .part .now)) ((c .before .before .args .register)) (search needs))
+loop-holds c = (search needs, search needs, braid-start ((c .before .before .args .part .now)) ((c .before .before .args .register)) (search needs))
 
 sub-loop : tie.Need-sub-loop Inv-loop μ-loop
 sub-loop c = search needs
@@ -68,12 +66,11 @@ loop-less c = search needs
 
 loop-again : tie.Need-loop-again Inv-loop μ-loop
 loop-again c =
-    let l : List ℕ = (c .before .before .before .before .before .before .before .before .before .before .before .before .before .before .before .before .args .part .now) in
-    let at = (c .before .before .before .before .before .before .before .before .before .before .before .before .before .loop) in
-    let i : ℕ = at .i in (
+    let at = (c .before .before .before .before .before .before .before .before .before .before .before .before .before .loop) in (
+      search needs,
       search needs,
       rw ((c .far6 .ensures), (c .before .before .far5 .ensures), (c .before .before .before .before .far4 .ensures), (c .before .before .before .before .before .before .far3 .ensures), (c .before .before .before .before .before .before .before .before .far2 .ensures), (c .before .before .before .before .before .before .before .before .before .before .far .ensures))
-          (braid-turn l (at .a) (at .b) (at .c) (at .d) (at .e) (at .f) i (search needs) ∙ at .inv .1),
+          (braid-turn ((c .before .before .before .before .before .before .before .before .before .before .before .before .before .before .before .before .args .part .now)) (at .a) (at .b) (at .c) (at .d) (at .e) (at .f) (at .i) (search needs) ∙ at .inv .2),
     )
 
 far-requires-7 : tie.Need-far-requires-7 Inv-loop μ-loop
@@ -109,21 +106,12 @@ add-near-5 c = search needs
 near-requires-5 : tie.Need-near-requires-5 Inv-loop μ-loop
 near-requires-5 c κs = search needs
 
-add-onward : tie.Need-add-onward Inv-loop μ-loop
-add-onward c = search needs
-
-onward-requires : tie.Need-onward-requires Inv-loop μ-loop
-onward-requires c κs = search needs
-
 returns : tie.Need-returns Inv-loop μ-loop
 unfolding crcMore
 returns c =
-    let l : List ℕ = (c .before .before .before .before .before .before .before .before .before .before .before .before .args .part .now) in
-    let at = (c .before .before .before .before .before .before .before .before .before .loop) in
-    let i : ℕ = at .i in
-    (c .onward .ensures)
-    ∙ rw ((c .before .near5 .ensures), (c .before .before .near4 .ensures), (c .before .before .before .near3 .ensures), (c .before .before .before .before .near2 .ensures), (c .before .before .before .before .before .near .ensures), (c .before .before .before .before .before .before .far7 .ensures))
-    (braid-end l (at .a) (at .b) (at .c) (at .d) (at .e) (at .f) i ∙ at .inv .1)
+    let at = (c .before .before .before .before .before .before .before .before .loop) in
+    rw ((c .near5 .ensures), (c .before .near4 .ensures), (c .before .before .near3 .ensures), (c .before .before .before .near2 .ensures), (c .before .before .before .before .near .ensures), (c .before .before .before .before .before .far7 .ensures))
+    (braid-end ((c .before .before .before .before .before .before .before .before .before .before .before .args .part .now)) (at .a) (at .b) (at .c) (at .d) (at .e) (at .f) (at .i) (search needs) ∙ at .inv .2)
 
 pub braid-spec : {M : Type 1} → statement M
 braid-spec =
@@ -159,6 +147,4 @@ braid-spec =
     near-requires-4
     add-near-5
     near-requires-5
-    add-onward
-    onward-requires
     returns)
