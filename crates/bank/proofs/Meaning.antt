@@ -11,7 +11,7 @@ use lib.ListN.{length, take}
 use borrow.Author.Tests.{leb-true, eqb-true, eq-eqb, le-leb}
 use Rattle.frame.specs.Crc.{crcOf}
 use Rattle.bank.specs.Stretch.{fitsAt, laidOut, blankOutside, held}
-use Rattle.bank.specs.Table.{idOf, editionOf, countOf, crcPlace, tableEnd, entryAt, restOf, stretchOf, stretchesOf}
+use Rattle.bank.specs.Table.{byteAt, idOf, editionOf, countOf, crcPlace, tableEnd, entryAt, restOf, entriesOf, stretchOf, stretchesOf}
 use Rattle.bank.specs.Sound.{mostBodies, headerGood, tableGood, laidOutGood, stretchBytes, bodyGood, allGood, bodiesGood, blankGood, contentsGood, filledGood, soundOf}
 use Rattle.bank.specs.Meaning.{bodyStart, bodyEnd, Kept, Place, in-table, in-body, outside}
 use Rattle.buffer.specs.Number.{numberAt}
@@ -142,3 +142,50 @@ module _ (b : List ℕ) where
         by (yes d) n e o = in-table d
         by (no d) zero e o = outside (omega arith) e (kept s .outside k (omega arith) h e)
         by (no d) (suc n) e o = in-body (omega arith) (omega arith)
+
+-- A bank that breaks a rule is unsound, whatever else it keeps. That the table fits cannot be broken alone: 30 bodies take 368
+-- bytes, less than a sector.
+module _ (b : List ℕ) where
+  pub unsound : (Kept b → ⊥) → soundOf b ≡ false
+  unsound n = by (soundOf b) refl
+    where
+      by : (t : Bool) → soundOf b ≡ t → soundOf b ≡ false
+      by true e = absurd (n (kept b e))
+      by false e = e
+
+  pub broken-id : (idOf b ≡ 0x0400 → ⊥) → soundOf b ≡ false
+  broken-id n = unsound (λ k. n (k .id))
+
+  pub broken-edition : (editionOf b ≡ 1 → ⊥) → soundOf b ≡ false
+  broken-edition n = unsound (λ k. n (k .edition))
+
+  pub broken-count : countOf b < 1 → soundOf b ≡ false
+  broken-count h = unsound (λ k. omega (arith, k .count-low))
+
+  pub broken-count-high : mostBodies < countOf b → soundOf b ≡ false
+  broken-count-high h = unsound (λ k. omega (arith, k .count-high))
+
+  pub broken-table-fits : length b < tableEnd b → soundOf b ≡ false
+  broken-table-fits h = unsound (λ k. omega (arith, k .table-fits))
+
+  pub broken-table-crc : (crcOf (take (crcPlace b) b) ≡ numberAt 4 b (crcPlace b) → ⊥) → soundOf b ≡ false
+  broken-table-crc n = unsound (λ k. n (k .table-crc))
+
+  pub broken-first : bodyStart b 0 < tableEnd b → soundOf b ≡ false
+  broken-first h = unsound (λ k. omega (arith, k .first))
+
+  module _ (i : ℕ) where
+    pub broken-length : i < countOf b → entryAt b i .length < 1 → soundOf b ≡ false
+    broken-length l h = unsound (λ k. omega (arith, k .a-byte i l))
+
+    pub broken-next : i + 1 < countOf b → bodyStart b (i + 1) < bodyEnd b i → soundOf b ≡ false
+    broken-next l h = unsound (λ k. omega (arith, k .next i l))
+
+    pub broken-within : i < countOf b → length b < bodyEnd b i → soundOf b ≡ false
+    broken-within l h = unsound (λ k. omega (arith, k .within i l))
+
+    pub broken-body-crc : i < countOf b → (crcOf (stretchBytes b (entryAt b i)) ≡ entryAt b i .crc → ⊥) → soundOf b ≡ false
+    broken-body-crc l n = unsound (λ k. n (k .body-crc i l))
+
+    pub broken-outside : tableEnd b ≤ i → i < length b → held i (stretchesOf (entriesOf b)) ≡ 0 → (byteAt b i ≡ 0xFF → ⊥) → soundOf b ≡ false
+    broken-outside l h z n = unsound (λ k. n (k .outside i l h z))
