@@ -15,6 +15,6 @@ wordAt s i = bitXor (getD s i 0) (bitXor (getD s (i + 1) 0 * 2 ^ 8) (bitXor (get
 unfoldable pub crcWord : ℕ → ℕ → ℕ
 crcWord register word = crcBits 32 (bitXor register word)
 
--- a table for each of a register's four bytes, the lowest first: what is left of each after 24 bytes, the byte's own place counted
+-- four tables of 256, one for each byte of a register, the lowest first: byte k is k bytes ahead, so 24 - k bytes of bits are left to it
 pub record Jumps (t : List ℕ) : Type 0 where
   pub entry : (k i : ℕ) → k < 4 → i < 256 → getD t (k * 256 + i) 0 ≡ crcBits (8 * (24 - k)) i

@@ -9,7 +9,7 @@ ghost use Rattle.frame.specs.Braid.{Jumps, wordAt, crcWord};
 ghost use Rattle.frame.specs.Crc.{crcBit, crcBits, CrcMore·Is, Crc32·Is};
 
 // Below so many bytes one register is faster than the tables, which are copied at each call.
-const SHORT: usize = 64;
+const SHORT: usize = 68;
 
 // One bit of the register.
 fn bit(register: u32) -> u32

@@ -1,8 +1,8 @@
 -- The CRC-32 at known values, computed.
 -- Assumes nothing.
 use mathlib.Core.Path.{_≡_, refl}
-use mathlib.Core.List.{List, [], _∷_}
-use Prim.Native.Nat.{ℕ, _+_, _-_, _^_}
+use mathlib.Core.List.{[], _∷_}
+use Prim.Native.Nat.{_+_, _-_, _^_}
 use Rattle.frame.specs.Crc.{poly, feed, crcBit, crcBits, crcByte, crcMore, crcOf}
 
 -- the polynomial's terms below x^32, the term x^e at bit 31 - e

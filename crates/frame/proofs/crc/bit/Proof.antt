@@ -1,10 +1,10 @@
 -- `frame::crc::bit` meets its contract: by the bit that falls out.
 -- Assumes nothing.
-use mathlib.Core.Path.{_≡_, refl, sym, ap, _∙_}
-use Prim.Native.Nat.{ℕ, zero, suc, _/_, _%_, _<_}
+use mathlib.Core.Path.{_≡_, sym, ap, _∙_}
+use Prim.Native.Nat.{ℕ, _/_, _%_}
 use native.Mathlib.Omega.{arith}
-use lib.Bits.{bitXor, and-mask}
-use Rattle.frame.specs.Crc.{poly, feed, crcBit}
+use lib.Bits.{and-mask}
+use Rattle.frame.specs.Crc.{feed, crcBit}
 use Rattle.frame.proofs.crc.bit.Statement.{statement}
 use Rattle.frame.proofs.crc.bit.Tie as tie
 

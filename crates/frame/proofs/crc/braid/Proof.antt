@@ -1,8 +1,8 @@
 -- `frame::crc::braid` meets its contract: the six registers, with the words that they are at and the bytes after these, come to the whole.
 -- Assumes nothing.
 use mathlib.Core.Path.{_≡_, _∙_}
-use mathlib.Core.List.{List, foldl}
-use Prim.Native.Nat.{ℕ, _+_, _-_, _%_, _≤_}
+use mathlib.Core.List.{foldl}
+use Prim.Native.Nat.{_+_, _-_, _%_, _≤_}
 use lib.ListN.{length}
 use borrow.Author.Needs.{needs}
 use Rattle.frame.specs.Crc.{crcByte, crcMore}
@@ -20,7 +20,7 @@ jumps-requires : tie.Need-jumps-requires Inv-loop μ-loop
 jumps-requires c κs = search needs
 
 loop-holds : tie.Need-loop-holds Inv-loop μ-loop
-loop-holds c = (search needs, search needs, braid-start ((c .before .before .args .part .now)) ((c .before .before .args .register)) (search needs))
+loop-holds c = (search needs, search needs, braid-start (c .before .before .args .part .now) (c .before .before .args .register) (search needs))
 
 sub-loop : tie.Need-sub-loop Inv-loop μ-loop
 sub-loop c = search needs
@@ -66,11 +66,11 @@ loop-less c = search needs
 
 loop-again : tie.Need-loop-again Inv-loop μ-loop
 loop-again c =
-    let at = (c .before .before .before .before .before .before .before .before .before .before .before .before .before .loop) in (
+    let at = c .before .before .before .before .before .before .before .before .before .before .before .before .before .loop in (
       search needs,
       search needs,
-      rw ((c .far6 .ensures), (c .before .before .far5 .ensures), (c .before .before .before .before .far4 .ensures), (c .before .before .before .before .before .before .far3 .ensures), (c .before .before .before .before .before .before .before .before .far2 .ensures), (c .before .before .before .before .before .before .before .before .before .before .far .ensures))
-          (braid-turn ((c .before .before .before .before .before .before .before .before .before .before .before .before .before .before .before .before .args .part .now)) (at .a) (at .b) (at .c) (at .d) (at .e) (at .f) (at .i) (search needs) ∙ at .inv .2),
+      rw (c .far6 .ensures, c .before .before .far5 .ensures, c .before .before .before .before .far4 .ensures, c .before .before .before .before .before .before .far3 .ensures, c .before .before .before .before .before .before .before .before .far2 .ensures, c .before .before .before .before .before .before .before .before .before .before .far .ensures)
+          (braid-turn (c .before .before .before .before .before .before .before .before .before .before .before .before .before .before .before .before .args .part .now) (at .a) (at .b) (at .c) (at .d) (at .e) (at .f) (at .i) (search needs) ∙ at .inv .2),
     )
 
 far-requires-7 : tie.Need-far-requires-7 Inv-loop μ-loop
@@ -109,9 +109,9 @@ near-requires-5 c κs = search needs
 returns : tie.Need-returns Inv-loop μ-loop
 unfolding crcMore
 returns c =
-    let at = (c .before .before .before .before .before .before .before .before .loop) in
-    rw ((c .near5 .ensures), (c .before .near4 .ensures), (c .before .before .near3 .ensures), (c .before .before .before .near2 .ensures), (c .before .before .before .before .near .ensures), (c .before .before .before .before .before .far7 .ensures))
-    (braid-end ((c .before .before .before .before .before .before .before .before .before .before .before .args .part .now)) (at .a) (at .b) (at .c) (at .d) (at .e) (at .f) (at .i) (search needs) ∙ at .inv .2)
+    let at = c .before .before .before .before .before .before .before .before .loop in
+    rw (c .near5 .ensures, c .before .near4 .ensures, c .before .before .near3 .ensures, c .before .before .before .near2 .ensures, c .before .before .before .before .near .ensures, c .before .before .before .before .before .far7 .ensures)
+    (braid-end (c .before .before .before .before .before .before .before .before .before .before .before .args .part .now) (at .a) (at .b) (at .c) (at .d) (at .e) (at .f) (at .i) (search needs) ∙ at .inv .2)
 
 pub braid-spec : {M : Type 1} → statement M
 braid-spec =

@@ -1,6 +1,6 @@
 -- `frame::crc::crc32` meets its contract: the complement of the register after all the bytes.
 -- Assumes nothing.
-use mathlib.Core.Path.{_≡_, ap}
+use mathlib.Core.Path.{ap}
 use Prim.Native.Nat.{ℕ, _-_}
 use borrow.Author.Needs.{needs}
 use Rattle.frame.specs.Crc.{ones, crcOf}

@@ -1,6 +1,6 @@
 -- `frame::crc::crc_more` meets its contract: in two pieces it comes to the same.
 -- Assumes nothing.
-use mathlib.Core.Path.{_≡_, ap₂, _∙_}
+use mathlib.Core.Path.{ap₂, _∙_}
 use mathlib.Core.List.{List}
 use Prim.Native.Nat.{ℕ, _-_, _%_}
 use native.Mathlib.Omega.{arith}
@@ -38,11 +38,11 @@ returns c = search needs
 
 returns-2 : tie.Need-returns-2
 returns-2 c =
-    let l : List ℕ = (c .before .before .before .before .before .before .args .part .now) in
+    let l : List ℕ = c .before .before .before .before .before .before .args .part .now in
     let odd : ℕ = length l % 24 in
-    (c .braid .ensures)
-    ∙ ap₂ crcMore ((c .before .before .plain2 .ensures)) (take-all (length l - odd) (drop odd l) (omega (arith, length-drop odd l)))
-    ∙ more-split ((c .before .before .before .before .before .before .args .register)) odd l
+    c .braid .ensures
+    ∙ ap₂ crcMore (c .before .before .plain2 .ensures) (take-all (length l - odd) (drop odd l) (omega (arith, length-drop odd l)))
+    ∙ more-split (c .before .before .before .before .before .before .args .register) odd l
 
 pub crc-more-spec : {M : Type 1} → statement M
 crc-more-spec =

@@ -1,6 +1,6 @@
 -- `frame::crc::far` meets its contract.
 -- Assumes nothing.
-use mathlib.Core.Path.{_≡_, ap, _∙_}
+use mathlib.Core.Path.{ap, _∙_}
 use Prim.Native.Nat.{ℕ}
 use lib.Bits.{bitXor}
 use borrow.Author.Needs.{needs}
@@ -15,7 +15,7 @@ jump-requires : tie.Need-jump-requires
 jump-requires c κs = search needs
 
 returns : tie.Need-returns
-returns c = c .jump .ensures ∙ ap (λ (w : ℕ). crcBits 192 (bitXor ((c .before .before .before .args .held)) w)) ((c .before .word .ensures))
+returns c = c .jump .ensures ∙ ap (λ (w : ℕ). crcBits 192 (bitXor (c .before .before .before .args .held) w)) (c .before .word .ensures)
 
 pub far-spec : {M : Type 1} → statement M
 far-spec = tie.close (tie.spec word-requires jump-requires returns)

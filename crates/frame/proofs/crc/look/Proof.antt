@@ -1,7 +1,7 @@
 -- `frame::crc::look` meets its contract: the index lies within table k.
 -- Assumes nothing.
-use mathlib.Core.Path.{_≡_, ap, _∙_}
-use Prim.Native.Nat.{ℕ, _+_, _-_, _*_, _<_}
+use mathlib.Core.Path.{ap, _∙_}
+use Prim.Native.Nat.{ℕ, _-_, _*_}
 use native.Mathlib.Omega.{arith}
 use lib.Bits.{bitAnd, and-mask, mask-lt}
 use borrow.Author.Needs.{needs}
@@ -26,9 +26,9 @@ element-copy-out-result c = omega (arith, mask-lt (c .args .x) 8)
 
 returns : tie.Need-returns
 returns c =
-    let k : ℕ = (c .before .args .k) in
-    let x : ℕ = (c .before .args .x) in
-    ((c .before .pre .1)) .entry k (bitAnd x 255) ((c .before .pre .0)) (mask-lt x 8) ∙ ap (crcBits (8 * (24 - k))) (and-mask x 8)
+    let k : ℕ = c .before .args .k in
+    let x : ℕ = c .before .args .x in
+    (c .before .pre .1) .entry k (bitAnd x 255) (c .before .pre .0) (mask-lt x 8) ∙ ap (crcBits (8 * (24 - k))) (and-mask x 8)
 
 pub look-spec : {M : Type 1} → statement M
 look-spec =

@@ -1,6 +1,6 @@
 -- `frame::crc::near` meets its contract.
 -- Assumes nothing.
-use mathlib.Core.Path.{_≡_, ap, _∙_}
+use mathlib.Core.Path.{ap, _∙_}
 use Prim.Native.Nat.{ℕ}
 use lib.Bits.{bitXor}
 use borrow.Author.Needs.{needs}
@@ -17,7 +17,7 @@ bits-requires c κs = search needs
 
 returns : tie.Need-returns
 unfolding crcWord
-returns c = c .bits .ensures ∙ ap (λ (w : ℕ). crcBits 32 (bitXor ((c .before .before .before .args .register)) (bitXor ((c .before .before .before .args .held)) w))) ((c .before .word .ensures))
+returns c = c .bits .ensures ∙ ap (λ (w : ℕ). crcBits 32 (bitXor (c .before .before .before .args .register) (bitXor (c .before .before .before .args .held) w))) (c .before .word .ensures)
 
 pub near-spec : {M : Type 1} → statement M
 near-spec = tie.close (tie.spec word-requires bits-requires returns)

@@ -41,10 +41,10 @@ loop-less c = search needs
 
 loop-again : tie.Need-loop-again Inv-loop μ-loop Inv-loop2 μ-loop2
 loop-again c =
-    let l : List ℕ = (c .before .before .before .before .args .part .now) in
-    let i : ℕ = (c .before .before .loop .i) in (
+    let l : List ℕ = c .before .before .before .before .args .part .now in
+    let i : ℕ = c .before .before .loop .i in (
       search needs,
-      ap (λ (s : ℕ). foldl crcByte s (drop (i + 4) l)) ((c .near .ensures)) ∙ fold-word l ((c .before .before .loop .r)) i (search needs) ∙ (c .before .before .loop .inv .1),
+      ap (λ (s : ℕ). foldl crcByte s (drop (i + 4) l)) (c .near .ensures) ∙ fold-word l (c .before .before .loop .r) i (search needs) ∙ c .before .before .loop .inv .1,
     )
 
 loop2-holds : tie.Need-loop2-holds Inv-loop μ-loop Inv-loop2 μ-loop2
@@ -54,7 +54,7 @@ shared-slice-read-bits : tie.Need-shared-slice-read-bits Inv-loop μ-loop Inv-lo
 shared-slice-read-bits c = search needs
 
 cast-bits : tie.Need-cast-bits Inv-loop μ-loop Inv-loop2 μ-loop2
-cast-bits c = omega (arith, (c .before .before .before .before .before .shared-slice-known .given) ((c .before .before .loop2 .i)))
+cast-bits c = omega (arith, c .before .before .before .before .before .shared-slice-known .given (c .before .before .loop2 .i))
 
 bits-requires : tie.Need-bits-requires Inv-loop μ-loop Inv-loop2 μ-loop2
 bits-requires c κs = search needs
@@ -68,16 +68,16 @@ loop2-less c = search needs
 loop2-again : tie.Need-loop2-again Inv-loop μ-loop Inv-loop2 μ-loop2
 unfolding crcByte
 loop2-again c =
-    let l : List ℕ = (c .before .before .before .before .before .before .before .args .part .now) in
-    let i : ℕ = (c .before .before .before .loop2 .i) in (
+    let l : List ℕ = c .before .before .before .before .before .before .before .args .part .now in
+    let i : ℕ = c .before .before .before .loop2 .i in (
       search needs,
-      ap (λ (s : ℕ). foldl crcByte s (drop (i + 1) l)) ((c .bits .ensures))
-          ∙ fold-more crcByte l ((c .before .before .before .loop2 .r)) i ((c .before .before .loop2-test .taken)) ∙ (c .before .before .before .loop2 .inv .1),
+      ap (λ (s : ℕ). foldl crcByte s (drop (i + 1) l)) (c .bits .ensures)
+          ∙ fold-more crcByte l (c .before .before .before .loop2 .r) i (c .before .before .loop2-test .taken) ∙ c .before .before .before .loop2 .inv .1,
     )
 
 returns : tie.Need-returns Inv-loop μ-loop Inv-loop2 μ-loop2
 unfolding crcMore
-returns c = sym (fold-done crcByte ((c .before .before .before .before .before .args .part .now)) ((c .before .loop2 .r)) ((c .before .loop2 .i)) ((c .loop2-test .left))) ∙ (c .before .loop2 .inv .1)
+returns c = sym (fold-done crcByte (c .before .before .before .before .before .args .part .now) (c .before .loop2 .r) (c .before .loop2 .i) (c .loop2-test .left)) ∙ c .before .loop2 .inv .1
 
 pub plain-spec : {M : Type 1} → statement M
 plain-spec =
