@@ -11,7 +11,7 @@ use lib.Dec.{eqb}
 use lib.ListN.{length, getD, take, drop, replicate, drop-of-length-le}
 use lib.Seq.{drop-cons}
 use borrow.Author.Tests.{eq-eqb, ne-eqb, eqb-true}
-use Rattle.buffer.proofs.Bools.{and-assoc, and-true, and-left, and-right}
+use Rattle.buffer.proofs.Bools.{and-assoc, and-true, and-left, and-right, and-both}
 use Rattle.buffer.specs.Compare.{sameOf, blankOf}
 use Rattle.buffer.proofs.Parts.{part-rest, part-length}
 
@@ -32,6 +32,18 @@ unfolding blankOf
 blank-true [] e = refl
 blank-true (x ∷ l) e =
     ap₂ (λ (y : ℕ) (r : List ℕ). y ∷ r) (eqb-true x 0xFF (and-left (eqb x 0xFF) (blankOf l) e)) (blank-true l (and-right (eqb x 0xFF) (blankOf l) e))
+
+-- by index
+pub blank-at : (l : List ℕ) → blankOf l ≡ true → (i : ℕ) → i < length l → getD l i 0 ≡ 0xFF
+unfolding blankOf
+blank-at [] e i h = absurd (omega arith)
+blank-at (x ∷ l) e zero h = eqb-true x 0xFF (and-left (eqb x 0xFF) (blankOf l) e)
+blank-at (x ∷ l) e (suc i) h = blank-at l (and-right (eqb x 0xFF) (blankOf l) e) i (omega arith)
+
+pub at-blank : (l : List ℕ) → ((i : ℕ) → i < length l → getD l i 0 ≡ 0xFF) → blankOf l ≡ true
+unfolding blankOf
+at-blank [] f = refl
+at-blank (x ∷ l) f = and-both (eqb x 0xFF) (blankOf l) (eq-eqb x 0xFF (f 0 (omega arith))) (at-blank l (λ i h. f (suc i) (omega arith)))
 
 -- one byte more of a run
 pub blank-more : (l : List ℕ) (i : ℕ) (r : Bool) → i < length l → ((r && eqb (getD l i 0) 0xFF) && blankOf (drop (i + 1) l)) ≡ (r && blankOf (drop i l))

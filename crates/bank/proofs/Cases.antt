@@ -1,0 +1,97 @@
+-- The verdict and the body, case by case.
+-- Assumes nothing.
+use Prim.Native.Nat.{ℕ, _/_, _≤_, _<_}
+use native.Mathlib.Omega.{arith}
+use mathlib.Core.Path.{_≡_, refl, sym, ap, _∙_}
+use mathlib.Core.Bool.{Bool, true, false, _&&_, cond}
+use mathlib.Core.List.{List, [], _∷_}
+use lib.ListN.{length}
+use borrow.Author.Tests.{lt-ltb, le-ltb}
+use Rattle.bank.specs.declared.table.Entry.{Entry}
+use Rattle.bank.specs.declared.check.Verdict.{Verdict}
+use Rattle.bank.specs.declared.check.Verdict.the-variants.{Refused, Sound, Unsound}
+use Rattle.bank.specs.Table.{countOf, entryAt}
+use Rattle.bank.specs.Layout.{wholeLength}
+use Rattle.bank.specs.Sound.{headerGood, tableGood, laidOutGood, contentsGood, bodiesGood, blankGood, filledGood, soundOf, verdictOf, stretchBytes, bodyOf}
+use Rattle.buffer.proofs.Bools.{and-left, and-false}
+use Rattle.bank.proofs.Layouts.{whole-good, good-low}
+
+-- a bank has at least one sector
+pub long : (n : ℕ) → wholeLength n ≡ true → 512 ≤ n
+long n e = let h : 1 ≤ n / 512 = good-low (n / 512) (whole-good n e) in omega arith
+
+module _ (b : List ℕ) where
+  pub contents-header : headerGood b ≡ false → false ≡ contentsGood b
+  unfolding contentsGood
+  contents-header h = simp h
+
+  pub contents-table : headerGood b ≡ true → tableGood b ≡ false → false ≡ contentsGood b
+  unfolding contentsGood
+  contents-table h t = simp (h, t)
+
+  pub contents-laid : headerGood b ≡ true → tableGood b ≡ true → laidOutGood b ≡ contentsGood b
+  unfolding contentsGood
+  contents-laid h t = simp (h, t)
+
+  pub check-refused : wholeLength (length b) ≡ false → Refused ≡ verdictOf b
+  unfolding verdictOf
+  check-refused l = simp l
+
+  module _ (l : wholeLength (length b) ≡ true) where
+    pub check-contents : contentsGood b ≡ false → Unsound ≡ verdictOf b
+    unfolding verdictOf soundOf filledGood
+    check-contents p = simp (l, p)
+
+    pub check-bodies : contentsGood b ≡ true → bodiesGood b ≡ false → Unsound ≡ verdictOf b
+    unfolding verdictOf soundOf filledGood
+    check-bodies p q = simp (l, p, q)
+
+    pub check-blank : contentsGood b ≡ true → bodiesGood b ≡ true → blankGood b ≡ false → Unsound ≡ verdictOf b
+    unfolding verdictOf soundOf filledGood
+    check-blank p q r = simp (l, p, q, r)
+
+    pub check-sound : contentsGood b ≡ true → bodiesGood b ≡ true → blankGood b ≡ true → Sound ≡ verdictOf b
+    unfolding verdictOf soundOf filledGood
+    check-sound p q r = simp (l, p, q, r)
+
+by-sound : (l s : Bool) → Sound ≡ cond l (cond s Sound Unsound) Refused → (l ≡ true) × (s ≡ true)
+by-sound true true e = (refl, refl)
+by-sound true false e = let z : _≡_ {A = ℕ} 0 1 = cc in absurd (omega arith)
+by-sound false s e = let z : _≡_ {A = ℕ} 0 1 = cc in absurd (omega arith)
+
+by-unsound : (l s : Bool) → Unsound ≡ cond l (cond s Sound Unsound) Refused → s ≡ false
+by-unsound true true e = let z : _≡_ {A = ℕ} 0 1 = cc in absurd (omega arith)
+by-unsound true false e = refl
+by-unsound false s e = let z : _≡_ {A = ℕ} 0 1 = cc in absurd (omega arith)
+
+by-refused : (l s : Bool) → Refused ≡ cond l (cond s Sound Unsound) Refused → l ≡ false
+by-refused true true e = let z : _≡_ {A = ℕ} 0 1 = cc in absurd (omega arith)
+by-refused true false e = let z : _≡_ {A = ℕ} 0 1 = cc in absurd (omega arith)
+by-refused false s e = refl
+
+-- v is what the check said
+module _ (b : List ℕ) (v : Verdict) (is : v ≡ verdictOf b) where
+  pub sound-is : v ≡ Sound → (wholeLength (length b) ≡ true) × (soundOf b ≡ true)
+  unfolding verdictOf
+  sound-is e = by-sound (wholeLength (length b)) (soundOf b) (sym e ∙ is)
+
+  pub sound-contents : v ≡ Sound → contentsGood b ≡ true
+  unfolding soundOf filledGood
+  sound-contents e = and-left (contentsGood b) (bodiesGood b) (and-left (contentsGood b && bodiesGood b) (blankGood b) (sound-is e .1))
+
+  module _ (i : ℕ) where
+    pub body-refused : v ≡ Refused → [] ≡ bodyOf b i
+    unfolding bodyOf verdictOf
+    body-refused e = rw (by-refused (wholeLength (length b)) (soundOf b) (sym e ∙ is))
+
+    pub body-unsound : v ≡ Unsound → [] ≡ bodyOf b i
+    unfolding bodyOf verdictOf
+    body-unsound e = rw (by-unsound (wholeLength (length b)) (soundOf b) (sym e ∙ is)) (rw (and-false (wholeLength (length b))))
+
+    pub body-past : v ≡ Sound → countOf b ≤ i → [] ≡ bodyOf b i
+    unfolding bodyOf
+    body-past e h = simp (sound-is e .0, sound-is e .1, le-ltb _ _ h)
+
+    pub body-is : v ≡ Sound → i < countOf b → (e : Entry) → e ≡ entryAt b i → stretchBytes b e ≡ bodyOf b i
+    unfolding bodyOf
+    body-is s h e is = simp (sound-is s .0, sound-is s .1, lt-ltb _ _ h) (ap (stretchBytes b) is)

@@ -1,0 +1,91 @@
+-- What a good N and a bank's length tell, and each way out of the functions that ask for them.
+-- Assumes nothing.
+use mathlib.Core.Path.{_≡_, refl, sym, ap, _∙_}
+use mathlib.Core.Bool.{Bool, true, false, cond}
+use Prim.Native.Nat.{ℕ, _+_, _-_, _*_, _/_, _%_, _≤_, _<_}
+use native.Mathlib.Nat.{mul-comm}
+use native.Mathlib.Omega.{arith}
+use lib.Dec.{eqb, leb}
+use borrow.Author.Tests.{eq-eqb, ne-eqb, le-leb, lt-leb, leb-true, eqb-true}
+use Rattle.buffer.proofs.Bools.{and-left, and-right}
+use Rattle.bank.specs.declared.layout.Bank.{Bank}
+use Rattle.bank.specs.declared.layout.Bank.the-variants.{Zero, One}
+use Rattle.bank.specs.declared.layout.Counted.the-variants.{Refused, Sectors}
+use Rattle.bank.specs.Layout.{goodN, wholeLength, sectorsOf, startOf, endOf, sectorOffset}
+
+pub start-small : (bank : Bank) → startOf bank ≤ 0x14000A00
+start-small Zero = omega arith
+start-small One = omega arith
+
+module _ (n : ℕ) where
+  pub good-none : n < 1 → false ≡ goodN n
+  unfolding goodN
+  good-none h = simp (lt-leb 1 n h)
+
+  pub good-some : 1 ≤ n → leb n 491 ≡ goodN n
+  unfolding goodN
+  good-some h = simp (le-leb 1 n h)
+
+  -- what a good N tells
+  pub good-low : goodN n ≡ true → 1 ≤ n
+  unfolding goodN
+  good-low e = leb-true 1 n (and-left (leb 1 n) (leb n 491) e)
+
+  pub good-high : goodN n ≡ true → n ≤ 491
+  unfolding goodN
+  good-high e = leb-true n 491 (and-right (leb 1 n) (leb n 491) e)
+
+  -- what the length of a bank tells
+  pub whole-sectors : wholeLength n ≡ true → n / 512 * 512 ≡ n
+  unfolding wholeLength
+  whole-sectors e = let z : n % 512 ≡ 0 = eqb-true (n % 512) 0 (and-left (eqb (n % 512) 0) (goodN (n / 512)) e) in omega arith
+
+  pub whole-good : wholeLength n ≡ true → goodN (n / 512) ≡ true
+  unfolding wholeLength
+  whole-good e = and-right (eqb (n % 512) 0) (goodN (n / 512)) e
+
+  pub counted-whole : (k : ℕ) → Sectors k ≡ sectorsOf n → wholeLength n ≡ true
+  unfolding sectorsOf
+  counted-whole k e = by (wholeLength n) e
+    where
+      by : (t : Bool) → Sectors k ≡ cond t (Sectors (n / 512)) Refused → t ≡ true
+      by true q = refl
+      by false q = let z : _≡_ {A = ℕ} 0 1 = cc in absurd (omega arith)
+
+  pub refused-whole : Refused ≡ sectorsOf n → wholeLength n ≡ false
+  unfolding sectorsOf
+  refused-whole e = by (wholeLength n) e
+    where
+      by : (t : Bool) → Refused ≡ cond t (Sectors (n / 512)) Refused → t ≡ false
+      by true q = let z : _≡_ {A = ℕ} 0 1 = cc in absurd (omega arith)
+      by false q = refl
+
+  -- ---- each way out
+
+  pub sectors-odd : (n % 512 ≡ 0 → ⊥) → Refused ≡ sectorsOf n
+  unfolding sectorsOf wholeLength
+  sectors-odd h = simp (ne-eqb (n % 512) 0 h)
+
+  pub sectors-good : n % 512 ≡ 0 → goodN (n / 512) ≡ true → Sectors (n / 512) ≡ sectorsOf n
+  unfolding sectorsOf wholeLength
+  sectors-good h g = simp (eq-eqb (n % 512) 0 h, g)
+
+  pub sectors-bad : n % 512 ≡ 0 → goodN (n / 512) ≡ false → Refused ≡ sectorsOf n
+  unfolding sectorsOf wholeLength
+  sectors-bad h g = simp (eq-eqb (n % 512) 0 h, g)
+
+  pub end-bad : (bank : Bank) → goodN n ≡ false → 0 ≡ endOf bank n
+  unfolding endOf
+  end-bad bank g = simp g
+
+  pub end-good : (bank : Bank) (s : ℕ) → goodN n ≡ true → s ≡ startOf bank → s + n * 512 - 1 ≡ endOf bank n
+  unfolding endOf
+  end-good bank s g e = simp g (ap (λ (x : ℕ). x + n * 512 - 1) e ∙ ap (λ (x : ℕ). startOf bank + x - 1) (mul-comm n 512))
+
+  pub offset-bad : goodN n ≡ false → 0 ≡ sectorOffset n
+  unfolding sectorOffset
+  offset-bad g = simp g
+
+  pub offset-good : goodN n ≡ true → (n - 1) * 512 ≡ sectorOffset n
+  unfolding sectorOffset
+  offset-good g = simp g

@@ -1,0 +1,75 @@
+-- Where the two banks and their sectors lie (01, 'Banks and sectors').
+-- Assumes nothing.
+use mathlib.Core.Path.{_≡_}
+use mathlib.Core.Bool.{Bool, _&&_, cond}
+use Prim.Native.Nat.{ℕ, _+_, _-_, _*_, _/_, _%_}
+use lib.Dec.{eqb, leb}
+use Rattle.bank.specs.declared.layout.Bank.{Bank}
+use Rattle.bank.specs.declared.layout.Bank.the-variants.{Zero, One}
+use Rattle.bank.specs.declared.layout.Counted.{Counted}
+use Rattle.bank.specs.declared.layout.Counted.the-variants.{Refused, Sectors}
+
+-- the bytes of a sector, and the most sectors that a bank has
+abbrev pub sectorSize : ℕ
+sectorSize = 512
+
+abbrev pub mostSectors : ℕ
+mostSectors = 491
+
+-- N "from 1 to 491"
+unfoldable pub goodN : ℕ → Bool
+goodN n = leb 1 n && leb n mostSectors
+
+-- "a whole number from 1 to 491"
+unfoldable pub wholeLength : ℕ → Bool
+wholeLength length = eqb (length % sectorSize) 0 && goodN (length / sectorSize)
+
+unfoldable pub sectorsOf : ℕ → Counted
+sectorsOf length = cond (wholeLength length) (Sectors (length / sectorSize)) Refused
+
+abbrev pub bankNumber : Bank → ℕ
+bankNumber Zero = 0
+bankNumber One = 1
+
+-- one bank runs, the other is the target
+abbrev pub otherOf : Bank → Bank
+otherOf Zero = One
+otherOf One = Zero
+
+abbrev pub startOf : Bank → ℕ
+startOf Zero = 0x10000A00
+startOf One = 0x14000A00
+
+-- "start + 512·N - 1"
+unfoldable pub endOf : Bank → ℕ → ℕ
+endOf bank n = cond (goodN n) (startOf bank + sectorSize * n - 1) 0
+
+-- sector k starts (k - 1) sectors behind the bank's start
+unfoldable pub sectorOffset : ℕ → ℕ
+sectorOffset k = cond (goodN k) ((k - 1) * sectorSize) 0
+
+abbrev pub GoodN·Is : ℕ → Bool → Type 0
+GoodN·Is n r = r ≡ goodN n
+
+abbrev pub Sectors·Is : ℕ → Counted → Type 0
+Sectors·Is length r = r ≡ sectorsOf length
+
+-- the paper's number where the length is wrong
+abbrev pub sectorsNumber : Counted → ℕ
+sectorsNumber Refused = 2
+sectorsNumber (Sectors n) = 0
+
+abbrev pub BankNumber·Is : Bank → ℕ → Type 0
+BankNumber·Is bank r = r ≡ bankNumber bank
+
+abbrev pub Other·Is : Bank → Bank → Type 0
+Other·Is bank r = r ≡ otherOf bank
+
+abbrev pub Start·Is : Bank → ℕ → Type 0
+Start·Is bank r = r ≡ startOf bank
+
+abbrev pub End·Is : Bank → ℕ → ℕ → Type 0
+End·Is bank n r = r ≡ endOf bank n
+
+abbrev pub SectorOffset·Is : ℕ → ℕ → Type 0
+SectorOffset·Is k r = r ≡ sectorOffset k

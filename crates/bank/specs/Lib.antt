@@ -1,0 +1,5 @@
+pub mod Layout
+pub mod Meaning
+pub mod Sound
+pub mod Stretch
+pub mod Table

@@ -1,0 +1,6 @@
+// A bank: where it lies, whether its contents are sound, and its bodies.
+mod bodies;
+pub mod body;
+pub mod check;
+pub mod layout;
+mod table;
