@@ -1,7 +1,8 @@
 // A bank of sectors, numbered from 1. Only the bytes of one sector are lent on to what changes them.
 use crate::sector::SECTOR;
 ghost use mathlib.Core.Path.{_≡_};
-ghost use Prim.Native.Nat.{_^_, _≤_, _<_};
+ghost use Prim.Native.Nat.{_*_, _^_, _≤_, _<_};
+ghost use Rattle.flash.specs.Sector.{sectorBytes};
 ghost use Rattle.flash.specs.Bank.{startOf, hasSector, markedOf, sweptOne, WriteAt·Is, SectorBlank·Is, Sweep·Is};
 
 // As many marks as a session has: one for each sector of the largest bank.
@@ -19,7 +20,7 @@ fn has_sector(bytes: usize, k: usize) -> bool
 
 // The index of the first byte of sector `k`.
 fn start(k: usize) -> usize
-    requires { ⌜ (1 ≤ k) × (startOf k < 2 ^ 64) ⌝ }
+    requires { ⌜ (1 ≤ k) × (k * sectorBytes < 2 ^ 64) ⌝ }
     ensures { λ r. ⌜ r ≡ startOf k ⌝ }
 {
     (k - 1) * SECTOR
