@@ -14,7 +14,7 @@ use Rattle.flash.specs.Sector.{sectorBytes, wordBytes, paddedOf, fitsSec
 use Rattle.flash.specs.Bank.{startOf, hasSector, sectorOf, withSector, writtenAt, alreadyAt, WriteAt·Is}
 use Rattle.flash.proofs.Changes.{Keeps, at-has, at-none, at-same, at-alike, length-at, at-here, at-other, at-then, at-swap}
 use Rattle.flash.proofs.Sectors.{Has, has, has-told, has-still, length-sector, lent-out, lent-back}
-use Rattle.flash.proofs.Words.{Fits, fits, fits-told, length-padded, written-fits, already-fits}
+use Rattle.flash.proofs.Words.{Fits, fits-told, length-padded, written-fits, already-fits}
 
 -- ---- one sector
 

@@ -45,7 +45,7 @@ alreadyAt bank k bytes = hasSector (length bank) k && alreadyOf (sectorOf bank k
 unfoldable pub blankAt : List ℕ → ℕ → Bool
 blankAt bank k = cond (hasSector (length bank) k) (blankOf (sectorOf bank k)) true
 
--- the bank after sector k was swept: "each sector not received in this session is erased to 0xFF"
+-- the bank after sector k was swept: "each sector not received .. is erased"
 abbrev pub sweptOne : List ℕ → ℕ → Bool → List ℕ
 sweptOne bank k received = cond received bank (atSector erasedOf k bank)
 

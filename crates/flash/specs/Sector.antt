@@ -25,7 +25,7 @@ blanks n = replicate n 0xFF
 unfoldable pub erasedOf : List ℕ → List ℕ
 erasedOf sector = blanks (length sector)
 
--- "the M data bytes followed by 0xFF up to 512"
+-- "the M data bytes followed by 0xFF"
 unfoldable pub paddedOf : List ℕ → List ℕ
 paddedOf bytes = bytes ++ blanks (sectorBytes - length bytes)
 

@@ -1,4 +1,4 @@
--- The stores one by one, in their order: those that a written sector takes, and those of a sweep.
+-- The stores that should be made, one by one and in their order, for a written sector and for a sweep. Contracts fix what they leave.
 -- Assumes nothing.
 use mathlib.Core.Bool.{Bool, false, not, _&&_, cond}
 use mathlib.Core.List.{List, [], _∷_, _++_, map}

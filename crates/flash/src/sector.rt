@@ -61,7 +61,7 @@ fn put_words(sector: &mut [u8], bytes: &[u8], n: usize)
     }
 }
 
-// The sector becomes the bytes followed by 0xFF. Whether all of it already was that: then nothing is stored.
+// The sector becomes the bytes followed by 0xFF. Whether all of it already was that: then there is nothing to store.
 pub fn write_sector(sector: &mut [u8], bytes: &[u8]) -> bool
     ensures { λ r. ⌜ WriteSector·Is (now (sector .entry)) (now (bytes .entry)) (now (sector .exit)) r ⌝ }
 {
