@@ -393,7 +393,7 @@ impl Cases {
                 self.body(30, &bank);
             }
         }
-        // the table of the last number that is one does not fit a sector, and neither does a count of 255
+        // a table of 42 entries just fits a sector, one of 43 or 255 does not
         for count in [31, 42, 43, 255] {
             for n in [1, 2, 32] {
                 let header = Bank::blank(n * SECTOR).changed(0, &[0x04, 0x00, 1, count]);

@@ -11,7 +11,7 @@ use bank::layout::Counted;
 
 const LARGEST_NUMBER: usize = 999_999;
 
-// One sector more than the largest bank, and one more again.
+// Two sectors more than the largest bank has: what is too long is told from what is no request.
 const LONGEST_BANK: usize = 252_416;
 
 // A longer body is told by its length and its CRC-32.
