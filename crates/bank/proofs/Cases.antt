@@ -4,12 +4,13 @@ use Prim.Native.Nat.{ℕ, _/_, _≤_, _<_}
 use native.Mathlib.Omega.{arith}
 use mathlib.Core.Path.{_≡_, refl, sym, ap, _∙_}
 use mathlib.Core.Bool.{Bool, true, false, _&&_, cond}
-use mathlib.Core.List.{List, [], _∷_}
+use mathlib.Core.List.{List, []}
 use lib.ListN.{length}
 use borrow.Author.Tests.{lt-ltb, le-ltb}
 use Rattle.bank.specs.declared.table.Entry.{Entry}
 use Rattle.bank.specs.declared.check.Verdict.{Verdict}
 use Rattle.bank.specs.declared.check.Verdict.the-variants.{Refused, Sound, Unsound}
+use Rattle.bank.specs.Said.{number, result, verdictSaid}
 use Rattle.bank.specs.Table.{countOf, entryAt}
 use Rattle.bank.specs.Layout.{wholeLength}
 use Rattle.bank.specs.Sound.{headerGood, tableGood, laidOutGood, contentsGood, bodiesGood, blankGood, filledGood, soundOf, verdictOf, stretchBytes, bodyOf}
@@ -95,3 +96,14 @@ module _ (b : List ℕ) (v : Verdict) (is : v ≡ verdictOf b) where
     pub body-is : v ≡ Sound → i < countOf b → (e : Entry) → e ≡ entryAt b i → stretchBytes b e ≡ bodyOf b i
     unfolding bodyOf
     body-is s h e is = simp (sound-is s .0, sound-is s .1, lt-ltb _ _ h) (ap (stretchBytes b) is)
+
+-- ---- as 01 says it
+
+pub check-said : (b : List ℕ) → verdictSaid (verdictOf b) ≡ cond (wholeLength (length b)) (cond (soundOf b) (result 0x06) (result 0x1E)) (number 2)
+unfolding verdictOf
+check-said b = by (wholeLength (length b)) (soundOf b)
+  where
+    by : (l s : Bool) → verdictSaid (cond l (cond s Sound Unsound) Refused) ≡ cond l (cond s (result 0x06) (result 0x1E)) (number 2)
+    by true true = refl
+    by true false = refl
+    by false s = refl

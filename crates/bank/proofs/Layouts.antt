@@ -1,6 +1,6 @@
 -- What a good N and a bank's length tell, and each way out of the functions that ask for them.
 -- Assumes nothing.
-use mathlib.Core.Path.{_≡_, refl, sym, ap, _∙_}
+use mathlib.Core.Path.{_≡_, refl, ap, _∙_}
 use mathlib.Core.Bool.{Bool, true, false, cond}
 use Prim.Native.Nat.{ℕ, _+_, _-_, _*_, _/_, _%_, _≤_, _<_}
 use native.Mathlib.Nat.{mul-comm}
@@ -11,6 +11,7 @@ use Rattle.buffer.proofs.Bools.{and-left, and-right}
 use Rattle.bank.specs.declared.layout.Bank.{Bank}
 use Rattle.bank.specs.declared.layout.Bank.the-variants.{Zero, One}
 use Rattle.bank.specs.declared.layout.Counted.the-variants.{Refused, Sectors}
+use Rattle.bank.specs.Said.{number, value, countedSaid}
 use Rattle.bank.specs.Layout.{goodN, wholeLength, sectorsOf, startOf, endOf, sectorOffset}
 
 pub start-small : (bank : Bank) → startOf bank ≤ 0x14000A00
@@ -89,3 +90,12 @@ module _ (n : ℕ) where
   pub offset-good : goodN n ≡ true → (n - 1) * 512 ≡ sectorOffset n
   unfolding sectorOffset
   offset-good g = simp g
+
+  -- as 01 says it
+  pub sectors-said : countedSaid (sectorsOf n) ≡ cond (wholeLength n) (value (n / 512)) (number 2)
+  unfolding sectorsOf
+  sectors-said = by (wholeLength n)
+    where
+      by : (t : Bool) → countedSaid (cond t (Sectors (n / 512)) Refused) ≡ cond t (value (n / 512)) (number 2)
+      by true = refl
+      by false = refl

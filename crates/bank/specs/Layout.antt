@@ -54,11 +54,6 @@ GoodN·Is n r = r ≡ goodN n
 abbrev pub Sectors·Is : ℕ → Counted → Type 0
 Sectors·Is length r = r ≡ sectorsOf length
 
--- the paper's number where the length is wrong
-abbrev pub sectorsNumber : Counted → ℕ
-sectorsNumber Refused = 2
-sectorsNumber (Sectors n) = 0
-
 abbrev pub BankNumber·Is : Bank → ℕ → Type 0
 BankNumber·Is bank r = r ≡ bankNumber bank
 

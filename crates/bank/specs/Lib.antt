@@ -1,5 +1,6 @@
 pub mod Layout
 pub mod Meaning
+pub mod Said
 pub mod Sound
 pub mod Stretch
 pub mod Table

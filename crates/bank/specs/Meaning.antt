@@ -1,4 +1,4 @@
--- What sound means, rule by rule in 01's order and with no recursion. proofs/Meaning.antt proves it the same as `soundOf`, both ways.
+-- What sound means, rule by rule in 01's order. proofs/Meaning.antt proves it the same as `soundOf`, both ways.
 -- Assumes nothing.
 use Prim.Native.Nat.{ℕ, _+_, _≤_, _<_}
 use mathlib.Core.Path.{_≡_}

@@ -1,8 +1,8 @@
 -- What it is for a bank to be sound, and what its bodies are (01, 'The bank check').
 -- Assumes nothing.
-use Prim.Native.Nat.{ℕ, _+_, _-_}
+use Prim.Native.Nat.{ℕ, _+_}
 use mathlib.Core.Path.{_≡_}
-use mathlib.Core.Bool.{Bool, true, false, _&&_, cond}
+use mathlib.Core.Bool.{Bool, true, _&&_, cond}
 use mathlib.Core.List.{List, [], _∷_}
 use lib.Dec.{eqb, leb, ltb}
 use lib.ListN.{length, take}
@@ -62,12 +62,6 @@ soundOf b = filledGood b && blankGood b
 
 unfoldable pub verdictOf : List ℕ → Verdict
 verdictOf b = cond (wholeLength (length b)) (cond (soundOf b) Sound Unsound) Refused
-
--- the paper's numbers: 2, and what the end of a write session answers
-abbrev pub verdictNumber : Verdict → ℕ
-verdictNumber Refused = 2
-verdictNumber Sound = 0x06
-verdictNumber Unsound = 0x1E
 
 -- body i: "that stretch, or an empty stretch"
 unfoldable pub bodyOf : List ℕ → ℕ → List ℕ

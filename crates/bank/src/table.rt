@@ -2,11 +2,14 @@
 ghost use mathlib.Core.Path.{_≡_};
 ghost use Prim.Native.Nat.{_+_, _<_, _≤_};
 ghost use lib.ListN.{length};
-ghost use Rattle.bank.specs.Table.{countOf, tableEnd, IsCount, IsPlace, IsEntry};
+ghost use Rattle.bank.specs.Table.{IsCount, IsPlace, IsEntry};
 ghost use Rattle.bank.specs.Sound.{headerGood, tableGood};
 
 // The most bodies that a table lists.
 const MOST_BODIES: u8 = 30;
+
+// The bytes of an entry.
+const ENTRY: usize = 12;
 
 pub(crate) struct Entry {
     pub offset: usize,
@@ -39,7 +42,7 @@ pub(crate) fn crc_place(bank: &[u8]) -> usize
     requires { ⌜ 4 ≤ length (now bank) ⌝ }
     ensures { λ r. ⌜ IsPlace (now (bank .entry)) r ⌝ }
 {
-    4 + 12 * count(bank)
+    4 + ENTRY * count(bank)
 }
 
 // Entry i of the table.
@@ -47,7 +50,7 @@ pub(crate) fn entry_at(bank: &[u8], i: usize) -> Entry
     requires { ⌜ i < 256 ⌝ }
     ensures { λ r. ⌜ IsEntry (now (bank .entry)) i r ⌝ }
 {
-    let at = 4 + 12 * i;
+    let at = 4 + ENTRY * i;
     let offset = wide4(buffer::number::number4(bank, at));
     let length = wide4(buffer::number::number4(bank, at + 4));
     let crc = buffer::number::number4(bank, at + 8);

@@ -3,14 +3,13 @@
 use mathlib.Core.Path.{_≡_, refl, sym, ap, ap₂, _∙_}
 use mathlib.Core.Bool.{Bool, true, false, _&&_, false≢true}
 use mathlib.Core.List.{List, [], _∷_, _++_}
-use Prim.Native.Nat.{ℕ, zero, suc, _+_, _-_, _≤_, _<_}
-use native.Mathlib.Nat.{not-suc-le-zero}
+use Prim.Native.Nat.{ℕ, zero, suc, _+_, _≤_, _<_}
 use native.Mathlib.Numerals.{add-one}
 use native.Mathlib.Omega.{arith}
 use lib.Dec.{eqb}
-use lib.ListN.{length, getD, take, drop, replicate, drop-of-length-le}
+use lib.ListN.{length, getD, take, drop, replicate, drop-of-length-le, take-append-drop}
 use lib.Seq.{drop-cons}
-use borrow.Author.Tests.{eq-eqb, ne-eqb, eqb-true}
+use borrow.Author.Tests.{eq-eqb, eqb-true}
 use Rattle.buffer.proofs.Bools.{and-assoc, and-true, and-left, and-right, and-both}
 use Rattle.buffer.specs.Compare.{sameOf, blankOf}
 use Rattle.buffer.proofs.Parts.{part-rest, part-length}
@@ -44,6 +43,13 @@ pub at-blank : (l : List ℕ) → ((i : ℕ) → i < length l → getD l i 0 ≡
 unfolding blankOf
 at-blank [] f = refl
 at-blank (x ∷ l) f = and-both (eqb x 0xFF) (blankOf l) (eq-eqb x 0xFF (f 0 (omega arith))) (at-blank l (λ i h. f (suc i) (omega arith)))
+
+-- a part of what is blank
+pub blank-part : (l : List ℕ) (a n : ℕ) → blankOf l ≡ true → blankOf (take n (drop a l)) ≡ true
+blank-part l a n e =
+    let r : blankOf (drop a l) ≡ true = and-right (blankOf (take a l)) (blankOf (drop a l)) (sym (blank-append (take a l) (drop a l)) ∙ ap blankOf (take-append-drop a l) ∙ e) in
+    and-left (blankOf (take n (drop a l))) (blankOf (drop (a + n) l))
+    (sym (blank-append (take n (drop a l)) (drop (a + n) l)) ∙ ap blankOf (sym (part-rest l a n)) ∙ r)
 
 -- one byte more of a run
 pub blank-more : (l : List ℕ) (i : ℕ) (r : Bool) → i < length l → ((r && eqb (getD l i 0) 0xFF) && blankOf (drop (i + 1) l)) ≡ (r && blankOf (drop i l))
@@ -90,6 +96,12 @@ same-append [] b (y ∷ c) d e = absurd (omega arith)
 same-append (x ∷ a) b [] d e = absurd (omega arith)
 same-append (x ∷ a) b (y ∷ c) d e =
     ap (λ (r : Bool). eqb x y && r) (same-append a b c d (omega arith)) ∙ sym (and-assoc (eqb x y) (sameOf a c) (sameOf b d))
+
+-- the same as 0xFF over and over is blank
+pub same-filled : (l : List ℕ) → sameOf l (replicate (length l) 0xFF) ≡ blankOf l
+unfolding sameOf blankOf
+same-filled [] = refl
+same-filled (x ∷ l) = ap (λ (r : Bool). eqb x 0xFF && r) (same-filled l)
 
 pub same-more :
     (a b : List ℕ) (i : ℕ) (r : Bool) → i < length a → i < length b

@@ -1,13 +1,15 @@
 -- What a buffer holds after bytes were put to a place of it.
 -- Assumes nothing.
-use mathlib.Core.Path.{_≡_, refl, sym, ap, _∙_}
-use mathlib.Core.List.{List, _++_}
-use Prim.Native.Nat.{ℕ, zero, _+_, _≤_, _<_}
+use mathlib.Core.Path.{_≡_, refl, ap, _∙_}
+use mathlib.Core.List.{List, [], _++_, append-nil}
+use Prim.Native.Nat.{ℕ, _+_, _≤_, _<_}
 use native.Mathlib.Nat.{zero-add}
 use native.Mathlib.Omega.{arith}
-use lib.ListN.{length, take, drop, length-append}
-use lib.Seq.{take-at, drop-at, take-append-seam, drop-append-add}
-use borrow.Author.Tests.{le-leb, lt-leb}
+use lib.Dec.{leb}
+use lib.ListN.{length, take, drop, length-append, length-drop, drop-of-length-le}
+use lib.Seq.{length-take-le, take-at, drop-at, take-append-seam, drop-append-add}
+use borrow.Author.Tests.{leb-true, le-leb, lt-leb}
+use Rattle.buffer.proofs.Bools.{split}
 use Rattle.buffer.specs.Place.{placeOf, frontOf}
 
 module _ (buffer : List ℕ) (at : ℕ) (bytes : List ℕ) where
@@ -18,6 +20,17 @@ module _ (buffer : List ℕ) (at : ℕ) (bytes : List ℕ) where
   pub place-short : length buffer < at + length bytes → placeOf buffer at bytes ≡ buffer
   unfolding placeOf
   place-short h = rw (lt-leb (at + length bytes) (length buffer) h)
+
+  -- a buffer keeps its length
+  pub length-place : length (placeOf buffer at bytes) ≡ length buffer
+  unfolding placeOf
+  length-place =
+      split (λ (l : List ℕ). length l ≡ length buffer) (leb (at + length bytes) (length buffer))
+      (λ t.
+      let h : at + length bytes ≤ length buffer = leb-true (at + length bytes) (length buffer) t in
+      let n : length (take at buffer) ≡ at = length-take-le at buffer (omega arith) in
+      simp (length-append, length-drop) (omega arith))
+      (λ _. refl)
 
 module _ (buffer bytes : List ℕ) where
   pub front-fits : length bytes ≤ length buffer → frontOf buffer bytes ≡ bytes ++ drop (length bytes) buffer
@@ -40,9 +53,27 @@ module _ (buffer bytes : List ℕ) where
   pub front-drop : length bytes ≤ length buffer → drop (length bytes) (frontOf buffer bytes) ≡ drop (length bytes) buffer
   front-drop h = ap (drop (length bytes)) (front-fits h) ∙ drop-at bytes (drop (length bytes) buffer) (length bytes) refl
 
+-- no bytes
+pub front-none : (buffer : List ℕ) → frontOf buffer [] ≡ buffer
+front-none buffer = front-fits buffer [] (omega arith)
+
+-- as many bytes as the buffer has
+pub front-whole : (buffer bytes : List ℕ) → length bytes ≡ length buffer → frontOf buffer bytes ≡ bytes
+front-whole buffer bytes e =
+    front-fits buffer bytes (omega arith)
+    ∙ ap (λ (r : List ℕ). bytes ++ r) (drop-of-length-le buffer {i = length bytes} (omega arith))
+    ∙ append-nil bytes
+
 -- bytes put right behind a beginning
 pub place-next : (a rest bytes : List ℕ) → length bytes ≤ length rest → placeOf (a ++ rest) (length a) bytes ≡ a ++ bytes ++ drop (length bytes) rest
 place-next a rest bytes h =
     let n : length (a ++ rest) ≡ length a + length rest = length-append a rest in
     place-fits (a ++ rest) (length a) bytes (omega arith)
     ∙ rw (take-append-seam a rest, drop-append-add a rest (length bytes))
+
+-- bytes put right behind a beginning, up to the end
+pub place-last : (a rest bytes : List ℕ) → length bytes ≡ length rest → placeOf (a ++ rest) (length a) bytes ≡ a ++ bytes
+place-last a rest bytes e =
+    place-next a rest bytes (omega arith)
+    ∙ ap (λ (r : List ℕ). a ++ bytes ++ r) (drop-of-length-le rest {i = length bytes} (omega arith))
+    ∙ append-nil (a ++ bytes)

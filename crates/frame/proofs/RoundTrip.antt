@@ -1,23 +1,22 @@
 -- Reading back what was written gives what was written, and what is read as a frame is the frame that is written so.
 -- Assumes nothing.
 use mathlib.Core.Path.{_≡_, refl, sym, ap, ap₂, _∙_}
-use mathlib.Core.Bool.{Bool, true, false}
+use mathlib.Core.Bool.{true}
 use mathlib.Core.List.{List, [], _∷_, _++_}
-use Prim.Native.Nat.{ℕ, suc, _+_, _-_, _*_, _/_, _%_, _≤_, _<_}
+use Prim.Native.Nat.{ℕ, suc, _+_, _-_, _*_, _/_, _%_, _<_}
 use native.Mathlib.Omega.{arith}
 use native.Mathlib.Numerals.{add-one}
-use lib.Dec.{eqb}
-use lib.ListN.{length, getD, take, drop, drop-of-length-le}
+use lib.ListN.{length, take, drop, drop-of-length-le}
 use lib.Seq.{take-at, getD-at, getD-append-add, drop-cons}
 use borrow.Author.Tests.{eq-eqb, ne-eqb}
-use Rattle.buffer.specs.Number.{bytesOf, numberAt}
+use Rattle.buffer.specs.Number.{bytesOf}
 use Rattle.buffer.proofs.Numbers.{number-two, bytes-two}
 use Rattle.buffer.proofs.Parts.{part-next, part-rest, part-length}
 use Rattle.frame.specs.Checksum.{checksumOf}
-use Rattle.frame.specs.Frame.{footerByte, framed, controlFrame, writeFrame}
+use Rattle.frame.specs.Frame.{footerByte, framed, controlFrame, writeFrame, frameError}
 use Rattle.frame.specs.Read.{byteAt, checkedAt, parametersOf, writtenOf, readOf}
 use Rattle.frame.specs.declared.read.Footer.{Footer}
-use Rattle.frame.specs.declared.read.Read.the-variants.{Control, Write}
+use Rattle.frame.specs.declared.read.Read.the-variants.{Fault, Control, Write}
 use Rattle.frame.proofs.Cases.{control-good, write-good, read-control, read-write}
 use Rattle.frame.proofs.Told.{ControlIn, WriteIn}
 use Rattle.frame.proofs.Writing.{length-framed, length-control}
@@ -153,3 +152,36 @@ write-only d sector m footer b t =
     ∙ ap (framed (byteAt d 0) (take (m + 4) (drop 1 d))) (ap (byteAt d) foot ∙ t .footed)
     ∙ ap₂ (λ (x : ℕ) (r : List ℕ). framed x r (footerByte footer)) (t .first)
     (lies ∙ ap₂ (λ (x y : List ℕ). x ++ y ++ u) a c)
+
+-- ---- exactly the frames are read
+
+pub control-read : (d : List ℕ) (code n : ℕ) → ControlIn d code n → Control code n ≡ readOf d
+control-read d code n t =
+    let w : length d ≡ n + 5 = t .whole in
+    sym
+    (ap readOf (control-only d code n t)
+    ∙ sym (control-back code (parametersOf d n))
+    ∙ ap (Control code) (part-length d 3 n (omega arith)))
+
+pub write-read : (d : List ℕ) (sector m : ℕ) (footer : Footer) → ((i : ℕ) → byteAt d i < 256) → WriteIn d sector m footer → Write sector m footer ≡ readOf d
+write-read d sector m footer b t =
+    let w : length d ≡ m + 7 = t .whole in
+    let l : length (writtenOf d m) ≡ m = part-length d 5 m (omega arith) in
+    let s : sector ≡ byteAt d 1 * 256 + byteAt d 2 = sym (t .addressed) ∙ number-two d 1 (omega arith) in
+    let k : m ≡ byteAt d 3 * 256 + byteAt d 4 = sym (t .counted) ∙ number-two d 3 (omega arith) in
+    sym
+    (ap readOf (write-only d sector m footer b t)
+    ∙ sym (write-back sector (writtenOf d m) footer (omega (arith, b 1, b 2)) (omega (arith, b 3, b 4)))
+    ∙ ap (λ (x : ℕ). Write sector x footer) l)
+
+-- so a fault is neither kind of frame
+pub fault-control : (d : List ℕ) (code n : ℕ) → Fault ≡ readOf d → ControlIn d code n → ⊥
+fault-control d code n e t = let r = control-read d code n t in let z : _≡_ {A = ℕ} 0 1 = cc in omega arith
+
+pub fault-write : (d : List ℕ) (sector m : ℕ) (footer : Footer) → ((i : ℕ) → byteAt d i < 256) → Fault ≡ readOf d → WriteIn d sector m footer → ⊥
+fault-write d sector m footer b e t = let r = write-read d sector m footer b t in let z : _≡_ {A = ℕ} 0 1 = cc in omega arith
+
+-- the frame error is the control frame of E0 and 07
+pub error-frame : frameError ≡ controlFrame 0xE0 (0x07 ∷ [])
+unfolding controlFrame framed checksumOf
+error-frame = refl

@@ -1,4 +1,4 @@
--- The checksum of a frame (01, 'Frames': "starting at 0x00 and taking away each byte, borrow ignored").
+-- The checksum of a frame (01, 'Frames', "taking away each byte").
 -- Assumes nothing.
 use mathlib.Core.Path.{_≡_}
 use mathlib.Core.List.{List, foldl}

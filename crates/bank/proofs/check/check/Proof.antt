@@ -1,6 +1,6 @@
 -- `bank::check::check` meets its contract: each way out is a case of the definition.
 -- Assumes nothing.
-use mathlib.Core.Path.{_≡_, refl, sym, ap, _∙_}
+use mathlib.Core.Path.{sym, _∙_}
 use native.Mathlib.Omega.{arith}
 use borrow.Author.Tests.{not-true, not-false}
 use Rattle.bank.proofs.Layouts.{counted-whole, refused-whole}

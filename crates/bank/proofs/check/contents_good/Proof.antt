@@ -1,7 +1,7 @@
 -- `bank::check::contents_good` meets its contract.
 -- Assumes nothing.
-use mathlib.Core.Path.{_≡_, refl, sym, ap, _∙_}
-use borrow.Author.Tests.{eq-eqb, ne-eqb, le-leb, lt-leb, not-true, not-false}
+use mathlib.Core.Path.{sym, _∙_}
+use borrow.Author.Tests.{not-true, not-false}
 use Rattle.bank.proofs.Tables.{table-fits}
 use Rattle.bank.proofs.Cases.{contents-header, contents-table, contents-laid}
 use borrow.Author.Needs.{needs}

@@ -1,6 +1,6 @@
 -- `bank::layout::sectors` meets its contract.
 -- Assumes nothing.
-use mathlib.Core.Path.{_≡_, refl, sym, ap, _∙_}
+use mathlib.Core.Path.{sym, _∙_}
 use Rattle.bank.proofs.Layouts.{sectors-odd, sectors-good, sectors-bad}
 use borrow.Author.Needs.{needs}
 use Rattle.bank.proofs.layout.sectors.Statement.{statement}

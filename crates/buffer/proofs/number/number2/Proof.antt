@@ -1,10 +1,7 @@
 -- `buffer::number::number2` meets its contract.
 -- Assumes nothing.
-use mathlib.Core.Path.{_≡_, refl, sym, ap, ap₂, _∙_}
-use mathlib.Core.List.{List, [], _∷_}
-use Prim.Native.Nat.{ℕ, _+_, _-_, _*_, _/_, _%_, _≤_}
+use mathlib.Core.Path.{sym, _∙_}
 use native.Mathlib.Omega.{arith}
-use lib.ListN.{length, getD}
 use Rattle.buffer.proofs.Numbers.{number-outside, number-two}
 use borrow.Author.Needs.{needs}
 use Rattle.buffer.proofs.number.number2.Statement.{statement}

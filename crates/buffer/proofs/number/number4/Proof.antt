@@ -1,10 +1,8 @@
 -- `buffer::number::number4` meets its contract.
 -- Assumes nothing.
-use mathlib.Core.Path.{_≡_, refl, sym, ap, ap₂, _∙_}
-use mathlib.Core.List.{List, [], _∷_}
-use Prim.Native.Nat.{ℕ, _+_, _-_, _*_, _/_, _%_, _≤_}
+use mathlib.Core.Path.{sym, ap₂, _∙_}
+use Prim.Native.Nat.{ℕ, _+_, _*_}
 use native.Mathlib.Omega.{arith}
-use lib.ListN.{length, getD}
 use Rattle.buffer.proofs.Numbers.{number-outside, number-four}
 use borrow.Author.Needs.{needs}
 use Rattle.buffer.proofs.number.number4.Statement.{statement}

@@ -1,10 +1,6 @@
 -- `buffer::number::put_number2` meets its contract.
 -- Assumes nothing.
-use mathlib.Core.Path.{_≡_, refl, sym, ap, ap₂, _∙_}
-use mathlib.Core.List.{List, [], _∷_}
-use Prim.Native.Nat.{ℕ, _+_, _-_, _*_, _/_, _%_, _≤_}
-use native.Mathlib.Omega.{arith}
-use lib.ListN.{length, getD}
+use mathlib.Core.Path.{sym, ap, _∙_}
 use Rattle.buffer.specs.Place.{placeOf}
 use Rattle.buffer.proofs.Numbers.{bytes-two}
 use borrow.Author.Needs.{needs}

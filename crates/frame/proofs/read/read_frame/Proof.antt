@@ -1,11 +1,8 @@
 -- `frame::read::read_frame` meets its contract: each way out is a case of the definition.
 -- Assumes nothing.
-use mathlib.Core.Path.{_≡_, refl, sym, ap, _∙_}
-use mathlib.Core.List.{List}
-use Prim.Native.Nat.{ℕ, _+_, _<_, _≤_}
+use mathlib.Core.Path.{_∙_}
 use native.Mathlib.Omega.{arith}
-use lib.ListN.{length, getD}
-use borrow.Author.Tests.{eq-eqb, ne-eqb, not-true, not-false}
+use borrow.Author.Tests.{eq-eqb, ne-eqb}
 use Rattle.frame.proofs.Cases.{read-empty, read-control, read-write, read-other}
 use borrow.Author.Needs.{needs}
 use Rattle.frame.proofs.read.read_frame.Statement.{statement}

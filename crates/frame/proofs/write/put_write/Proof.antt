@@ -1,11 +1,11 @@
 -- `frame::write::put_write` meets its contract: piece by piece the buffer's front becomes the frame.
 -- Assumes nothing.
-use mathlib.Core.Path.{_∙_, ap, refl}
-use mathlib.Core.List.{List, [], _∷_}
+use mathlib.Core.Path.{_∙_, ap}
+use mathlib.Core.List.{List}
 use Prim.Native.Nat.{ℕ, _+_}
 use native.Mathlib.Omega.{arith}
 use lib.ListN.{length}
-use Rattle.buffer.specs.Place.{placeOf, frontOf}
+use Rattle.buffer.specs.Place.{placeOf}
 use Rattle.frame.specs.Frame.{footerByte}
 use Rattle.frame.specs.Write.{closedAt}
 use Rattle.frame.proofs.Writing.{write-too-long, write-no-room, write-put}
