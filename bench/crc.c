@@ -2,8 +2,8 @@
 #include <stdint.h>
 #include <stdio.h>
 #include <stdlib.h>
-#include <time.h>
 #include <zlib.h>
+#include "now.h"
 
 uint32_t frame_crc32(const uint8_t *bytes, size_t n);
 
@@ -27,12 +27,6 @@ static uint32_t by_zlib(const uint8_t *bytes, size_t n) { return crc32(0, bytes,
 
 typedef uint32_t crc_of(const uint8_t *, size_t);
 static crc_of *const ways[3] = {frame_crc32, by_zlib, by_table};
-
-static double now(void) {
-    struct timespec t;
-    clock_gettime(CLOCK_MONOTONIC, &t);
-    return t.tv_sec * 1e9 + t.tv_nsec;
-}
 
 int main(void) {
     static const size_t sizes[] = {16, 64, 128, 256, 512, 1024, 4096, 16384, 65536, 251392};

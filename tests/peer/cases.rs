@@ -1,10 +1,10 @@
-//! The request lines that the proved `vectors` and the peer both answer. The same lines at each run: the numbers that are
-//! drawn come from a fixed seed.
+//! The request lines on sums and frames. The same lines at each run: the numbers that are drawn come from a fixed seed.
+use crate::draw::Draw;
 use crate::frame::{control, framed, write, CONTINUED, CONTROL, END, WRITE};
 use crate::hex;
 
 pub fn all() -> Vec<String> {
-    let mut cases = Cases { lines: Vec::new(), state: 0x4A31_314F_5441 };
+    let mut cases = Cases { lines: Vec::new(), draw: Draw(0x4A31_314F_5441) };
     cases.crcs();
     cases.long_crcs();
     cases.registers();
@@ -44,7 +44,7 @@ const NO_REQUESTS: [&str; 10] = [
 
 struct Cases {
     lines: Vec<String>,
-    state: u64,
+    draw: Draw,
 }
 
 impl Cases {
@@ -56,22 +56,8 @@ impl Cases {
         self.add(format!("read {}", hex::text(datagram)));
     }
 
-    /// A step of the linear congruential generator of Knuth's MMIX; its high bits are the good ones.
-    fn draw(&mut self, below: usize) -> usize {
-        self.state = self.state.wrapping_mul(6_364_136_223_846_793_005).wrapping_add(1_442_695_040_888_963_407);
-        (self.state >> 33) as usize % below
-    }
-
-    fn byte(&mut self) -> u8 {
-        self.draw(256) as u8
-    }
-
-    fn bytes(&mut self, count: usize) -> Vec<u8> {
-        (0..count).map(|_| self.byte()).collect()
-    }
-
     fn sector(&mut self) -> u16 {
-        self.draw(65_536) as u16
+        self.draw.below(65_536) as u16
     }
 
     /// Every length to 600 twice, every single byte, and every single bit of a short message and of one that no way for short
@@ -79,7 +65,7 @@ impl Cases {
     fn crcs(&mut self) {
         for _ in 0..2 {
             for length in 0..=600 {
-                let bytes = self.bytes(length);
+                let bytes = self.draw.bytes(length);
                 self.add(format!("crc {}", hex::text(&bytes)));
             }
         }
@@ -103,9 +89,9 @@ impl Cases {
         lengths.extend(2049..2049 + 32);
         lengths.extend(65_536 - 33..65_536);
         lengths.extend([0, 1, 250, 251, 252, 70_000, 131_071, 131_072, 131_073, 196_608, 251_392, 300_000]);
-        lengths.extend((0..24).map(|_| 1000 + self.draw(69_000)).collect::<Vec<_>>());
+        lengths.extend((0..24).map(|_| 1000 + self.draw.below(69_000)).collect::<Vec<_>>());
         for length in &lengths {
-            let byte = self.byte();
+            let byte = self.draw.byte();
             self.add(format!("crcramp {}", length));
             self.add(format!("crcrun {:02X} {}", byte, length));
         }
@@ -117,20 +103,20 @@ impl Cases {
     fn registers(&mut self) {
         for register in [0u32, 1, 0x8000_0000, 0xFFFF_FFFF, 0xEDB8_8320, 0x04C1_1DB7] {
             for length in 0..=40 {
-                let bytes = self.bytes(length);
+                let bytes = self.draw.bytes(length);
                 self.add(format!("more {:08X} {}", register, hex::text(&bytes)));
             }
         }
         for length in 0..=600 {
-            let register = self.draw(1 << 16) << 16 | self.draw(1 << 16);
-            let bytes = self.bytes(length);
+            let register = self.draw.below(1 << 16) << 16 | self.draw.below(1 << 16);
+            let bytes = self.draw.bytes(length);
             self.add(format!("more {:08X} {}", register, hex::text(&bytes)));
         }
     }
 
     fn sums(&mut self) {
         for length in 0..=300 {
-            let bytes = self.bytes(length);
+            let bytes = self.draw.bytes(length);
             self.add(format!("sum {}", hex::text(&bytes)));
         }
         for byte in 0..=255 {
@@ -146,18 +132,18 @@ impl Cases {
             good.push(control(code, &[]));
         }
         for count in 0..=254 {
-            let (code, parameters) = (self.byte(), self.bytes(count));
+            let (code, parameters) = (self.draw.byte(), self.draw.bytes(count));
             good.push(control(code, &parameters));
         }
         for count in data_lengths() {
             for footer in [END, CONTINUED] {
-                let data = self.bytes(count);
+                let data = self.draw.bytes(count);
                 let sector = self.sector();
                 good.push(write(sector, &data, footer));
             }
         }
         for sector in SECTORS {
-            let data = self.bytes(4);
+            let data = self.draw.bytes(4);
             good.push(write(sector, &data, END));
         }
         for (k, frame) in good.into_iter().flatten().enumerate() {
@@ -174,7 +160,7 @@ impl Cases {
 
     /// What can happen to any frame.
     fn damaged(&mut self, frame: &[u8]) {
-        let (last, drawn) = (frame.len() - 1, self.byte());
+        let (last, drawn) = (frame.len() - 1, self.draw.byte());
         self.add_read(&frame[..last]);
         self.add_read(&frame[1..]);
         self.add_read(&[frame, &[drawn]].concat());
@@ -189,7 +175,7 @@ impl Cases {
         for other in [sum.wrapping_add(1), sum.wrapping_sub(1), !sum, sum.wrapping_sub(frame[0]), drawn] {
             self.changed(frame, last - 1, other);
         }
-        let (at, by) = (1 + self.draw(last - 2), 1 + self.draw(255) as u8);
+        let (at, by) = (1 + self.draw.below(last - 2), 1 + self.draw.below(255) as u8);
         self.changed(frame, at, frame[at].wrapping_add(by));
         self.moved(frame, at, by);
     }
@@ -212,7 +198,7 @@ impl Cases {
 
     fn each_byte_changed(&mut self, frame: &[u8]) {
         for at in 0..frame.len() {
-            let by = 1 + self.draw(255) as u8;
+            let by = 1 + self.draw.below(255) as u8;
             self.changed(frame, at, frame[at].wrapping_add(by));
         }
     }
@@ -223,7 +209,7 @@ impl Cases {
             self.add_read(&frame[..end]);
         }
         for more in 1..=4 {
-            let drawn = self.bytes(more);
+            let drawn = self.draw.bytes(more);
             self.add_read(&[frame, &drawn].concat());
         }
     }
@@ -254,13 +240,13 @@ impl Cases {
         }
         for count in 0..=8 {
             let mut covered = vec![0];
-            covered.extend(self.bytes(count));
+            covered.extend(self.draw.bytes(count));
             self.add_read(&framed(CONTROL, &covered, END));
             self.add_read(&framed(CONTROL, &covered, CONTINUED));
         }
         for count in 0..=5 {
             for footer in [END, CONTINUED] {
-                let covered = self.bytes(count);
+                let covered = self.draw.bytes(count);
                 self.add_read(&framed(WRITE, &vec![0; count], footer));
                 self.add_read(&framed(WRITE, &covered, footer));
             }
@@ -272,7 +258,7 @@ impl Cases {
         for count in [0, 1, 2, 8, 16, 127, 128, 253, 254, 255, 256, 300] {
             for off in [-4, -3, -2, -1, 0, 1, 2, 3, 4i32] {
                 let mut covered = vec![(count as i32 + 1 + off) as u8];
-                covered.extend(self.bytes(count + 1));
+                covered.extend(self.draw.bytes(count + 1));
                 self.add_read(&framed(CONTROL, &covered, END));
             }
         }
@@ -286,10 +272,10 @@ impl Cases {
     }
 
     fn stated(&mut self, length: [u8; 2], count: usize) {
-        let mut covered = self.bytes(2);
+        let mut covered = self.draw.bytes(2);
         covered.extend(length);
-        covered.extend(self.bytes(count));
-        let footer = if self.draw(2) == 0 { END } else { CONTINUED };
+        covered.extend(self.draw.bytes(count));
+        let footer = if self.draw.below(2) == 0 { END } else { CONTINUED };
         self.add_read(&framed(WRITE, &covered, footer));
     }
 
@@ -297,7 +283,7 @@ impl Cases {
     fn drawn_frames(&mut self) {
         for count in 0..=200 {
             for first in [CONTROL, WRITE] {
-                let covered = self.bytes(count);
+                let covered = self.draw.bytes(count);
                 self.add_read(&[&[first], &covered[..]].concat());
                 self.add_read(&framed(first, &covered, END));
             }
@@ -306,7 +292,7 @@ impl Cases {
 
     fn made_controls(&mut self) {
         for count in (0..=256).chain([300, 520]) {
-            let (code, parameters) = (self.byte(), self.bytes(count));
+            let (code, parameters) = (self.draw.byte(), self.draw.bytes(count));
             for room in rooms(count + 5) {
                 self.add(format!("control {:02X} {} {}", code, hex::text(&parameters), room));
             }
@@ -319,7 +305,7 @@ impl Cases {
     fn made_writes(&mut self) {
         for count in data_lengths() {
             for footer in [END, CONTINUED] {
-                let (sector, data) = (self.sector(), self.bytes(count));
+                let (sector, data) = (self.sector(), self.draw.bytes(count));
                 for room in rooms(count + 7) {
                     self.add(format!("write {:04X} {} {:02X} {}", sector, hex::text(&data), footer, room));
                 }

@@ -15,14 +15,27 @@
 //!     control CODE BYTES NUMBER          the bytes of a buffer of that length, filled with A5, after such a frame was put
 //!     write SECTOR BYTES 03|17 NUMBER        to its front; a frame that does not fit changes nothing
 //!     error NUMBER
+//!     layout 0|1 NUMBER                  layout BANK START END, of a bank of so many sectors; END is 0 where none has as many
+//!     sectors NUMBER                     sectors NUMBER, in a bank of that length
+//!                                        refused
+//!     check LENGTH PIECE..               refused
+//!                                        sound
+//!                                        unsound
+//!     body NUMBER LENGTH PIECE..         body BYTES, of at most 64 bytes
+//!                                        body NUMBER XXXXXXXX: a longer one's length and CRC-32
 //!
-//! A run has at most 300,000 bytes, a buffer at most 600. Any other line, and one of more than 4,095 characters, is
+//! A bank has LENGTH bytes, 0xFF but where a later piece says another: OFFSET:BYTES, or OFFSET~NUMBER for so many bytes 0, 1, .. 250,
+//! 0, 1, .. from a decimal offset on. No piece goes past the bank's end; there may be none.
+//!
+//! A run has at most 300,000 bytes, a buffer at most 600, a bank at most 252,416. Any other line, and one of more than 4,095 characters, is
 //! answered by `?`.
-use crate::{crc, frame, hex};
+use crate::{bank, crc, frame, hex};
 
 const LONGEST_LINE: usize = 4_095;
 const LONGEST_RUN: usize = 300_000;
 const LARGEST_BUFFER: usize = 600;
+const LONGEST_BANK: usize = 252_416;
+const LONGEST_SHOWN: usize = 64;
 
 pub fn answers(text: &[u8]) -> Vec<String> {
     if text.is_empty() {
@@ -47,9 +60,7 @@ fn known(line: &str) -> Option<String> {
             Some(format!("more {:08X}", crc::more(hex::number(register, 8)?, &hex::bytes(bytes)?)))
         }
         ["crcrun", byte, count] => Some(crc_line(&vec![hex::number(byte, 2)? as u8; decimal(count, LONGEST_RUN)?])),
-        ["crcramp", count] => {
-            Some(crc_line(&(0..decimal(count, LONGEST_RUN)?).map(|i| (i % 251) as u8).collect::<Vec<u8>>()))
-        }
+        ["crcramp", count] => Some(crc_line(&ramp(decimal(count, LONGEST_RUN)?))),
         ["sum", bytes] => Some(format!("sum {:02X}", frame::checksum(&hex::bytes(bytes)?))),
         ["read", bytes] => Some(reading(frame::read(&hex::bytes(bytes)?))),
         ["control", code, bytes, room] => {
@@ -66,8 +77,55 @@ fn known(line: &str) -> Option<String> {
             Some(put(frame::write(sector, &hex::bytes(bytes)?, footer), decimal(room, LARGEST_BUFFER)?))
         }
         ["error", room] => Some(put(Some(frame::ERROR.to_vec()), decimal(room, LARGEST_BUFFER)?)),
+        ["layout", number @ ("0" | "1"), n] => {
+            let (number, n) = (decimal(number, 1)?, decimal(n, usize::MAX)?);
+            let end = bank::end(number, n).unwrap_or(0);
+            Some(format!("layout {} {:08X} {:08X}", number, bank::start(number), end))
+        }
+        ["sectors", length] => Some(match bank::sectors(decimal(length, usize::MAX)?) {
+            Some(n) => format!("sectors {}", n),
+            None => "refused".to_string(),
+        }),
+        ["check", length, ref pieces @ ..] => Some(verdict(&held(length, pieces)?)),
+        ["body", i, length, ref pieces @ ..] => {
+            Some(body_line(bank::body(&held(length, pieces)?, decimal(i, usize::MAX)?)))
+        }
         _ => None,
     }
+}
+
+/// The bytes of a bank.
+fn held(length: &str, pieces: &[&str]) -> Option<Vec<u8>> {
+    let mut bank = vec![0xFF; decimal(length, LONGEST_BANK)?];
+    for piece in pieces {
+        let (offset, bytes) = match (piece.split_once(':'), piece.split_once('~')) {
+            (Some((offset, bytes)), None) => (offset, hex::bytes(bytes)?),
+            (None, Some((offset, count))) => (offset, ramp(decimal(count, LONGEST_BANK)?)),
+            _ => return None,
+        };
+        let offset = decimal(offset, LONGEST_BANK)?;
+        bank.get_mut(offset..offset + bytes.len())?.copy_from_slice(&bytes);
+    }
+    Some(bank)
+}
+
+fn verdict(bank: &[u8]) -> String {
+    match (bank::sectors(bank.len()), bank::bodies(bank)) {
+        (None, _) => "refused".to_string(),
+        (_, Some(_)) => "sound".to_string(),
+        (_, None) => "unsound".to_string(),
+    }
+}
+
+fn body_line(body: &[u8]) -> String {
+    if body.len() <= LONGEST_SHOWN {
+        return format!("body {}", hex::text(body));
+    }
+    format!("body {} {:08X}", body.len(), crc::crc32(body))
+}
+
+fn ramp(count: usize) -> Vec<u8> {
+    (0..count).map(|i| (i % 251) as u8).collect()
 }
 
 fn crc_line(bytes: &[u8]) -> String {

@@ -1,11 +1,14 @@
 //! The peer: what the proved programs are held to from outside. It is written from the paper and from section 3 of the J11
 //! specification alone, shares no code and no table with the crates, and uses nothing but Rust's standard library.
 //!
-//!     peer selftest    its own CRC-32 and frames against published values and the paper's examples
+//!     peer selftest    its own CRC-32, frames and bank check against published values and the paper's examples
 //!     peer cases       the request lines that `vectors` is tried with
 //!     peer vectors     the answer to each request line on standard input (lines.rs has the form of both)
+mod bank;
+mod bank_cases;
 mod cases;
 mod crc;
+mod draw;
 mod frame;
 mod hex;
 mod lines;
@@ -18,7 +21,7 @@ fn main() {
     let words: Vec<String> = std::env::args().skip(1).collect();
     let done = match words.iter().map(String::as_str).collect::<Vec<_>>()[..] {
         ["selftest"] => selftest::run(),
-        ["cases"] => write_out(&cases::all()),
+        ["cases"] => write_out(&[cases::all(), bank_cases::all()].concat()),
         ["vectors"] => read_in().and_then(|text| write_out(&lines::answers(&text))),
         _ => {
             eprintln!("usage: peer selftest | cases | vectors");

@@ -1,8 +1,8 @@
 //! The peer held to what others have published, so that an agreement with it means something.
-use crate::{crc, frame, hex};
+use crate::{bank, crc, frame, hex};
 
 pub fn run() -> Result<(), String> {
-    let checks = [crcs(), continued(), checksums(), frames(), faults()];
+    let checks = [crcs(), continued(), checksums(), frames(), faults(), addresses(), banks()];
     let count: usize = checks.iter().map(Vec::len).sum();
     match checks.concat().into_iter().find(|(_, good)| !good) {
         Some((what, _)) => Err(format!("selftest: {}", what)),
@@ -104,6 +104,49 @@ fn faults() -> Checks {
     .iter()
     .map(|(what, datagram)| (format!("fault: {}", what), frame::read(&bytes(datagram)).is_none()))
     .collect()
+}
+
+/// The two end addresses that the paper gives, and that of example 5.
+fn addresses() -> Checks {
+    [(0, 491, Some(0x1003_DFFF)), (1, 491, Some(0x1403_DFFF)), (1, 32, Some(0x1400_49FF)), (0, 492, None), (0, 0, None)]
+        .iter()
+        .map(|(number, n, end)| (format!("end of bank {} for N = {}", number, n), bank::end(*number, *n) == *end))
+        .collect()
+}
+
+/// A sector with the bodies DEADBEEF and 00, right behind the table and at the very end, and one break of each rule. Every CRC is right
+/// but where it says so, and is what zlib's crc32 gives.
+fn banks() -> Checks {
+    let (first, last) = ("00000020000000047C9CA35A", "000001FF00000001D202EF8D");
+    let sound = format!("04000102{}{}7D30BF30", first, last);
+    let tables = [
+        ("ID low byte first", format!("00040102{}{}1AA62001", first, last)),
+        ("edition 2", format!("04000202{}{}8F6752C8", first, last)),
+        ("count 0", "04000100B73D790A".to_string()),
+        ("a wrong CRC of the table", format!("04000102{}{}7D30BF31", first, last)),
+        ("a body of no bytes", format!("04000102{}000001FF000000000000000085662342", first)),
+        ("bodies in the other order", format!("04000102{}{}9EC2C9B9", last, first)),
+        ("an overlap by one", format!("04000102{}0000002300000001E2B71064198D05D7", first)),
+        ("an end one past the bank", format!("04000102{}000001FF00000002D202EF8D3A90C5E0", first)),
+        ("a sum past 2^32", format!("04000102{}FFFFFFF80000000800000000F3D05BAF", first)),
+    ];
+    let held = |table: &str, change: Option<(usize, u8)>| {
+        let mut bank = vec![0xFF; 512];
+        bank[32..36].copy_from_slice(&[0xDE, 0xAD, 0xBE, 0xEF]);
+        bank[511] = 0x00;
+        bank.splice(..table.len() / 2, bytes(table));
+        change.into_iter().for_each(|(at, byte)| bank[at] = byte);
+        bank
+    };
+    let bodies: [&[u8]; 2] = [&[0xDE, 0xAD, 0xBE, 0xEF], &[0x00]];
+    let mut checks = vec![("sound bank".to_string(), bank::bodies(&held(&sound, None)) == Some(bodies.to_vec()))];
+    for (what, table) in tables {
+        checks.push((format!("unsound bank: {}", what), bank::bodies(&held(&table, None)).is_none()));
+    }
+    for (what, at) in [("a byte of a body", 33), ("the first byte outside", 36), ("the last byte outside", 510)] {
+        checks.push((format!("unsound bank: {}", what), bank::bodies(&held(&sound, Some((at, 0xFE)))).is_none()));
+    }
+    checks
 }
 
 fn bytes(text: &str) -> Vec<u8> {

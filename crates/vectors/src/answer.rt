@@ -1,4 +1,5 @@
 // One request line and its answer.
+use crate::banks;
 use crate::frames;
 use crate::say;
 use crate::sums;
@@ -14,7 +15,27 @@ enum Word {
     Control,
     Write,
     Error,
+    Layout,
+    Sectors,
+    Check,
+    Body,
     Other,
+}
+
+fn bank_word(word: &[u8]) -> Word {
+    if check::same(word, b"layout") {
+        return Word::Layout;
+    }
+    if check::same(word, b"sectors") {
+        return Word::Sectors;
+    }
+    if check::same(word, b"check") {
+        return Word::Check;
+    }
+    if check::same(word, b"body") {
+        return Word::Body;
+    }
+    Word::Other
 }
 
 fn word_of(word: &[u8]) -> Word {
@@ -45,7 +66,7 @@ fn word_of(word: &[u8]) -> Word {
     if check::same(word, b"error") {
         return Word::Error;
     }
-    Word::Other
+    bank_word(word)
 }
 
 // Whether the line is a request; one that is, is answered. A field that is missing is empty, and no request has an empty field;
@@ -62,6 +83,10 @@ fn known(line: &[u8]) -> bool {
         Word::Control => frames::control(fields),
         Word::Write => frames::write(fields),
         Word::Error => frames::error(fields),
+        Word::Layout => banks::layout(fields),
+        Word::Sectors => banks::sectors(fields),
+        Word::Check => banks::verdict(fields),
+        Word::Body => banks::body(fields),
         Word::Other => false,
     }
 }

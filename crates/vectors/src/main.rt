@@ -1,6 +1,7 @@
 // Answers request lines from standard input, one line each, by what the crates below compute. The peer in tests/ answers the
 // same lines; its lines.rs has their form.
 mod answer;
+mod banks;
 mod frames;
 mod say;
 mod sums;

@@ -71,6 +71,10 @@ pub fn quad(value: u32) {
     pair((value % 65536) as u16);
 }
 
+pub fn decimal(value: usize) {
+    io::print_decimal(STDOUT_FILENO, value as u64);
+}
+
 pub fn footer(value: Footer) {
     match value {
         Footer::End => text(b"03"),

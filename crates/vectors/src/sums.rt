@@ -53,7 +53,7 @@ pub fn sum(fields: &[u8]) -> bool {
 }
 
 // The bytes of a long message: all the same, or 0, 1, .. 250 over and over.
-enum Pattern {
+pub enum Pattern {
     Same(u8),
     Ramp,
 }
@@ -66,7 +66,7 @@ fn byte_at(pattern: Pattern, at: usize) -> u8 {
 }
 
 // The piece of the message that starts at `from`.
-fn fill(piece: &mut [u8], pattern: Pattern, from: usize)
+pub fn fill(piece: &mut [u8], pattern: Pattern, from: usize)
     requires { ⌜ from ≤ 300000 ⌝ }
 {
     let mut i = 0;

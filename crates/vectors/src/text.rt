@@ -4,7 +4,7 @@ ghost use Prim.Native.Nat.{_≤_};
 ghost use Rattle.io.specs.Counts.{Counts};
 
 // The place of the first blank, or the end.
-fn blank_at(text: &[u8]) -> usize
+pub fn blank_at(text: &[u8]) -> usize
     ensures { λ r. ⌜ Counts r (now (text .entry)) ⌝ }
 {
     let mut i = 0;
