@@ -1,0 +1,5 @@
+pub mod Digit
+pub mod Line
+pub mod Places
+pub mod Read
+pub mod Record
