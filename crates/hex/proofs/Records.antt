@@ -185,7 +185,7 @@ spelled-broken base size s (c ∷ ds) e = by (eqb c 0x3A) refl
     by false f = simp f
     by true f = simp (f, digits-whole ds ∙ (rw f at e))
 
-record-fields : (line : List ℕ) → isRecord line ≡ true → (getD line 0 0 ≡ 0x3A) × ((allBytes (spelledBy line) ≡ true) × (length (spelledBy line) ≡ countOf (spelledBy line) + 5))
+pub record-fields : (line : List ℕ) → isRecord line ≡ true → (getD line 0 0 ≡ 0x3A) × ((allBytes (spelledBy line) ≡ true) × (length (spelledBy line) ≡ countOf (spelledBy line) + 5))
 unfolding isRecord
 record-fields line e =
     let colon : Bool = eqb (getD line 0 0) 0x3A in
