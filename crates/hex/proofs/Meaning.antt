@@ -4,6 +4,7 @@
 use mathlib.Core.Path.{_≡_, refl, sym, ap, _∙_}
 use mathlib.Core.Bool.{Bool, true, false, _&&_, cond}
 use mathlib.Core.List.{List, [], _∷_}
+use mathlib.Core.Logic.{_⊎_, ⊎-elim}
 use Prim.Native.Nat.{ℕ, zero, suc, _+_, _-_, _*_, _%_, _<_, _≤_}
 use native.Mathlib.Nat.{not-suc-le-zero, le-of-suc-le-suc}
 use native.Mathlib.Omega.{arith}
@@ -20,13 +21,16 @@ use Rattle.hex.specs.declared.fault.Refusal.{Refusal}
 use Rattle.hex.specs.declared.record.State.{State}
 use Rattle.hex.specs.declared.record.Found.{Found}
 use Rattle.hex.specs.declared.record.Found.the-variants.{Fault, Data, Upper, End, Other}
+use Rattle.hex.specs.declared.read.Answer.the-variants.{BadN, BadLength, Refused, Accepted}
 use Rattle.hex.specs.declared.read.Outcome.{Outcome}
 use Rattle.hex.specs.declared.read.Outcome.the-variants.{Stopped, Through}
 use Rattle.hex.specs.Digit.{bytesOf}
 use Rattle.hex.specs.Record.{countOf, addressOf, typeOf, dataOf, total, dataAt, typed, foundOf}
-use Rattle.hex.specs.Read.{stateAfter, imageAfter, Done, refused, goes, readLines}
+use Rattle.hex.specs.Line.{lines}
+use Rattle.hex.specs.Read.{stateAfter, imageAfter, Done, refused, goes, readLines, fresh, Reading, answerOf, answered, answerNumber, readOf}
 use Rattle.hex.specs.Meaning.{stateAt, saysAt, Sound, Faulted, at-line, past-the-last}
 use Rattle.hex.proofs.Records.{spelledBy, isRecord, record-fields, found-over, found-1, found-2, found-typed}
+use Rattle.hex.proofs.Steps.{erased}
 
 no-way : {A : Type 0} → _≡_ {A = ℕ} 0 1 → A
 no-way z = absurd (omega arith)
@@ -149,6 +153,10 @@ module _ (base size : ℕ) where
   unfolding stateAt
   state-next s l ls d e m = ap (λ (f : Found). stateAt base size (stateAfter f s) ls m) e
 
+  says-first : (s : State) (l : List ℕ) (ls : List (List ℕ)) → saysAt base size s (l ∷ ls) 0 ≡ foundOf base size s l
+  unfolding stateAt
+  says-first s l ls = refl
+
   says-next : (s : State) (l : List ℕ) (ls : List (List ℕ)) (d : Found) → foundOf base size s l ≡ d → (m : ℕ)
       → saysAt base size s (l ∷ ls) (suc m) ≡ saysAt base size (stateAfter d s) ls m
   says-next s l ls d e m = ap (λ (t : State). foundOf base size t (getD ls m [])) (state-next s l ls d e m)
@@ -263,3 +271,143 @@ module _ (base size : ℕ) where
           later : Faulted base size (stateAfter d s) (k + 1) ls r → Faulted base size s k (l ∷ ls) r
           later (at-line i h b c a) = at-line (suc i) (omega arith) (omega arith) (says-next s l ls d q i ∙ c) (more i a)
           later (past-the-last b c o a) = past-the-last (omega arith) c (ap (λ (t : State). t .over) (state-next s l ls d q (length ls)) ∙ o) (more (length ls) a)
+
+  -- ---- where no data are, the image keeps its bytes
+
+  abbrev Untold : State → List (List ℕ) → ℕ → Type 0
+  Untold s ls a = (i start n : ℕ) → i < length ls → saysAt base size s ls i ≡ Data start n → a < start ⊎ start + n ≤ a
+
+  pub rest-stays :
+      (s : State) (k : ℕ) (image : List ℕ) (ls : List (List ℕ)) → Read s k image ls .outcome ≡ Through → (i : ℕ) → Untold s ls (base + i)
+      → getD (Read s k image ls .image) i 0 ≡ getD image i 0
+  rest-stays s k image [] e i u = ap (λ (m : List ℕ). getD m i 0) (ends s k image e .0)
+  rest-stays s k image (l ∷ ls) e i u = by (λ d. rest-stays (stateAfter d s) (k + 1) (imageAfter base l d image) ls) (next s k image l ls)
+    where
+      here : (d : Found) → foundOf base size s l ≡ d → getD (imageAfter base l d image) i 0 ≡ getD image i 0
+      here (Fault f) q = refl
+      here (Data start n) q =
+          let t = data-in base size s l start n q in
+          ⊎-elim (λ b. sets-below (dataOf n (spelledBy l)) image (start - base) i (omega arith))
+          (λ b. sets-above (dataOf n (spelledBy l)) image (start - base) i (omega (arith, t .low, t .whole)))
+          (u 0 start n (omega arith) (says-first s l ls ∙ q))
+      here (Upper x) q = refl
+      here End q = refl
+      here Other q = refl
+
+      by :
+          ((d : Found) → Read (stateAfter d s) (k + 1) (imageAfter base l d image) ls .outcome ≡ Through → (i : ℕ) → Untold (stateAfter d s) ls (base + i)
+          → getD (Read (stateAfter d s) (k + 1) (imageAfter base l d image) ls .image) i 0 ≡ getD (imageAfter base l d image) i 0)
+          → Next s k image l ls → getD (Read s k image (l ∷ ls) .image) i 0 ≡ getD image i 0
+      by rest (stops f q g) = let z : Stopped (record { kind = f; line = k }) ≡ Through = sym (ap outcome-of g) ∙ e in no-way (cc)
+      by rest (on d q x g) =
+          ap (λ (d : Done). getD (d .image) i 0) g
+          ∙ rest d (sym (ap outcome-of g) ∙ e) i (λ m start n h p. u (suc m) start n (omega arith) (says-next s l ls d q m ∙ p))
+          ∙ here d q
+
+  lines-length : (s : State) (k : ℕ) (image : List ℕ) (ls : List (List ℕ)) → length image ≡ size → length (Read s k image ls .image) ≡ size
+  unfolding readLines
+  lines-length s k image [] w = split (λ (d : Done). length (d .image) ≡ size) (s .over) (λ o. w) (λ o. length-replicate size 0xFF)
+  lines-length s k image (l ∷ ls) w = by (λ d. lines-length (stateAfter d s) (k + 1) (imageAfter base l d image) ls) (next s k image l ls)
+    where
+      by :
+          ((d : Found) → length (imageAfter base l d image) ≡ size → length (Read (stateAfter d s) (k + 1) (imageAfter base l d image) ls .image) ≡ size)
+          → Next s k image l ls → length (Read s k image (l ∷ ls) .image) ≡ size
+      by rest (stops f q g) = ap (λ (d : Done). length (d .image)) g ∙ length-replicate size 0xFF
+      by rest (on d q x g) = ap (λ (d : Done). length (d .image)) g ∙ rest d (image-length l image d ∙ w)
+
+-- ---- the whole text
+
+module _ (text : List ℕ) (bank : Bank) (n : ℕ) (before : List ℕ) where
+  abbrev blank : List ℕ
+  blank = replicate (sectorSize * n) 0xFF
+
+  abbrev lined : Done
+  lined = readLines (startOf bank) (sectorSize * n) fresh 1 blank (lines text)
+
+  -- by the two tests that come first
+  data Way : Type 0 where
+    bad-n : readOf text bank n before ≡ record { answer = BadN; image = before } → Way
+    bad-length : readOf text bank n before ≡ record { answer = BadLength; image = before } → Way
+    lined-up : length before ≡ sectorSize * n → readOf text bank n before ≡ answered lined → Way
+
+  way : Way
+  unfolding readOf
+  way = by (goodN n) (eqb (length before) (sectorSize * n)) refl refl
+    where
+      by : (g b : Bool) → goodN n ≡ g → eqb (length before) (sectorSize * n) ≡ b → Way
+      by false b e f = bad-n (rw e)
+      by true false e f = bad-length (rw (e, f))
+      by true true e f = lined-up (eqb-true _ _ f) (rw (e, f))
+
+  -- the image keeps its length
+  pub read-length : length (readOf text bank n before .image) ≡ length before
+  read-length = by way
+    where
+      by : Way → length (readOf text bank n before .image) ≡ length before
+      by (bad-n e) = rw e
+      by (bad-length e) = rw e
+      by (lined-up w e) = rw e (lines-length (startOf bank) (sectorSize * n) fresh 1 blank (lines text) (length-replicate (sectorSize * n) 0xFF) ∙ sym w)
+
+  -- an accepted text went through
+  pub accepted-lined : readOf text bank n before .answer ≡ Accepted → (lined .outcome ≡ Through) × (readOf text bank n before .image ≡ lined .image)
+  accepted-lined a = by way
+    where
+      out : (o : Outcome) → answerOf o ≡ Accepted → o ≡ Through
+      out (Stopped r) z = no-way (cc)
+      out Through z = refl
+
+      by : Way → (lined .outcome ≡ Through) × (readOf text bank n before .image ≡ lined .image)
+      by (bad-n e) = let z : BadN ≡ Accepted = sym (ap (λ (d : Reading). d .answer) e) ∙ a in no-way (cc)
+      by (bad-length e) = let z : BadLength ≡ Accepted = sym (ap (λ (d : Reading). d .answer) e) ∙ a in no-way (cc)
+      by (lined-up w e) = (out (lined .outcome) (sym (ap (λ (d : Reading). d .answer) e) ∙ a), ap (λ (d : Reading). d .image) e)
+
+  -- "accepted text leaves its bytes", each at its address
+  pub accepted-data :
+      readOf text bank n before .answer ≡ Accepted → (i start count : ℕ) → i < length (lines text)
+      → saysAt (startOf bank) (sectorSize * n) fresh (lines text) i ≡ Data start count → (j : ℕ) → j < count
+      → getD (readOf text bank n before .image) (start - startOf bank + j) 0 ≡ getD (dataOf count (spelledBy (getD (lines text) i []))) j 0
+  accepted-data a i start count h q j b =
+      let t = accepted-lined a in
+      rw (t .1) (data-stands (startOf bank) (sectorSize * n) fresh 1 blank (lines text) (length-replicate (sectorSize * n) 0xFF) (t .0) i start count h q j b)
+
+  -- "0xFF elsewhere"
+  pub accepted-rest :
+      readOf text bank n before .answer ≡ Accepted → (i : ℕ) → i < sectorSize * n
+      → ((m start count : ℕ) → m < length (lines text) → saysAt (startOf bank) (sectorSize * n) fresh (lines text) m ≡ Data start count
+      → startOf bank + i < start ⊎ start + count ≤ startOf bank + i)
+      → getD (readOf text bank n before .image) i 0 ≡ 0xFF
+  accepted-rest a i h u =
+      let t = accepted-lined a in
+      rw (t .1) (rest-stays (startOf bank) (sectorSize * n) fresh 1 blank (lines text) (t .0) i u ∙ getD-replicate (sectorSize * n) i 0xFF 0 h)
+
+  -- a refusal names the first faulty line, and leaves all 0xFF
+  pub refused-lined :
+      (r : Refusal) → readOf text bank n before .answer ≡ Refused r
+      → Faulted (startOf bank) (sectorSize * n) fresh 1 (lines text) r × (readOf text bank n before .image ≡ replicate (length before) 0xFF)
+  refused-lined r a = by way
+    where
+      out : (o : Outcome) → answerOf o ≡ Refused r → o ≡ Stopped r
+      out (Stopped x) z = let y : x ≡ r = cc in rw y
+      out Through z = no-way (cc)
+
+      by : Way → Faulted (startOf bank) (sectorSize * n) fresh 1 (lines text) r × (readOf text bank n before .image ≡ replicate (length before) 0xFF)
+      by (bad-n e) = let z : BadN ≡ Refused r = sym (ap (λ (d : Reading). d .answer) e) ∙ a in no-way (cc)
+      by (bad-length e) = let z : BadLength ≡ Refused r = sym (ap (λ (d : Reading). d .answer) e) ∙ a in no-way (cc)
+      by (lined-up w e) =
+          let o : lined .outcome ≡ Stopped r = out (lined .outcome) (sym (ap (λ (d : Reading). d .answer) e) ∙ a) in (
+            refused-faulted (startOf bank) (sectorSize * n) fresh 1 blank (lines text) r o,
+            ap (λ (d : Reading). d .image) e ∙ erased (startOf bank) (sectorSize * n) fresh 1 blank (lines text) (λ z. let y : Stopped r ≡ Through = sym o ∙ z in no-way (cc)) ∙ rw w,
+          )
+
+  -- 3 and 2 leave the image as it was
+  pub unread : (answerNumber (readOf text bank n before .answer) ≡ 0 → ⊥) → readOf text bank n before .image ≡ before
+  unread z = by way
+    where
+      none : (o : Outcome) → answerNumber (answerOf o) ≡ 0
+      none (Stopped r) = refl
+      none Through = refl
+
+      by : Way → readOf text bank n before .image ≡ before
+      by (bad-n e) = rw e
+      by (bad-length e) = rw e
+      by (lined-up w e) = absurd (z (rw e (none (lined .outcome))))
