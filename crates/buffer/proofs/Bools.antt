@@ -1,6 +1,6 @@
 -- Tests: what a joined test tells, and a choice taken apart.
 -- Assumes nothing.
-use mathlib.Core.Path.{_≡_, refl}
+use mathlib.Core.Path.{_≡_, refl, sym}
 use mathlib.Core.Bool.{Bool, true, false, _&&_, cond, false≢true}
 
 pub and-assoc : (a b c : Bool) → ((a && b) && c) ≡ (a && (b && c))
@@ -30,3 +30,12 @@ and-false false = refl
 pub split {ℓ} : {A : Type ℓ} (P : A → Type 0) (t : Bool) {x y : A} → (t ≡ true → P x) → (t ≡ false → P y) → P (cond t x y)
 split P true f g = f refl
 split P false f g = g refl
+
+-- a test that cannot hold, and two tests that tell each other
+pub not-so : (a : Bool) → (a ≡ true → ⊥) → a ≡ false
+not-so true h = absurd (h refl)
+not-so false h = refl
+
+pub same-tests : (a b : Bool) → (a ≡ true → b ≡ true) → (b ≡ true → a ≡ true) → a ≡ b
+same-tests true b h k = sym (h refl)
+same-tests false b h k = sym (not-so b (λ e. false≢true (k e)))

@@ -1,0 +1,130 @@
+-- Digits, the bytes that two of them spell, and sums of such bytes, by their positions in a text.
+-- Assumes nothing.
+use mathlib.Core.Path.{_≡_, refl, sym, _∙_}
+use mathlib.Core.List.{List, _∷_}
+use mathlib.Core.Bool.{Bool, true, false, _&&_, cond}
+use Prim.Native.Nat.{ℕ, zero, suc, _+_, _-_, _*_, _%_, _<_, _≤_}
+use native.Mathlib.Nat.{add-assoc, add-zero}
+use native.Mathlib.Numerals.{add-one}
+use native.Mathlib.Omega.{arith}
+use lib.Dec.{leb, ltb}
+use lib.ListN.{getD, set}
+use lib.Seq.{sets}
+use borrow.Author.Tests.{lt-ltb, le-ltb, ltb-true, leb-true}
+use Rattle.buffer.proofs.Bools.{and-left, and-right}
+use Rattle.hex.specs.Digit.{digitOf, isDigit, byteOf}
+use Rattle.hex.specs.Record.{total}
+use Rattle.hex.specs.Places.{pairAt, byteAt, bytesAt, allBytes, checkFrom}
+
+-- ---- a digit, by the range in which it lies
+
+module _ (c : ℕ) where
+  pub digit-number : (leb 0x30 c && leb c 0x39) ≡ true → digitOf c ≡ c - 0x30
+  unfolding digitOf
+  digit-number e = rw e
+
+  pub digit-upper : (leb 0x30 c && leb c 0x39) ≡ false → (leb 0x41 c && leb c 0x46) ≡ true → digitOf c ≡ c - 0x41 + 10
+  unfolding digitOf
+  digit-upper e f = rw (e, f)
+
+  pub digit-lower :
+      (leb 0x30 c && leb c 0x39) ≡ false → (leb 0x41 c && leb c 0x46) ≡ false → (leb 0x61 c && leb c 0x66) ≡ true → digitOf c ≡ c - 0x61 + 10
+  unfolding digitOf
+  digit-lower e f g = rw (e, f, g)
+
+  pub digit-none :
+      (leb 0x30 c && leb c 0x39) ≡ false → (leb 0x41 c && leb c 0x46) ≡ false → (leb 0x61 c && leb c 0x66) ≡ false → digitOf c ≡ 16
+  unfolding digitOf
+  digit-none e f g = rw (e, f, g)
+
+-- a number between two others, by the joined test
+pub in-range : (a b c : ℕ) → (leb a c && leb c b) ≡ true → (a ≤ c) × (c ≤ b)
+in-range a b c e = (leb-true a c (and-left (leb a c) (leb c b) e), leb-true c b (and-right (leb a c) (leb c b) e))
+
+-- ---- two digits
+
+module _ (a b : ℕ) where
+  pub pair-none : (isDigit a && isDigit b) ≡ false → byteOf a b ≡ 256
+  unfolding byteOf
+  pair-none e = rw e
+
+  module _ (e : (isDigit a && isDigit b) ≡ true) where
+    first-small : digitOf a < 16
+    unfolding isDigit
+    first-small = ltb-true (digitOf a) 16 (and-left (isDigit a) (isDigit b) e)
+
+    second-small : digitOf b < 16
+    unfolding isDigit
+    second-small = ltb-true (digitOf b) 16 (and-right (isDigit a) (isDigit b) e)
+
+    spelled : byteOf a b ≡ digitOf a * 16 + digitOf b
+    unfolding byteOf
+    spelled = rw e
+
+    pub pair-is : digitOf a % 16 * 16 + digitOf b % 16 ≡ byteOf a b
+    pair-is = let p = first-small in let q = second-small in let s = spelled in omega arith
+
+    pub pair-small : byteOf a b < 256
+    pair-small = let p = first-small in let q = second-small in let s = spelled in omega arith
+
+  pub byte-small : byteOf a b ≤ 256
+  byte-small = by (isDigit a && isDigit b) refl
+    where
+      by : (c : Bool) → (isDigit a && isDigit b) ≡ c → byteOf a b ≤ 256
+      by true e = let s = pair-small e in omega arith
+      by false e = let s = pair-none e in omega arith
+
+  pub pair-so : byteOf a b < 256 → (isDigit a && isDigit b) ≡ true
+  pair-so h = by (isDigit a && isDigit b) refl
+    where
+      by : (c : Bool) → (isDigit a && isDigit b) ≡ c → (isDigit a && isDigit b) ≡ true
+      by true e = e
+      by false e = let z = pair-none e in absurd (omega arith)
+
+-- ---- the bytes from a position on, one more at a time
+
+pub bytes-one : (t : List ℕ) (p k : ℕ) → 0 < k → bytesAt t p k ≡ byteAt t p ∷ bytesAt t (p + 2) (k - 1)
+unfolding bytesAt
+bytes-one t p zero h = absurd (omega arith)
+bytes-one t p (suc k) h = let e : suc k - 1 ≡ k = omega arith in rw e
+
+check-goes : (s : ℕ) (t : List ℕ) (p k : ℕ) → 0 < k → byteAt t p < 256 → checkFrom s (bytesAt t p k) ≡ checkFrom (s + byteAt t p) (bytesAt t (p + 2) (k - 1))
+unfolding checkFrom total allBytes
+check-goes s t p k h b = rw (bytes-one t p k h) (simp (lt-ltb _ _ b, add-assoc))
+
+check-stops : (s : ℕ) (t : List ℕ) (p k : ℕ) → 0 < k → 256 ≤ byteAt t p → checkFrom s (bytesAt t p k) ≡ 256
+unfolding checkFrom allBytes
+check-stops s t p k h b = rw (bytes-one t p k h) (simp (le-ltb _ _ b))
+
+pub check-ends : (s : ℕ) (t : List ℕ) (p : ℕ) → checkFrom s (bytesAt t p 0) ≡ s % 256
+unfolding checkFrom total allBytes bytesAt
+check-ends s t p = rw add-zero
+
+check-mod : (s : ℕ) (bs : List ℕ) → checkFrom (s % 256) bs ≡ checkFrom s bs
+unfolding checkFrom
+check-mod s bs = let e : (s % 256 + total bs) % 256 ≡ (s + total bs) % 256 = omega arith in rw e
+
+-- one pair more of the sum, whether or not it is one
+pub check-step :
+    (good g : Bool) (s b : ℕ) (t : List ℕ) (p k : ℕ) → 0 < k → g ≡ pairAt t p → (pairAt t p ≡ true → b ≡ byteAt t p)
+    → cond good (checkFrom s (bytesAt t p k)) 256 ≡ cond (good && g) (checkFrom ((s + b) % 256) (bytesAt t (p + 2) (k - 1))) 256
+check-step false g s b t p k h e f = refl
+check-step true false s b t p k h e f = check-stops s t p k h (rw (pair-none (getD t p 0) (getD t (p + 1) 0) (sym e)) (omega arith))
+check-step true true s b t p k h e f =
+    let i = f (sym e) in
+    check-goes s t p k h (pair-small (getD t p 0) (getD t (p + 1) 0) (sym e)) ∙ rw (sym i) (sym (check-mod (s + b) (bytesAt t (p + 2) (k - 1))))
+
+pub all-first : (t : List ℕ) (p k : ℕ) → 0 < k → allBytes (bytesAt t p k) ≡ true → (byteAt t p < 256) × (allBytes (bytesAt t (p + 2) (k - 1)) ≡ true)
+unfolding allBytes
+all-first t p k h e =
+    let q = rw (bytes-one t p k h) at e in
+    let rest : Bool = allBytes (bytesAt t (p + 2) (k - 1)) in
+    (ltb-true _ _ (and-left (ltb (byteAt t p) 256) rest q), and-right (ltb (byteAt t p) 256) rest q)
+
+-- one byte more is stored
+pub sets-one : (l : List ℕ) (a : ℕ) (t : List ℕ) (p k : ℕ) → 0 < k → sets l a (bytesAt t p k) ≡ sets (set l a (byteAt t p)) (a + 1) (bytesAt t (p + 2) (k - 1))
+sets-one l a t p k h = rw (add-one a, bytes-one t p k h)
+
+pub sets-none : (l : List ℕ) (a : ℕ) (t : List ℕ) (p : ℕ) → sets l a (bytesAt t p 0) ≡ l
+unfolding bytesAt
+sets-none l a t p = refl

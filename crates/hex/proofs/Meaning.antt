@@ -1,0 +1,413 @@
+-- What an answer means: of an accepted text each data byte stands at its address and 0xFF elsewhere, no line has a fault, and the
+-- end record was seen; a refusal names the first faulty line.
+-- Assumes nothing.
+use mathlib.Core.Path.{_≡_, refl, sym, ap, _∙_}
+use mathlib.Core.Bool.{Bool, true, false, _&&_, cond}
+use mathlib.Core.List.{List, [], _∷_}
+use mathlib.Core.Logic.{_⊎_, ⊎-elim}
+use Prim.Native.Nat.{ℕ, zero, suc, _+_, _-_, _*_, _%_, _<_, _≤_}
+use native.Mathlib.Nat.{not-suc-le-zero, le-of-suc-le-suc}
+use native.Mathlib.Omega.{arith}
+use lib.Dec.{eqb, leb}
+use lib.ListN.{length, getD, drop, set, replicate, length-drop, length-take, length-replicate, length-set, getD-replicate}
+use lib.Seq.{sets, length-sets, getD-set-same, getD-set-other}
+use borrow.Author.Tests.{eqb-true, eqb-false, leb-true}
+use Rattle.buffer.proofs.Bools.{and-left, and-right, split}
+use Rattle.bank.specs.declared.layout.Bank.{Bank}
+use Rattle.bank.specs.Layout.{goodN, startOf, sectorSize}
+use Rattle.hex.specs.declared.fault.Kind.{Kind}
+use Rattle.hex.specs.declared.fault.Kind.the-variants.{H6}
+use Rattle.hex.specs.declared.fault.Refusal.{Refusal}
+use Rattle.hex.specs.declared.record.State.{State}
+use Rattle.hex.specs.declared.record.Found.{Found}
+use Rattle.hex.specs.declared.record.Found.the-variants.{Fault, Data, Upper, End, Other}
+use Rattle.hex.specs.declared.read.Answer.the-variants.{BadN, BadLength, Refused, Accepted}
+use Rattle.hex.specs.declared.read.Outcome.{Outcome}
+use Rattle.hex.specs.declared.read.Outcome.the-variants.{Stopped, Through}
+use Rattle.hex.specs.Digit.{bytesOf}
+use Rattle.hex.specs.Record.{countOf, addressOf, typeOf, dataOf, total, dataAt, typed, foundOf}
+use Rattle.hex.specs.Line.{lines}
+use Rattle.hex.specs.Read.{stateAfter, imageAfter, Done, refused, goes, readLines, fresh, Reading, answerOf, answered, answerNumber, readOf}
+use Rattle.hex.specs.Meaning.{stateAt, saysAt, Sound, Faulted, at-line, past-the-last}
+use Rattle.hex.proofs.Records.{spelledBy, isRecord, record-fields, found-over, found-1, found-2, found-typed}
+use Rattle.hex.proofs.Steps.{erased}
+
+no-way : {A : Type 0} → _≡_ {A = ℕ} 0 1 → A
+no-way z = absurd (omega arith)
+
+-- ---- a run of stores, byte by byte
+
+sets-below : (vs l : List ℕ) (at i : ℕ) → i < at → getD (sets l at vs) i 0 ≡ getD l i 0
+sets-below [] l at i h = refl
+sets-below (v ∷ vs) l at i h = sets-below vs (set l at v) (suc at) i (omega arith) ∙ getD-set-other l at i v 0 (λ e. omega arith)
+
+sets-above : (vs l : List ℕ) (at i : ℕ) → at + length vs ≤ i → getD (sets l at vs) i 0 ≡ getD l i 0
+sets-above [] l at i h = refl
+sets-above (v ∷ vs) l at i h = sets-above vs (set l at v) (suc at) i (omega arith) ∙ getD-set-other l at i v 0 (λ e. omega arith)
+
+sets-in : (vs l : List ℕ) (at j : ℕ) → j < length vs → at + length vs ≤ length l → getD (sets l at vs) (at + j) 0 ≡ getD vs j 0
+sets-in [] l at j h k = absurd (not-suc-le-zero h)
+sets-in (v ∷ vs) l at zero h k =
+    let e : at + zero ≡ at = omega arith in
+    rw e (sets-below vs (set l at v) (suc at) at (omega arith) ∙ getD-set-same l at v 0 (omega arith))
+sets-in (v ∷ vs) l at (suc j) h k =
+    let e : at + suc j ≡ suc at + j = omega arith in
+    rw e (sets-in vs (set l at v) (suc at) j (le-of-suc-le-suc h) (let n = length-set l at v in omega arith))
+
+-- ---- what a line that has data tells
+
+pub record DataIn (base size last : ℕ) (line : List ℕ) (start n : ℕ) : Type 0 where
+  pub low : base ≤ start
+  pub high : start + n ≤ base + size
+  pub after : last ≤ start
+  pub whole : length (dataOf n (spelledBy line)) ≡ n
+
+abbrev Told : ℕ → ℕ → ℕ → List ℕ → Found → Type 0
+Told base size last line (Fault k) = Unit {0}
+Told base size last line (Data start n) = DataIn base size last line start n
+Told base size last line (Upper u) = Unit {0}
+Told base size last line End = Unit {0}
+Told base size last line Other = Unit {0}
+
+module _ (base size upper last : ℕ) (line : List ℕ) (w : length (spelledBy line) ≡ countOf (spelledBy line) + 5) where
+  abbrev bytes : List ℕ
+  bytes = spelledBy line
+
+  abbrev T : Found → Type 0
+  T = Told base size last line
+
+  told-data : (start : ℕ) → T (dataAt base size last start (countOf bytes))
+  unfolding dataAt
+  told-data start =
+      let n : ℕ = countOf bytes in
+      split T (eqb n 0) (λ x. tt)
+      (λ x. split T (leb base start && leb (start + n) (base + size))
+      (λ y. split T (leb last start)
+      (λ z.
+      record {
+        low = leb-true _ _ (and-left (leb base start) (leb (start + n) (base + size)) y);
+        high = leb-true _ _ (and-right (leb base start) (leb (start + n) (base + size)) y);
+        after = leb-true _ _ z;
+        whole = simp (length-take, length-drop) (omega arith);
+      })
+      (λ z. tt))
+      (λ y. tt))
+
+  told-typed : T (typed base size upper last bytes)
+  unfolding typed
+  told-typed =
+      split T (eqb (typeOf bytes) 0) (λ x. told-data (upper * 65536 + addressOf bytes))
+      (λ x. split T (eqb (addressOf bytes) 0)
+      (λ y. split T (eqb (typeOf bytes) 1 && eqb (countOf bytes) 0) (λ z. tt)
+      (λ z. split T (eqb (typeOf bytes) 4 && eqb (countOf bytes) 2) (λ u. tt)
+      (λ u. split T (eqb (typeOf bytes) 5 && eqb (countOf bytes) 4) (λ v. tt) (λ v. tt))))
+      (λ y. tt))
+
+told : (base size : ℕ) (s : State) (line : List ℕ) → Told base size (s .last) line (foundOf base size s line)
+told base size s line = by (s .over) refl
+  where
+    sum : s .over ≡ false → isRecord line ≡ true → (b : Bool) → eqb (total (spelledBy line) % 256) 0 ≡ b → Told base size (s .last) line (foundOf base size s line)
+    sum o q false e = rw (found-2 base size s line o q (eqb-false _ 0 e)) tt
+    sum o q true e = rw (found-typed base size s line o q (eqb-true _ 0 e)) (told-typed base size (s .upper) (s .last) line (record-fields line q .1 .1))
+
+    spelt : s .over ≡ false → (b : Bool) → isRecord line ≡ b → Told base size (s .last) line (foundOf base size s line)
+    spelt o false q = rw (found-1 base size s line o q) tt
+    spelt o true q = sum o q (eqb (total (spelledBy line) % 256) 0) refl
+
+    by : (b : Bool) → s .over ≡ b → Told base size (s .last) line (foundOf base size s line)
+    by true o = rw (found-over base size s line o) tt
+    by false o = spelt o (isRecord line) refl
+
+pub data-in : (base size : ℕ) (s : State) (line : List ℕ) (start n : ℕ) → foundOf base size s line ≡ Data start n → DataIn base size (s .last) line start n
+data-in base size s line start n e = rw e at (told base size s line)
+
+-- ---- an accepted text
+
+module _ (base size : ℕ) where
+  abbrev Read : State → ℕ → List ℕ → List (List ℕ) → Done
+  Read = readLines base size
+
+  abbrev outcome-of : Done → Outcome
+  outcome-of d = d .outcome
+
+  -- the lines behind one that was read
+  data Next (s : State) (k : ℕ) (image : List ℕ) (l : List ℕ) (ls : List (List ℕ)) : Type 0 where
+    stops : (f : Kind) → foundOf base size s l ≡ Fault f → Read s k image (l ∷ ls) ≡ refused size f k → Next s k image l ls
+    on :
+        (d : Found) → foundOf base size s l ≡ d → ((f : Kind) → d ≡ Fault f → ⊥)
+        → Read s k image (l ∷ ls) ≡ Read (stateAfter d s) (k + 1) (imageAfter base l d image) ls → Next s k image l ls
+
+  next : (s : State) (k : ℕ) (image l : List ℕ) (ls : List (List ℕ)) → Next s k image l ls
+  unfolding readLines
+  next s k image l ls = by (foundOf base size s l) refl
+    where
+      by : (d : Found) → foundOf base size s l ≡ d → Next s k image l ls
+      by (Fault f) e = stops f e (rw e)
+      by (Data start n) e = on (Data start n) e (λ f z. no-way (cc)) (rw e)
+      by (Upper u) e = on (Upper u) e (λ f z. no-way (cc)) (rw e)
+      by End e = on End e (λ f z. no-way (cc)) (rw e)
+      by Other e = on Other e (λ f z. no-way (cc)) (rw e)
+
+  state-next : (s : State) (l : List ℕ) (ls : List (List ℕ)) (d : Found) → foundOf base size s l ≡ d → (m : ℕ)
+      → stateAt base size s (l ∷ ls) (suc m) ≡ stateAt base size (stateAfter d s) ls m
+  unfolding stateAt
+  state-next s l ls d e m = ap (λ (f : Found). stateAt base size (stateAfter f s) ls m) e
+
+  says-first : (s : State) (l : List ℕ) (ls : List (List ℕ)) → saysAt base size s (l ∷ ls) 0 ≡ foundOf base size s l
+  unfolding stateAt
+  says-first s l ls = refl
+
+  says-next : (s : State) (l : List ℕ) (ls : List (List ℕ)) (d : Found) → foundOf base size s l ≡ d → (m : ℕ)
+      → saysAt base size s (l ∷ ls) (suc m) ≡ saysAt base size (stateAfter d s) ls m
+  says-next s l ls d e m = ap (λ (t : State). foundOf base size t (getD ls m [])) (state-next s l ls d e m)
+
+  image-length : (l image : List ℕ) (d : Found) → length (imageAfter base l d image) ≡ length image
+  image-length l image (Fault k) = refl
+  image-length l image (Data start n) = length-sets image (start - base) (dataOf n (spelledBy l))
+  image-length l image (Upper u) = refl
+  image-length l image End = refl
+  image-length l image Other = refl
+
+  ends : (s : State) (k : ℕ) (image : List ℕ) → Read s k image [] .outcome ≡ Through → (Read s k image [] .image ≡ image) × (s .over ≡ true)
+  unfolding readLines
+  ends s k image e = by (s .over) refl
+    where
+      by : (o : Bool) → s .over ≡ o → (Read s k image [] .image ≡ image) × (s .over ≡ true)
+      by true o = (rw o, o)
+      by false o = let f = rw o at e in no-way (cc)
+
+  -- no line has a fault
+  pub accepted-sound : (s : State) (k : ℕ) (image : List ℕ) (ls : List (List ℕ)) → Read s k image ls .outcome ≡ Through → Sound base size s ls (length ls)
+  unfolding stateAt
+  accepted-sound s k image [] e = λ m h. absurd (not-suc-le-zero h)
+  accepted-sound s k image (l ∷ ls) e = by (λ d. accepted-sound (stateAfter d s) (k + 1) (imageAfter base l d image) ls) (next s k image l ls)
+    where
+      by :
+          ((d : Found) → Read (stateAfter d s) (k + 1) (imageAfter base l d image) ls .outcome ≡ Through → Sound base size (stateAfter d s) ls (length ls))
+          → Next s k image l ls → Sound base size s (l ∷ ls) (length (l ∷ ls))
+      by rest (stops f q g) m h = let z : Stopped (record { kind = f; line = k }) ≡ Through = sym (ap outcome-of g) ∙ e in no-way (cc)
+      by rest (on d q x g) zero h = λ f z. x f (sym q ∙ z)
+      by rest (on d q x g) (suc m) h = λ f z. rest d (sym (ap outcome-of g) ∙ e) m (le-of-suc-le-suc h) f (sym (says-next s l ls d q m) ∙ z)
+
+  -- what was written below the end of earlier data stays
+  kept-step : (s : State) (l image : List ℕ) (i : ℕ) → base + i < s .last → (d : Found) → foundOf base size s l ≡ d
+      → (base + i < stateAfter d s .last) × (getD (imageAfter base l d image) i 0 ≡ getD image i 0)
+  kept-step s l image i h (Fault k) e = (h, refl)
+  kept-step s l image i h (Data start n) e =
+      let t = data-in base size s l start n e in
+      (omega (arith, t .after), sets-below (dataOf n (spelledBy l)) image (start - base) i (omega (arith, t .after, t .low)))
+  kept-step s l image i h (Upper u) e = (h, refl)
+  kept-step s l image i h End e = (h, refl)
+  kept-step s l image i h Other e = (h, refl)
+
+  kept : (s : State) (k : ℕ) (image : List ℕ) (ls : List (List ℕ)) → Read s k image ls .outcome ≡ Through → (i : ℕ) → base + i < s .last
+      → getD (Read s k image ls .image) i 0 ≡ getD image i 0
+  kept s k image [] e i h = ap (λ (m : List ℕ). getD m i 0) (ends s k image e .0)
+  kept s k image (l ∷ ls) e i h = by (λ d. kept (stateAfter d s) (k + 1) (imageAfter base l d image) ls) (next s k image l ls)
+    where
+      by :
+          ((d : Found) → Read (stateAfter d s) (k + 1) (imageAfter base l d image) ls .outcome ≡ Through → (i : ℕ) → base + i < stateAfter d s .last
+          → getD (Read (stateAfter d s) (k + 1) (imageAfter base l d image) ls .image) i 0 ≡ getD (imageAfter base l d image) i 0)
+          → Next s k image l ls → getD (Read s k image (l ∷ ls) .image) i 0 ≡ getD image i 0
+      by rest (stops f q g) = let z : Stopped (record { kind = f; line = k }) ≡ Through = sym (ap outcome-of g) ∙ e in no-way (cc)
+      by rest (on d q x g) =
+          let t = kept-step s l image i h d q in
+          ap (λ (d : Done). getD (d .image) i 0) g
+          ∙ rest d (sym (ap outcome-of g) ∙ e) i (t .0) ∙ t .1
+
+  -- each data byte stands at its address
+  pub data-stands :
+      (s : State) (k : ℕ) (image : List ℕ) (ls : List (List ℕ)) → length image ≡ size → Read s k image ls .outcome ≡ Through
+      → (i start n : ℕ) → i < length ls → saysAt base size s ls i ≡ Data start n
+      → (j : ℕ) → j < n → getD (Read s k image ls .image) (start - base + j) 0 ≡ getD (dataOf n (spelledBy (getD ls i []))) j 0
+  unfolding stateAt readLines
+  data-stands s k image [] w e i start n h q j a = absurd (not-suc-le-zero h)
+  data-stands s k image (l ∷ ls) w e zero start n h q j a =
+      let t = data-in base size s l start n q in
+      let f = rw q at e in
+      rw q
+      (kept (stateAfter (Data start n) s) (k + 1) (sets image (start - base) (dataOf n (spelledBy l))) ls f (start - base + j) (omega (arith, t .low))
+      ∙ sets-in (dataOf n (spelledBy l)) image (start - base) j (omega (arith, t .whole)) (omega (arith, t .low, t .high, t .whole)))
+  data-stands s k image (l ∷ ls) w e (suc i) start n h q j a =
+      by (λ d v f. data-stands (stateAfter d s) (k + 1) (imageAfter base l d image) ls v f i start n (le-of-suc-le-suc h)) (next s k image l ls)
+    where
+      by :
+          ((d : Found) → length (imageAfter base l d image) ≡ size → Read (stateAfter d s) (k + 1) (imageAfter base l d image) ls .outcome ≡ Through
+          → saysAt base size (stateAfter d s) ls i ≡ Data start n → (j : ℕ) → j < n
+          → getD (Read (stateAfter d s) (k + 1) (imageAfter base l d image) ls .image) (start - base + j) 0 ≡ getD (dataOf n (spelledBy (getD ls i []))) j 0)
+          → Next s k image l ls → getD (Read s k image (l ∷ ls) .image) (start - base + j) 0 ≡ getD (dataOf n (spelledBy (getD ls i []))) j 0
+      by rest (stops f p g) = let z : Stopped (record { kind = f; line = k }) ≡ Through = sym (ap outcome-of g) ∙ e in no-way (cc)
+      by rest (on d p x g) =
+          ap (λ (d : Done). getD (d .image) (start - base + j) 0) g
+          ∙ rest d (image-length l image d ∙ w) (sym (ap outcome-of g) ∙ e) (sym (says-next s l ls d p i) ∙ q) j a
+
+  -- ---- a refused text
+
+  pub refused-faulted : (s : State) (k : ℕ) (image : List ℕ) (ls : List (List ℕ)) (r : Refusal) → Read s k image ls .outcome ≡ Stopped r → Faulted base size s k ls r
+  unfolding readLines stateAt
+  refused-faulted s k image [] r e = by (s .over) refl
+    where
+      by : (o : Bool) → s .over ≡ o → Faulted base size s k [] r
+      by true o = let f = rw o at e in no-way (cc)
+      by false o =
+          let f = rw o at e in
+          let g : record { kind = H6; line = k } ≡ r = cc in
+          past-the-last (let z : r .line ≡ k = rw (sym g) in omega arith) (rw (sym g)) o (λ m h. absurd (not-suc-le-zero h))
+  refused-faulted s k image (l ∷ ls) r e = by (λ d. refused-faulted (stateAfter d s) (k + 1) (imageAfter base l d image) ls r) (next s k image l ls)
+    where
+      by :
+          ((d : Found) → Read (stateAfter d s) (k + 1) (imageAfter base l d image) ls .outcome ≡ Stopped r → Faulted base size (stateAfter d s) (k + 1) ls r)
+          → Next s k image l ls → Faulted base size s k (l ∷ ls) r
+      by rest (stops f q g) =
+          let z : Stopped (record { kind = f; line = k }) ≡ Stopped r = sym (ap outcome-of g) ∙ e in
+          let y : record { kind = f; line = k } ≡ r = cc in
+          at-line 0 (omega arith) (let x : r .line ≡ k = rw (sym y) in omega arith) (q ∙ rw (sym y)) (λ m h. absurd (not-suc-le-zero h))
+      by rest (on d q x g) = later (rest d (sym (ap outcome-of g) ∙ e))
+        where
+          more : (i : ℕ) → Sound base size (stateAfter d s) ls i → Sound base size s (l ∷ ls) (suc i)
+          more i a zero h = λ f z. x f (sym q ∙ z)
+          more i a (suc m) h = λ f z. a m (le-of-suc-le-suc h) f (sym (says-next s l ls d q m) ∙ z)
+
+          later : Faulted base size (stateAfter d s) (k + 1) ls r → Faulted base size s k (l ∷ ls) r
+          later (at-line i h b c a) = at-line (suc i) (omega arith) (omega arith) (says-next s l ls d q i ∙ c) (more i a)
+          later (past-the-last b c o a) = past-the-last (omega arith) c (ap (λ (t : State). t .over) (state-next s l ls d q (length ls)) ∙ o) (more (length ls) a)
+
+  -- ---- where no data are, the image keeps its bytes
+
+  abbrev Untold : State → List (List ℕ) → ℕ → Type 0
+  Untold s ls a = (i start n : ℕ) → i < length ls → saysAt base size s ls i ≡ Data start n → a < start ⊎ start + n ≤ a
+
+  pub rest-stays :
+      (s : State) (k : ℕ) (image : List ℕ) (ls : List (List ℕ)) → Read s k image ls .outcome ≡ Through → (i : ℕ) → Untold s ls (base + i)
+      → getD (Read s k image ls .image) i 0 ≡ getD image i 0
+  rest-stays s k image [] e i u = ap (λ (m : List ℕ). getD m i 0) (ends s k image e .0)
+  rest-stays s k image (l ∷ ls) e i u = by (λ d. rest-stays (stateAfter d s) (k + 1) (imageAfter base l d image) ls) (next s k image l ls)
+    where
+      here : (d : Found) → foundOf base size s l ≡ d → getD (imageAfter base l d image) i 0 ≡ getD image i 0
+      here (Fault f) q = refl
+      here (Data start n) q =
+          let t = data-in base size s l start n q in
+          ⊎-elim (λ b. sets-below (dataOf n (spelledBy l)) image (start - base) i (omega arith))
+          (λ b. sets-above (dataOf n (spelledBy l)) image (start - base) i (omega (arith, t .low, t .whole)))
+          (u 0 start n (omega arith) (says-first s l ls ∙ q))
+      here (Upper x) q = refl
+      here End q = refl
+      here Other q = refl
+
+      by :
+          ((d : Found) → Read (stateAfter d s) (k + 1) (imageAfter base l d image) ls .outcome ≡ Through → (i : ℕ) → Untold (stateAfter d s) ls (base + i)
+          → getD (Read (stateAfter d s) (k + 1) (imageAfter base l d image) ls .image) i 0 ≡ getD (imageAfter base l d image) i 0)
+          → Next s k image l ls → getD (Read s k image (l ∷ ls) .image) i 0 ≡ getD image i 0
+      by rest (stops f q g) = let z : Stopped (record { kind = f; line = k }) ≡ Through = sym (ap outcome-of g) ∙ e in no-way (cc)
+      by rest (on d q x g) =
+          ap (λ (d : Done). getD (d .image) i 0) g
+          ∙ rest d (sym (ap outcome-of g) ∙ e) i (λ m start n h p. u (suc m) start n (omega arith) (says-next s l ls d q m ∙ p))
+          ∙ here d q
+
+  lines-length : (s : State) (k : ℕ) (image : List ℕ) (ls : List (List ℕ)) → length image ≡ size → length (Read s k image ls .image) ≡ size
+  unfolding readLines
+  lines-length s k image [] w = split (λ (d : Done). length (d .image) ≡ size) (s .over) (λ o. w) (λ o. length-replicate size 0xFF)
+  lines-length s k image (l ∷ ls) w = by (λ d. lines-length (stateAfter d s) (k + 1) (imageAfter base l d image) ls) (next s k image l ls)
+    where
+      by :
+          ((d : Found) → length (imageAfter base l d image) ≡ size → length (Read (stateAfter d s) (k + 1) (imageAfter base l d image) ls .image) ≡ size)
+          → Next s k image l ls → length (Read s k image (l ∷ ls) .image) ≡ size
+      by rest (stops f q g) = ap (λ (d : Done). length (d .image)) g ∙ length-replicate size 0xFF
+      by rest (on d q x g) = ap (λ (d : Done). length (d .image)) g ∙ rest d (image-length l image d ∙ w)
+
+-- ---- the whole text
+
+module _ (text : List ℕ) (bank : Bank) (n : ℕ) (before : List ℕ) where
+  abbrev blank : List ℕ
+  blank = replicate (sectorSize * n) 0xFF
+
+  abbrev lined : Done
+  lined = readLines (startOf bank) (sectorSize * n) fresh 1 blank (lines text)
+
+  -- by the two tests that come first
+  data Way : Type 0 where
+    bad-n : readOf text bank n before ≡ record { answer = BadN; image = before } → Way
+    bad-length : readOf text bank n before ≡ record { answer = BadLength; image = before } → Way
+    lined-up : length before ≡ sectorSize * n → readOf text bank n before ≡ answered lined → Way
+
+  way : Way
+  unfolding readOf
+  way = by (goodN n) (eqb (length before) (sectorSize * n)) refl refl
+    where
+      by : (g b : Bool) → goodN n ≡ g → eqb (length before) (sectorSize * n) ≡ b → Way
+      by false b e f = bad-n (rw e)
+      by true false e f = bad-length (rw (e, f))
+      by true true e f = lined-up (eqb-true _ _ f) (rw (e, f))
+
+  -- the image keeps its length
+  pub read-length : length (readOf text bank n before .image) ≡ length before
+  read-length = by way
+    where
+      by : Way → length (readOf text bank n before .image) ≡ length before
+      by (bad-n e) = rw e
+      by (bad-length e) = rw e
+      by (lined-up w e) = rw e (lines-length (startOf bank) (sectorSize * n) fresh 1 blank (lines text) (length-replicate (sectorSize * n) 0xFF) ∙ sym w)
+
+  -- an accepted text went through
+  pub accepted-lined : readOf text bank n before .answer ≡ Accepted → (lined .outcome ≡ Through) × (readOf text bank n before .image ≡ lined .image)
+  accepted-lined a = by way
+    where
+      out : (o : Outcome) → answerOf o ≡ Accepted → o ≡ Through
+      out (Stopped r) z = no-way (cc)
+      out Through z = refl
+
+      by : Way → (lined .outcome ≡ Through) × (readOf text bank n before .image ≡ lined .image)
+      by (bad-n e) = let z : BadN ≡ Accepted = sym (ap (λ (d : Reading). d .answer) e) ∙ a in no-way (cc)
+      by (bad-length e) = let z : BadLength ≡ Accepted = sym (ap (λ (d : Reading). d .answer) e) ∙ a in no-way (cc)
+      by (lined-up w e) = (out (lined .outcome) (sym (ap (λ (d : Reading). d .answer) e) ∙ a), ap (λ (d : Reading). d .image) e)
+
+  -- "accepted text leaves its bytes", each at its address
+  pub accepted-data :
+      readOf text bank n before .answer ≡ Accepted → (i start count : ℕ) → i < length (lines text)
+      → saysAt (startOf bank) (sectorSize * n) fresh (lines text) i ≡ Data start count → (j : ℕ) → j < count
+      → getD (readOf text bank n before .image) (start - startOf bank + j) 0 ≡ getD (dataOf count (spelledBy (getD (lines text) i []))) j 0
+  accepted-data a i start count h q j b =
+      let t = accepted-lined a in
+      rw (t .1) (data-stands (startOf bank) (sectorSize * n) fresh 1 blank (lines text) (length-replicate (sectorSize * n) 0xFF) (t .0) i start count h q j b)
+
+  -- "0xFF elsewhere"
+  pub accepted-rest :
+      readOf text bank n before .answer ≡ Accepted → (i : ℕ) → i < sectorSize * n
+      → ((m start count : ℕ) → m < length (lines text) → saysAt (startOf bank) (sectorSize * n) fresh (lines text) m ≡ Data start count
+      → startOf bank + i < start ⊎ start + count ≤ startOf bank + i)
+      → getD (readOf text bank n before .image) i 0 ≡ 0xFF
+  accepted-rest a i h u =
+      let t = accepted-lined a in
+      rw (t .1) (rest-stays (startOf bank) (sectorSize * n) fresh 1 blank (lines text) (t .0) i u ∙ getD-replicate (sectorSize * n) i 0xFF 0 h)
+
+  -- a refusal names the first faulty line, and leaves all 0xFF
+  pub refused-lined :
+      (r : Refusal) → readOf text bank n before .answer ≡ Refused r
+      → Faulted (startOf bank) (sectorSize * n) fresh 1 (lines text) r × (readOf text bank n before .image ≡ replicate (length before) 0xFF)
+  refused-lined r a = by way
+    where
+      out : (o : Outcome) → answerOf o ≡ Refused r → o ≡ Stopped r
+      out (Stopped x) z = let y : x ≡ r = cc in rw y
+      out Through z = no-way (cc)
+
+      by : Way → Faulted (startOf bank) (sectorSize * n) fresh 1 (lines text) r × (readOf text bank n before .image ≡ replicate (length before) 0xFF)
+      by (bad-n e) = let z : BadN ≡ Refused r = sym (ap (λ (d : Reading). d .answer) e) ∙ a in no-way (cc)
+      by (bad-length e) = let z : BadLength ≡ Refused r = sym (ap (λ (d : Reading). d .answer) e) ∙ a in no-way (cc)
+      by (lined-up w e) =
+          let o : lined .outcome ≡ Stopped r = out (lined .outcome) (sym (ap (λ (d : Reading). d .answer) e) ∙ a) in (
+            refused-faulted (startOf bank) (sectorSize * n) fresh 1 blank (lines text) r o,
+            ap (λ (d : Reading). d .image) e ∙ erased (startOf bank) (sectorSize * n) fresh 1 blank (lines text) (λ z. let y : Stopped r ≡ Through = sym o ∙ z in no-way (cc)) ∙ rw w,
+          )
+
+  -- 3 and 2 leave the image as it was
+  pub unread : (answerNumber (readOf text bank n before .answer) ≡ 0 → ⊥) → readOf text bank n before .image ≡ before
+  unread z = by way
+    where
+      none : (o : Outcome) → answerNumber (answerOf o) ≡ 0
+      none (Stopped r) = refl
+      none Through = refl
+
+      by : Way → readOf text bank n before .image ≡ before
+      by (bad-n e) = rw e
+      by (bad-length e) = rw e
+      by (lined-up w e) = absurd (z (rw e (none (lined .outcome))))

@@ -1,0 +1,95 @@
+-- `hex::read::read` meets its contract: each way out is a case of the definition.
+-- Assumes nothing.
+use mathlib.Core.Path.{sym, _∙_}
+use native.Mathlib.Omega.{arith}
+use borrow.Author.Tests.{not-true, not-false}
+use Rattle.bank.proofs.Layouts.{good-high, start-small}
+use Rattle.hex.proofs.Steps.{read-3, read-2, read-accepted, read-refused}
+use borrow.Author.Needs.{needs}
+use Rattle.hex.proofs.read.read.Statement.{statement}
+use Rattle.hex.proofs.read.read.Tie as tie
+
+good-n-requires : tie.Need-good-n-requires
+good-n-requires c κs = search needs
+
+returns : tie.Need-returns
+returns c = let a = (c .before .before .before .before .args) in read-3 (a .text .now) (a .bank) (a .n) (a .image .now) (sym ((c .before .good-n .ensures)) ∙ not-true _ (c .if1 .taken))
+
+mul-if2 : tie.Need-mul-if2
+mul-if2 c =
+    let a = (c .before .before .before .before .args) in
+    let g = sym ((c .before .good-n .ensures)) ∙ not-false _ (c .if1 .left) in
+    let h = good-high (a .n) g in
+    omega arith
+
+returns-2 : tie.Need-returns-2
+returns-2 c =
+    let a = (c .before .before .before .before .before .args) in
+    let g = sym ((c .before .before .good-n .ensures)) ∙ not-false _ (c .before .if1 .left) in
+    read-2 (a .text .now) (a .bank) (a .n) (a .image .now) g ((c .if2 .taken))
+
+fill-requires : tie.Need-fill-requires
+fill-requires c κs = search needs
+
+start-address-requires : tie.Need-start-address-requires
+start-address-requires c κs = search needs
+
+wide4-requires : tie.Need-wide4-requires
+wide4-requires c κs = search needs
+
+read-lines-requires : tie.Need-read-lines-requires
+read-lines-requires c κs =
+    let a = (c .before .before .before .before .before .before .before .before .before .before .before .before .args) in
+    let g = sym ((c .before .before .before .before .before .before .before .before .before .good-n .ensures)) ∙ not-false _ (c .before .before .before .before .before .before .before .before .if1 .left) in
+    let h = good-high (a .n) g in
+    let b = start-small (a .bank) in
+    (omega arith, omega (arith, (c .before .before .before .before .before .fill .kept .0), (c .before .before .before .before .before .before .before .if2 .left)))
+
+enum-known-outcome : tie.Need-enum-known-outcome
+enum-known-outcome c = search needs
+
+fill-requires-2 : tie.Need-fill-requires-2
+fill-requires-2 c κs = search needs
+
+enum-told : tie.Need-enum-told
+enum-told c = search needs
+
+same-length : tie.Need-same-length
+same-length c = search needs
+
+returns-3 : tie.Need-returns-3
+returns-3 c =
+    let a = (c .before .before .before .before .before .before .before .before .before .before .before .before .before .before .before .before .before .before .before .before .before .before .args) in
+    let g = sym ((c .before .before .before .before .before .before .before .before .before .before .before .before .before .before .before .before .before .before .before .good-n .ensures)) ∙ not-false _ (c .before .before .before .before .before .before .before .before .before .before .before .before .before .before .before .before .before .before .if1 .left) in
+    read-refused (a .text .now) (a .bank) (a .n) (a .image .now) g ((c .before .before .before .before .before .before .before .before .before .before .before .before .before .before .before .before .before .if2 .left)) ((c .before .before .before .before .before .before .before .before .before .before .before .wide4 .ensures .0) ∙ (c .before .before .before .before .before .before .before .before .before .before .before .before .start-address .ensures)) ((c .before .before .before .before .before .before .before .before .before .before .before .before .before .before .before .fill .ensures))
+    _ ((c .before .before .before .before .before .before .before .before .before .read-lines .last .1 .1 .0)) (rw ((c .before .before .before .before .before .outcome .given .1)) at ((c .before .before .before .before .before .before .before .before .before .read-lines .ensures))) ((c .before .before .before .before .before .before .before .before .before .read-lines .kept .1 .1 .0)) ((c .before .before .fill2 .ensures))
+
+same-length-2 : tie.Need-same-length-2
+same-length-2 c = search needs
+
+returns-4 : tie.Need-returns-4
+returns-4 c =
+    let a = (c .before .before .before .before .before .before .before .before .before .before .before .before .before .before .before .before .before .args) in
+    let g = sym ((c .before .before .before .before .before .before .before .before .before .before .before .before .before .before .good-n .ensures)) ∙ not-false _ (c .before .before .before .before .before .before .before .before .before .before .before .before .before .if1 .left) in
+    read-accepted (a .text .now) (a .bank) (a .n) (a .image .now) g ((c .before .before .before .before .before .before .before .before .before .before .before .before .if2 .left)) ((c .before .before .before .before .before .before .wide4 .ensures .0) ∙ (c .before .before .before .before .before .before .before .start-address .ensures)) ((c .before .before .before .before .before .before .before .before .before .before .fill .ensures))
+    (rw ((c .enum-told .given .1)) at ((c .before .before .before .before .read-lines .ensures)))
+
+pub read-spec : {M : Type 1} → statement M
+read-spec =
+    tie.close
+    (tie.spec
+    good-n-requires
+    returns
+    mul-if2
+    returns-2
+    fill-requires
+    start-address-requires
+    wide4-requires
+    read-lines-requires
+    enum-known-outcome
+    fill-requires-2
+    enum-told
+    same-length
+    returns-3
+    same-length-2
+    returns-4)

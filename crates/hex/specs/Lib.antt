@@ -1,0 +1,6 @@
+pub mod Digit
+pub mod Line
+pub mod Meaning
+pub mod Places
+pub mod Read
+pub mod Record

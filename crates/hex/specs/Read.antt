@@ -1,0 +1,110 @@
+-- A text read into the image of a bank (01, 'Hex text'), and what comes back.
+-- Assumes nothing.
+use Prim.Native.Nat.{ℕ, _+_, _-_, _*_}
+use mathlib.Core.Path.{_≡_}
+use mathlib.Core.List.{List, [], _∷_}
+use mathlib.Core.Bool.{true, false, cond}
+use lib.ListN.{length, drop, replicate}
+use lib.Seq.{sets}
+use lib.Dec.{eqb}
+use Rattle.bank.specs.declared.layout.Bank.{Bank}
+use Rattle.bank.specs.Layout.{sectorSize, goodN, startOf}
+use Rattle.hex.specs.declared.fault.Kind.{Kind}
+use Rattle.hex.specs.declared.fault.Kind.the-variants.{H1, H2, H3, H4, H5, H6}
+use Rattle.hex.specs.declared.record.State.{State}
+use Rattle.hex.specs.declared.record.Found.{Found}
+use Rattle.hex.specs.declared.record.Found.the-variants.{Fault, Data, Upper, End, Other}
+use Rattle.hex.specs.declared.read.Answer.{Answer}
+use Rattle.hex.specs.declared.read.Answer.the-variants.{BadN, BadLength, Refused, Accepted}
+use Rattle.hex.specs.declared.read.Outcome.{Outcome}
+use Rattle.hex.specs.declared.read.Outcome.the-variants.{Stopped, Through}
+use Rattle.hex.specs.Digit.{bytesOf}
+use Rattle.hex.specs.Line.{lines}
+use Rattle.hex.specs.Record.{dataOf, foundOf}
+
+-- WHAT A LINE CHANGES: the upper half, the end of the data, whether the end record was seen
+abbrev pub stateAfter : Found → State → State
+stateAfter (Fault k) s = s
+stateAfter (Data start n) s = record { upper = s .upper; last = start + n; over = s .over }
+stateAfter (Upper u) s = record { upper = u; last = s .last; over = s .over }
+stateAfter End s = record { upper = s .upper; last = s .last; over = true }
+stateAfter Other s = s
+
+-- and the image: the data go to their addresses
+abbrev pub imageAfter : ℕ → List ℕ → Found → List ℕ → List ℕ
+imageAfter base line (Fault k) image = image
+imageAfter base line (Data start n) image = sets image (start - base) (dataOf n (bytesOf (drop 1 line)))
+imageAfter base line (Upper u) image = image
+imageAfter base line End image = image
+imageAfter base line Other image = image
+
+-- LINE AFTER LINE
+pub record Done : Type 0 where
+  pub outcome : Outcome
+  pub image : List ℕ
+
+-- "A refused text leaves the image all 0xFF"
+abbrev pub refused : ℕ → Kind → ℕ → Done
+refused size k line = record { outcome = Stopped (record { kind = k; line = line }); image = replicate size 0xFF }
+
+-- behind the last line: "no type 01 record (line number one past the last)"
+abbrev pub finishOf : State → ℕ → Outcome
+finishOf s line = cond (s .over) Through (Stopped (record { kind = H6; line = line }))
+
+abbrev pub goes : Found → (Kind → Done) → Done → Done
+goes (Fault k) stop d = stop k
+goes (Data start n) stop d = d
+goes (Upper u) stop d = d
+goes End stop d = d
+goes Other stop d = d
+
+-- from line number k on, up to the first fault
+unfoldable pub readLines : ℕ → ℕ → State → ℕ → List ℕ → List (List ℕ) → Done
+readLines base size s k image [] = cond (s .over) (record { outcome = Through; image = image }) (refused size H6 k)
+readLines base size s k image (l ∷ ls) =
+    goes (foundOf base size s l) (λ f. refused size f k)
+    (readLines base size (stateAfter (foundOf base size s l) s) (k + 1) (imageAfter base l (foundOf base size s l) image) ls)
+
+-- "The upper half is 0 until a type 04 record"
+abbrev pub fresh : State
+fresh = record { upper = 0; last = 0; over = false }
+
+-- THE TEXT
+pub record Reading : Type 0 where
+  pub answer : Answer
+  pub image : List ℕ
+
+abbrev pub answerOf : Outcome → Answer
+answerOf (Stopped r) = Refused r
+answerOf Through = Accepted
+
+abbrev pub answered : Done → Reading
+answered d = record { answer = answerOf (d .outcome); image = d .image }
+
+-- "Hex reader: 3, 2, then the H faults"; the first two leave the image as it was
+unfoldable pub readOf : List ℕ → Bank → ℕ → List ℕ → Reading
+readOf text bank n image =
+    cond (goodN n)
+    (cond (eqb (length image) (sectorSize * n))
+    (answered (readLines (startOf bank) (sectorSize * n) fresh 1 (replicate (sectorSize * n) 0xFF) (lines text)))
+    (record { answer = BadLength; image = image }))
+    (record { answer = BadN; image = image })
+
+-- the paper's number of each fault, H1 to H6, and of each answer: 3, 2, and 0 where it gives none
+abbrev pub kindNumber : Kind → ℕ
+kindNumber H1 = 1
+kindNumber H2 = 2
+kindNumber H3 = 3
+kindNumber H4 = 4
+kindNumber H5 = 5
+kindNumber H6 = 6
+
+abbrev pub answerNumber : Answer → ℕ
+answerNumber BadN = 3
+answerNumber BadLength = 2
+answerNumber (Refused r) = 0
+answerNumber Accepted = 0
+
+pub record Read·Is (text : List ℕ) (bank : Bank) (n : ℕ) (before after : List ℕ) (r : Answer) : Type 0 where
+  pub answer : r ≡ readOf text bank n before .answer
+  pub image : after ≡ readOf text bank n before .image

@@ -1,0 +1,83 @@
+-- A line's record, and what it says to a bank (01, 'Hex text': "Per line, first fault of").
+-- Assumes nothing.
+use Prim.Native.Nat.{ℕ, zero, suc, _+_, _*_, _%_}
+use mathlib.Core.List.{List, [], _∷_}
+use mathlib.Core.Bool.{Bool, _&&_, cond}
+use lib.ListN.{length, getD, take, drop}
+use lib.Dec.{eqb, leb}
+use Rattle.hex.specs.declared.fault.Kind.the-variants.{H1, H2, H3, H4, H5, H6}
+use Rattle.hex.specs.declared.record.State.{State}
+use Rattle.hex.specs.declared.record.Found.{Found}
+use Rattle.hex.specs.declared.record.Found.the-variants.{Fault, Data, Upper, End, Other}
+use Rattle.hex.specs.Digit.{isDigit, bytesOf}
+
+-- A LINE, READ FROM LEFT TO RIGHT: a whole record's bytes, or the place, counted from 1, of the first byte that does not belong. A line
+-- that stops early has that place one past its end.
+pub data Spelled : Type 0 where
+  Whole : List ℕ → Spelled
+  Broken : ℕ → Spelled
+
+-- how many digits a list begins with, of as many as are due
+unfoldable pub digitsIn : ℕ → List ℕ → ℕ
+digitsIn zero l = 0
+digitsIn (suc due) [] = 0
+digitsIn (suc due) (c ∷ l) = cond (isDigit c) (suc (digitsIn due l)) 0
+
+-- THE BYTES OF A RECORD: count, address (2), type, as many data bytes as the count says, checksum
+abbrev pub countOf : List ℕ → ℕ
+countOf r = getD r 0 0
+
+abbrev pub addressOf : List ℕ → ℕ
+addressOf r = getD r 1 0 * 256 + getD r 2 0
+
+abbrev pub typeOf : List ℕ → ℕ
+typeOf r = getD r 3 0
+
+abbrev pub dataOf : ℕ → List ℕ → List ℕ
+dataOf n r = take n (drop 4 r)
+
+-- the digits "of the counted length" behind the colon (a count that isn't spelled says 256, and the digits stop within it)
+abbrev pub dueOf : List ℕ → ℕ
+dueOf digits = 2 * (countOf (bytesOf digits) + 5)
+
+-- all that are due, and nothing behind them
+unfoldable pub digitsWhole : List ℕ → Bool
+digitsWhole digits = eqb (digitsIn (dueOf digits) digits) (dueOf digits) && eqb (length digits) (dueOf digits)
+
+-- byte 1 is a colon, and the digits start at byte 2
+unfoldable pub recordOf : List ℕ → Spelled
+recordOf [] = Broken 1
+recordOf (c ∷ digits) =
+    cond (eqb c 0x3A)
+    (cond (digitsWhole digits) (Whole (bytesOf digits)) (Broken (digitsIn (dueOf digits) digits + 2)))
+    (Broken 1)
+
+unfoldable pub total : List ℕ → ℕ
+total [] = 0
+total (b ∷ bs) = b + total bs
+
+-- WHAT A RECORD SAYS to a bank of `size` bytes from address `base` on. "Data of count 0" says nothing; H4 comes before H5. Addresses
+-- are plain numbers: nothing wraps, and a carry stays out of the upper half.
+unfoldable pub dataAt : ℕ → ℕ → ℕ → ℕ → ℕ → Found
+dataAt base size last start n =
+    cond (eqb n 0) Other
+    (cond (leb base start && leb (start + n) (base + size)) (cond (leb last start) (Data start n) (Fault H5)) (Fault H4))
+
+-- by its type; `upper` and `last` come from the lines before
+unfoldable pub typed : ℕ → ℕ → ℕ → ℕ → List ℕ → Found
+typed base size upper last r =
+    cond (eqb (typeOf r) 0) (dataAt base size last (upper * 65536 + addressOf r) (countOf r))
+    (cond (eqb (addressOf r) 0)
+    (cond (eqb (typeOf r) 1 && eqb (countOf r) 0) End
+    (cond (eqb (typeOf r) 4 && eqb (countOf r) 2) (Upper (getD r 4 0 * 256 + getD r 5 0))
+    (cond (eqb (typeOf r) 5 && eqb (countOf r) 4) Other (Fault H3))))
+    (Fault H3))
+
+-- "the record's bytes don't add to 0 modulo 256"
+abbrev pub says : ℕ → ℕ → State → Spelled → Found
+says base size s (Whole r) = cond (eqb (total r % 256) 0) (typed base size (s .upper) (s .last) r) (Fault H2)
+says base size s (Broken place) = Fault H1
+
+-- what a line says: its first fault, or what it is to change; behind the end record it is H6 "without being read"
+unfoldable pub foundOf : ℕ → ℕ → State → List ℕ → Found
+foundOf base size s line = cond (s .over) (Fault H6) (says base size s (recordOf line))

@@ -1,0 +1,161 @@
+// A text, line after line, into the image of a bank.
+use crate::fault::Kind;
+use crate::fault::Refusal;
+use crate::line::Ahead;
+use crate::line::Line;
+use crate::record::Found;
+use crate::record::State;
+use bank::layout::Bank;
+ghost use mathlib.Core.Path.{_≡_};
+ghost use Prim.Native.Nat.{_<_};
+ghost use lib.ListN.{length};
+ghost use lib.Seq.{sets, slice};
+ghost use Rattle.hex.specs.Line.{lines};
+ghost use Rattle.hex.specs.Record.{foundOf};
+ghost use Rattle.hex.specs.Read.{imageAfter, readLines, fresh, finishOf, Read·Is};
+ghost use Rattle.hex.specs.Places.{bytesAt, LookFits, StoreFits, Took, Came};
+
+// What comes back of a text.
+pub enum Answer {
+    // The number of sectors is no bank's.
+    BadN,
+    // The image has another length than the bank.
+    BadLength,
+    Refused(Refusal),
+    Accepted,
+}
+
+// What came of the lines.
+pub enum Outcome {
+    Stopped(Refusal),
+    Through,
+}
+
+// What came of a line.
+pub(crate) enum Step {
+    Stop(Kind),
+    On(State),
+}
+
+// The bytes that `n` pairs of digits from `from` spell go into the image from `at` on.
+fn store(text: &[u8], from: usize, n: usize, image: &mut [u8], at: usize)
+    requires { ⌜ StoreFits (now text) from n (now image) at ⌝ }
+    ensures { λ _. ⌜ now (image .exit) ≡ sets (now (image .entry)) at (bytesAt (now (text .entry)) from n) ⌝ }
+{
+    let mut p = from;
+    let mut a = at;
+    let mut left = n;
+    while 0 < left {
+        image[a] = crate::digit::value_at(text, p);
+        p += 2;
+        a += 1;
+        left -= 1;
+    }
+}
+
+// One line: looked at, and what it says done.
+fn take_line(
+    text: &[u8],
+    from: usize,
+    to: usize,
+    base: usize,
+    state: State,
+    image: &mut [u8],
+) -> Step
+    requires { ⌜ LookFits (now text) from to base (length (now image)) state ⌝ }
+    ensures { λ r. ⌜ Took base state (slice from to (now (text .entry))) (now (image .entry)) (now (image .exit)) r ⌝ }
+{
+    let seen = crate::record::look(text, from, to, base, image.len(), state);
+    match seen {
+        Found::Fault(kind) => Step::Stop(kind),
+        Found::Data { start, n } => {
+            store(text, from + 9, n, image, start - base);
+            Step::On(State {
+                upper: state.upper,
+                last: start + n,
+                over: state.over,
+            })
+        }
+        Found::Upper(upper) => Step::On(State {
+            upper,
+            last: state.last,
+            over: state.over,
+        }),
+        Found::End => Step::On(State {
+            upper: state.upper,
+            last: state.last,
+            over: true,
+        }),
+        Found::Other => Step::On(state),
+    }
+}
+
+// After the last line: whether the end record was seen.
+fn finish(state: State, line: usize) -> Outcome
+    ensures { λ r. ⌜ r ≡ finishOf state line ⌝ }
+{
+    if state.over {
+        return Outcome::Through;
+    }
+    Outcome::Stopped(Refusal {
+        kind: Kind::H6,
+        line,
+    })
+}
+
+// Line after line, up to the first fault.
+fn read_lines(text: &[u8], base: usize, image: &mut [u8]) -> Outcome
+    requires { ⌜ (base < 4294967296) × (length (now image) < 4294967296) ⌝ }
+    ensures { λ r. ⌜ Came (readLines base (length (now (image .entry))) fresh 1 (now (image .entry)) (lines (now (text .entry)))) r (now (image .exit)) ⌝ }
+{
+    let mut state = State {
+        upper: 0,
+        last: 0,
+        over: false,
+    };
+    let mut at = 0;
+    let mut line: usize = 1;
+    loop {
+        let found = crate::line::ahead_of(text, at);
+        match found {
+            Ahead::Nothing => return finish(state, line),
+            Ahead::One(l) => {
+                let step = take_line(text, at, l.end, base, state, image);
+                match step {
+                    Step::Stop(kind) => return Outcome::Stopped(Refusal { kind, line }),
+                    Step::On(s) => state = s,
+                }
+                at = l.next;
+                line += 1;
+            }
+        }
+    }
+}
+
+fn wide4(number: u32) -> usize
+    ensures { λ r. ⌜ (r ≡ number) × (r < 4294967296) ⌝ }
+{
+    number as usize
+}
+
+// The text's bytes in the image of a bank of `n` sectors.
+pub fn read(text: &[u8], bank: Bank, n: usize, image: &mut [u8]) -> Answer
+    ensures { λ r. ⌜ Read·Is (now (text .entry)) bank n (now (image .entry)) (now (image .exit)) r ⌝ }
+{
+    if !bank::layout::good_n(n) {
+        return Answer::BadN;
+    }
+    if image.len() != bank::layout::SECTOR * n {
+        return Answer::BadLength;
+    }
+    buffer::fill::fill(image, 0xFF);
+    let base = wide4(bank::layout::start_address(bank));
+    let outcome = read_lines(text, base, image);
+    match outcome {
+        Outcome::Stopped(refusal) => {
+            buffer::fill::fill(image, 0xFF);
+            Answer::Refused(refusal)
+        }
+        Outcome::Through => Answer::Accepted,
+    }
+}

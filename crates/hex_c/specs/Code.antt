@@ -1,0 +1,20 @@
+-- The hex reader's answer as one number, for a caller in C.
+-- Assumes nothing.
+use Prim.Native.Nat.{ℕ, _+_}
+use mathlib.Core.Path.{_≡_}
+use mathlib.Core.List.{List}
+use Rattle.bank.specs.declared.layout.Bank.the-variants.{Zero}
+use Rattle.hex.specs.declared.read.Answer.{Answer}
+use Rattle.hex.specs.declared.read.Answer.the-variants.{BadN, BadLength, Refused, Accepted}
+use Rattle.hex.specs.Read.{kindNumber, readOf}
+
+-- the paper's number, 11 to 16 for H1 to H6, and 0 for an accepted text
+abbrev pub codeOf : Answer → ℕ
+codeOf BadN = 3
+codeOf BadLength = 2
+codeOf (Refused r) = 10 + kindNumber (r .kind)
+codeOf Accepted = 0
+
+pub record Code·Is (text : List ℕ) (n : ℕ) (before after : List ℕ) (r : ℕ) : Type 0 where
+  pub code : r ≡ codeOf (readOf text Zero n before .answer)
+  pub image : after ≡ readOf text Zero n before .image
