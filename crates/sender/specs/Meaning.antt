@@ -1,0 +1,2 @@
+-- What the definitions of the sender come to.
+-- Assumes nothing.
