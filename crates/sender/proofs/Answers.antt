@@ -1,21 +1,18 @@
 -- A response as a client writes it is read back as it was written.
 -- Assumes nothing.
 use mathlib.Core.Path.{_≡_, refl, sym, ap, ap₂, _∙_}
-use mathlib.Core.Bool.{Bool, true, false, _&&_}
+use mathlib.Core.Bool.{true, false}
 use mathlib.Core.List.{List, [], _∷_, _++_}
-use Prim.Native.Nat.{ℕ, _+_, _*_, _/_, _%_, _^_, _≤_, _<_}
+use Prim.Native.Nat.{ℕ, _+_, _*_, _/_, _%_, _^_, _<_}
 use native.Mathlib.Omega.{arith}
-use lib.Dec.{eqb, lit<}
-use lib.ListN.{length, take, drop, length-append}
+use lib.Dec.{eqb}
+use lib.ListN.{length, take, length-append}
 use lib.Seq.{take-all, drop-at}
-use borrow.Author.Tests.{eq-eqb, ne-eqb}
+use borrow.Author.Tests.{ne-eqb}
 use Rattle.buffer.specs.Number.{numberOf, bytesOf, numberAt}
 use Rattle.buffer.proofs.Numbers.{number-inside, number-two, number-bytes, length-bytes, bytes-two}
 use Rattle.frame.specs.Frame.{controlFrame, writeFrame}
-use Rattle.frame.specs.Read.{byteAt, parametersOf, readOf}
-use Rattle.frame.specs.Read.{writtenOf as bytesIn}
 use Rattle.frame.specs.declared.read.Footer.the-variants.{End}
-use Rattle.frame.specs.declared.read.Read.the-variants.{Control, Write}
 use Rattle.frame.proofs.RoundTrip.{control-back, control-parameters, write-back, write-bytes}
 use Rattle.bank.specs.Layout.{bankNumber}
 use Rattle.bank.specs.declared.layout.Bank.{Bank}
@@ -23,9 +20,8 @@ use Rattle.bank.specs.declared.layout.Bank.the-variants.{Zero, One}
 use Rattle.sender.specs.declared.response.Kind.{Kind}
 use Rattle.sender.specs.declared.response.Kind.the-variants.{BankInfo, Version, Packet}
 use Rattle.sender.specs.declared.response.Coded.the-variants.{Answers}
-use Rattle.sender.specs.declared.response.Response.{Response}
 use Rattle.sender.specs.declared.response.Response.the-variants.{Plain, Target, Firmware, Written}
-use Rattle.sender.specs.Response.{kindOf, mayCarry, addsOf, addedOf, acceptedOf, targetOf, controlOf, repeatsOf, crcFits, writtenOf, responseOf}
+use Rattle.sender.specs.Response.{kindOf, mayCarry, addsOf, acceptedOf, targetOf, controlOf, repeatsOf, crcFits, writtenOf, responseOf}
 use Rattle.sender.proofs.Responses.{adds-none, adds-some, is-plain, is-accepted, is-written, from-control, from-write}
 
 -- a control frame, by its code and parameters

@@ -4,10 +4,10 @@ use mathlib.Core.Path.{_≡_, refl, sym, ap, ap₂, subst, _∙_}
 use mathlib.Core.Bool.{Bool, true, false, _&&_, false≢true, cond}
 use mathlib.Core.List.{List, [], _∷_, _++_, append-assoc, append-nil}
 use Prim.Native.Nat.{ℕ, zero, suc, _+_, _-_, _*_, _≤_, _<_}
-use native.Mathlib.Decide.{decLe, decLt}
+use native.Mathlib.Decide.{decLe}
 use native.Mathlib.Numerals.{add-one}
 use native.Mathlib.Omega.{arith}
-use lib.Dec.{eqb, leb, ltb}
+use lib.Dec.{leb, ltb}
 use lib.ListN.{length, getD, take, drop, replicate, length-append, length-replicate, replicate-append-replicate, List·getD-append}
 use lib.Seq.{take-add, take-all, getD-at, drop-at, length-take-le}
 use borrow.Author.Tests.{eq-eqb, ne-eqb, ltb-false}
@@ -15,17 +15,14 @@ use Rattle.buffer.specs.Compare.{blankOf}
 use Rattle.buffer.specs.Place.{placeOf}
 use Rattle.buffer.proofs.Comparing.{blank-true}
 use Rattle.buffer.proofs.Places.{place-next}
-use Rattle.frame.specs.Frame.{writeFrame}
 use Rattle.frame.specs.Read.{readOf}
 use Rattle.frame.specs.Read.{writtenOf as bytesIn}
 use Rattle.frame.specs.declared.read.Footer.{Footer}
 use Rattle.frame.specs.declared.read.Footer.the-variants.{End, Continued}
-use Rattle.frame.specs.declared.read.Read.{Read}
 use Rattle.frame.specs.declared.read.Read.the-variants.{Write}
 use Rattle.frame.proofs.RoundTrip.{write-back, write-bytes}
 use Rattle.bank.specs.Layout.{goodN, sectorOffset}
-use Rattle.bank.proofs.Layouts.{good-high}
-use Rattle.sender.specs.declared.made.Made.{Made}
+use Rattle.bank.proofs.Layouts.{good-below}
 use Rattle.sender.specs.declared.made.Made.the-variants.{BadN, BadLength, PastLast, Frame}
 use Rattle.sender.specs.Packet.{sectorOf, sentOf, packetCount, packetSector, footerOf, packetFrame, imageGood, packetMade}
 use Rattle.sender.specs.Meaning.{putBack, restored}
@@ -92,7 +89,7 @@ module _ (image : List ℕ) (n p : ℕ) (g : goodN n ≡ true) (e : length image
   data-length : length (sectorOf image (packetSector image n p)) ≡ 512
   data-length =
       let s : Sent image n (packetSector image n p) = sent-in image n p h in
-      sector-length image n (good-high n g) e (packetSector image n p) (s .low) (s .high)
+      sector-length image n g e (packetSector image n p) (s .low) (s .high)
 
   pub packet-read : Write (packetSector image n p) 512 (footerOf (packetCount image n) p) ≡ readOf (packetFrame image n p)
   unfolding packetFrame
@@ -144,7 +141,7 @@ module _ (image : List ℕ) (n : ℕ) (g : goodN n ≡ true) (e : length image �
   sector-at : (k : ℕ) → k < n → 512 * k ≡ sectorOffset (suc k)
   sector-at k h =
       let c : 512 * k ≡ k * 512 = omega arith in
-      c ∙ sector-from k (omega (arith, good-high n g)) ∙ ap sectorOffset (add-one k)
+      c ∙ sector-from k (good-below n g (k + 1) (omega arith) (omega arith)) ∙ ap sectorOffset (add-one k)
 
   sector-behind : (k : ℕ) → k < n → take (512 * suc k) image ≡ take (512 * k) image ++ sectorOf image (suc k)
   unfolding sectorOf
@@ -161,7 +158,7 @@ module _ (image : List ℕ) (n : ℕ) (g : goodN n ≡ true) (e : length image �
       ap (λ (j : ℕ). replicate j 0xFF) m ∙ sym (replicate-append-replicate 512 (512 * (n - suc k)) 0xFF)
 
   whole : (k : ℕ) → k < n → length (sectorOf image (suc k)) ≡ 512
-  whole k h = sector-length image n (good-high n g) e (suc k) (omega arith) (omega arith)
+  whole k h = sector-length image n g e (suc k) (omega arith) (omega arith)
 
   begun-more : (k : ℕ) → k < n → take (512 * k) image ++ sectorOf image (suc k) ++ blanks (suc k) ≡ begun (suc k)
   unfolding begun

@@ -1,14 +1,14 @@
 -- Each way out of the making of a control frame and of a request.
 -- Assumes nothing.
-use mathlib.Core.Path.{_≡_, refl, sym, ap, ap₂, subst, _∙_}
+use mathlib.Core.Path.{_≡_, sym, ap, ap₂, subst, _∙_}
 use mathlib.Core.Bool.{true, false}
-use mathlib.Core.List.{List, [], _∷_, _++_, append-nil}
+use mathlib.Core.List.{List, [], _++_, append-nil}
 use Prim.Native.Nat.{ℕ, _+_, _≤_, _<_}
 use native.Mathlib.Omega.{arith}
-use lib.ListN.{length, drop, length-append}
+use lib.ListN.{length, drop}
 use borrow.Author.Tests.{le-leb, lt-leb}
 use Rattle.buffer.specs.Number.{bytesOf}
-use Rattle.buffer.specs.Place.{placeOf, frontOf}
+use Rattle.buffer.specs.Place.{placeOf}
 use Rattle.buffer.proofs.Numbers.{length-bytes}
 use Rattle.buffer.proofs.Places.{place-front, front-fits, place-next}
 use Rattle.frame.specs.Frame.{controlFrame}

@@ -1,13 +1,12 @@
 -- The sectors that are sent, and each way out of the packets.
 -- Assumes nothing.
 use mathlib.Core.Path.{_≡_, refl, sym, ap, ap₂, _∙_}
-use mathlib.Core.Bool.{Bool, true, false, _&&_, cond}
+use mathlib.Core.Bool.{Bool, true, false, cond}
 use mathlib.Core.List.{List, [], _∷_, _++_, append-nil}
 use Prim.Native.Nat.{ℕ, zero, suc, _+_, _-_, _*_, _≤_, _<_}
 use native.Mathlib.Decide.{decLt}
 use native.Mathlib.Numerals.{add-one}
 use native.Mathlib.Omega.{arith}
-use lib.Dec.{eqb, leb, ltb}
 use lib.ListN.{length, getD, take, drop, length-append, List·getD-append, List·getD-eq-default}
 use lib.Seq.{getD-at}
 use borrow.Author.Tests.{eq-eqb, ne-eqb, le-leb, lt-leb, lt-ltb, le-ltb}
@@ -17,33 +16,28 @@ use Rattle.buffer.proofs.Parts.{part-out, part-length}
 use Rattle.frame.specs.Frame.{writeFrame}
 use Rattle.frame.specs.Write.{putWrite}
 use Rattle.frame.specs.declared.read.Footer.{Footer}
-use Rattle.frame.specs.declared.read.Footer.the-variants.{End, Continued}
 use Rattle.frame.proofs.Writing.{length-write, write-front}
 use Rattle.bank.specs.Layout.{goodN, sectorOffset}
-use Rattle.bank.proofs.Layouts.{good-some, good-high, offset-good}
+use Rattle.bank.proofs.Layouts.{good-high, good-below, offset-good}
 use Rattle.sender.specs.declared.made.Made.{Made}
 use Rattle.sender.specs.declared.made.Made.the-variants.{BadN, BadLength, PastLast, Frame}
 use Rattle.sender.specs.declared.packet.Seen.{Seen}
-use Rattle.sender.specs.declared.packet.Tally.{Tally}
 use Rattle.sender.specs.declared.packet.Tally.the-variants.{BadN as NoBank, BadLength as NoImage, Packets}
 use Rattle.sender.specs.Made.{standing}
 use Rattle.sender.specs.Packet.{sectorOf, sentOf, packetCount, packetSector, footerOf, packetFrame, packetMade, tallyOf, seenOf, Packet·Is}
 
 -- ---- a sector of an image
 
-pub good-within : (k : ℕ) → 1 ≤ k → k ≤ 491 → goodN k ≡ true
-good-within k l h = sym (good-some k l) ∙ le-leb k 491 h
-
 -- the sector behind the first k, as it lies
-pub sector-from : (k : ℕ) → k < 491 → k * 512 ≡ sectorOffset (k + 1)
-sector-from k h =
+pub sector-from : (k : ℕ) → goodN (k + 1) ≡ true → k * 512 ≡ sectorOffset (k + 1)
+sector-from k g =
     let less : k ≡ k + 1 - 1 = omega arith in
-    ap (λ (j : ℕ). j * 512) less ∙ offset-good (k + 1) (good-within (k + 1) (omega arith) (omega arith))
+    ap (λ (j : ℕ). j * 512) less ∙ offset-good (k + 1) g
 
-module _ (image : List ℕ) (n : ℕ) (h : n ≤ 491) (e : length image ≡ 512 * n) where
+module _ (image : List ℕ) (n : ℕ) (g : goodN n ≡ true) (e : length image ≡ 512 * n) where
   pub sector-end : (k : ℕ) → 1 ≤ k → k ≤ n → sectorOffset k + 512 ≤ length image
   sector-end k l u =
-      let o : (k - 1) * 512 ≡ sectorOffset k = offset-good k (good-within k l (omega arith)) in
+      let o : (k - 1) * 512 ≡ sectorOffset k = offset-good k (good-below n g k l u) in
       omega arith
 
   pub sector-length : (k : ℕ) → 1 ≤ k → k ≤ n → length (sectorOf image k) ≡ 512
@@ -167,7 +161,7 @@ module _ (image : List ℕ) (n p : ℕ) (g : goodN n ≡ true) where
   pub packet-end : length image ≡ 512 * n → (k : ℕ) → p < packetCount image n → k ≡ packetSector image n p → sectorOffset k + 512 ≤ length image
   packet-end l k q e =
       let s : Sent image n (packetSector image n p) = sent-in image n p q in
-      rw e (sector-end image n (good-high n g) l (packetSector image n p) (s .low) (s .high))
+      rw e (sector-end image n g l (packetSector image n p) (s .low) (s .high))
 
 -- ---- each way out
 
@@ -190,7 +184,7 @@ module _ (image : List ℕ) (n p : ℕ) where
   frame-length g e q =
       let k : ℕ = packetSector image n p in
       let s : Sent image n k = sent-in image n p q in
-      let l : length (sectorOf image k) ≡ 512 = sector-length image n (good-high n g) e k (s .low) (s .high) in
+      let l : length (sectorOf image k) ≡ 512 = sector-length image n g e k (s .low) (s .high) in
       omega (arith, length-write k (sectorOf image k) (footerOf (packetCount image n) p))
 
   module _ (size : ℕ) where
@@ -232,7 +226,7 @@ module _ (image : List ℕ) (n p : ℕ) where
       let part : List ℕ = take (from + 512 - from) (drop from image) in
       let b : part ≡ sectorOf image (packetSector image n p) =
       part-out image from 512 ∙ ap (λ (i : ℕ). take 512 (drop i image)) (o ∙ ap sectorOffset k) in
-      let l : length part ≡ 512 = ap length b ∙ sector-length image n (good-high n g) e (packetSector image n p) (s .low) (s .high) in
+      let l : length part ≡ 512 = ap length b ∙ sector-length image n g e (packetSector image n p) (s .low) (s .high) in
       record {
         answered = m;
         stands =

@@ -1,9 +1,9 @@
 -- Each way out of the reading of a response.
 -- Assumes nothing.
 use mathlib.Core.Path.{_≡_, refl, sym, ap, _∙_}
-use mathlib.Core.Bool.{Bool, true, false, _&&_, cond}
-use mathlib.Core.List.{List, []}
-use Prim.Native.Nat.{ℕ, zero, suc, _+_, _≤_, _<_}
+use mathlib.Core.Bool.{true, false}
+use mathlib.Core.List.{List}
+use Prim.Native.Nat.{ℕ, _+_, _≤_}
 use native.Mathlib.Omega.{arith}
 use lib.Dec.{eqb}
 use lib.ListN.{length}
@@ -13,11 +13,9 @@ use Rattle.buffer.proofs.Bools.{split}
 use Rattle.frame.specs.Read.{byteAt, parametersOf, readOf}
 use Rattle.frame.specs.Read.{writtenOf as bytesIn}
 use Rattle.frame.specs.declared.read.Footer.the-variants.{End, Continued}
-use Rattle.frame.specs.declared.read.Read.{Read}
 use Rattle.frame.specs.declared.read.Read.the-variants.{Fault, Control, Write}
 use Rattle.sender.specs.declared.response.Kind.{Kind}
 use Rattle.sender.specs.declared.response.Kind.the-variants.{ModeStart, BankInfo, Version, WriteStart, Packet, WriteEnd, ModeEnd, Error}
-use Rattle.sender.specs.declared.response.Coded.{Coded}
 use Rattle.sender.specs.declared.response.Coded.the-variants.{Unknown, Answers}
 use Rattle.sender.specs.declared.response.Response.{Response}
 use Rattle.sender.specs.declared.response.Response.the-variants.{Unreadable, Plain, Written}

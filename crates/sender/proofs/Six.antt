@@ -3,12 +3,13 @@
 use mathlib.Core.Path.{_≡_, refl, sym, ap, _∙_}
 use mathlib.Core.Bool.{Bool, true, false, not, _&&_, _||_, cond, or-false}
 use mathlib.Core.List.{List}
-use Prim.Native.Nat.{ℕ, zero, suc, _+_, _<_}
+use Prim.Native.Nat.{ℕ, _+_, _<_}
 use native.Mathlib.Omega.{arith}
 use lib.Dec.{eqb, ltb}
 use lib.ListN.{length}
 use borrow.Author.Tests.{eqb-true, eqb-false, lt-ltb, le-ltb}
 use Rattle.buffer.specs.Number.{numberAt}
+use Rattle.buffer.proofs.Bools.{and-false}
 use Rattle.frame.specs.Read.{byteAt, readOf}
 use Rattle.frame.specs.Read.{writtenOf as bytesIn}
 use Rattle.frame.specs.declared.read.Footer.the-variants.{End, Continued}
@@ -45,10 +46,6 @@ tests true false s bank accepted kind result e = refl
 tests true true true bank accepted kind result e = e
 tests true true false bank accepted kind result e = refl
 
-and-none : (s : Bool) → (s && false) ≡ false
-and-none true = refl
-and-none false = refl
-
 -- of a kind whose result 06 leaves nothing unread
 plain-six : (kind : Kind) (parameters : List ℕ) → unreadable (acceptedOf kind parameters) ≡ false
     → unreadable (answerOf (Answers kind) parameters) ≡ (kindResult (Answers kind) parameters || kindLength (Answers kind) parameters || false)
@@ -58,7 +55,7 @@ plain-six kind parameters e =
     let l : Bool = eqb (length parameters) (addedOf kind (byteAt parameters 0) + 1) in
     let s : Bool = eqb (byteAt parameters 0) 0x06 in
     tests m l s false (acceptedOf kind parameters) kind (byteAt parameters 0) e
-    ∙ ap (λ (b : Bool). not m || not l || b) (and-none s)
+    ∙ ap (λ (b : Bool). not m || not l || b) (and-false s)
 
 coded-six : (c : Coded) (parameters : List ℕ)
     → unreadable (answerOf c parameters) ≡ (unknown c || kindResult c parameters || kindLength c parameters || kindBank c parameters)

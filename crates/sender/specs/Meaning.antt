@@ -1,7 +1,7 @@
 -- What the sender's definitions come to: number 6 by its list of causes, and an image put together from its packets.
 -- Assumes nothing.
 use mathlib.Core.Bool.{Bool, true, false, not, _&&_, _||_}
-use mathlib.Core.List.{List, [], _∷_}
+use mathlib.Core.List.{List}
 use Prim.Native.Nat.{ℕ, zero, suc, _+_, _*_}
 use lib.Dec.{eqb, ltb}
 use lib.ListN.{length, replicate}
@@ -14,7 +14,6 @@ use Rattle.frame.specs.declared.read.Footer.the-variants.{End, Continued}
 use Rattle.frame.specs.declared.read.Read.{Read}
 use Rattle.frame.specs.declared.read.Read.the-variants.{Fault, Control, Write}
 use Rattle.bank.specs.Layout.{sectorSize, sectorOffset}
-use Rattle.sender.specs.declared.response.Kind.{Kind}
 use Rattle.sender.specs.declared.response.Kind.the-variants.{ModeStart, BankInfo, Version, WriteStart, Packet, WriteEnd, ModeEnd, Error}
 use Rattle.sender.specs.declared.response.Coded.{Coded}
 use Rattle.sender.specs.declared.response.Coded.the-variants.{Unknown, Answers}

@@ -9,7 +9,6 @@ use lib.ListN.{length}
 use Rattle.buffer.specs.Number.{numberAt}
 use Rattle.frame.specs.Read.{byteAt, parametersOf, readOf}
 use Rattle.frame.specs.Read.{writtenOf as bytesIn}
-use Rattle.frame.specs.declared.read.Footer.{Footer}
 use Rattle.frame.specs.declared.read.Footer.the-variants.{End, Continued}
 use Rattle.frame.specs.declared.read.Read.{Read}
 use Rattle.frame.specs.declared.read.Read.the-variants.{Fault, Control, Write}

@@ -4,8 +4,10 @@ use crate::made::ROOM;
 use bank::layout::SECTOR;
 use frame::read::Footer;
 ghost use mathlib.Core.Path.{_≡_};
+ghost use mathlib.Core.Bool.{true};
 ghost use Prim.Native.Nat.{_+_, _*_, _<_, _≤_};
 ghost use lib.ListN.{length};
+ghost use Rattle.bank.specs.Layout.{sectorSize, goodN};
 ghost use Rattle.sender.specs.Packet.{seenOf, footerOf, Packet·Is, Count·Is};
 
 // How many packets an image has.
@@ -25,8 +27,8 @@ pub(crate) struct Seen {
 
 // The sector behind the first k looked at. It is sent if it has a byte other than 0xFF.
 fn look(image: &[u8], k: usize, p: usize, seen: Seen) -> Seen
-    requires { ⌜ k < 491 ⌝ }
-    requires { ⌜ (k + 1) * 512 ≤ length (now image) ⌝ }
+    requires { ⌜ goodN (k + 1) ≡ true ⌝ }
+    requires { ⌜ (k + 1) * sectorSize ≤ length (now image) ⌝ }
     requires { ⌜ seen ≡ seenOf (now image) k p ⌝ }
     ensures { λ r. ⌜ r ≡ seenOf (now (image .entry)) (k + 1) p ⌝ }
 {
@@ -49,8 +51,8 @@ fn look(image: &[u8], k: usize, p: usize, seen: Seen) -> Seen
 
 // All n sectors looked at, lowest first.
 fn survey(image: &[u8], n: usize, p: usize) -> Seen
-    requires { ⌜ n ≤ 491 ⌝ }
-    requires { ⌜ length (now image) ≡ 512 * n ⌝ }
+    requires { ⌜ goodN n ≡ true ⌝ }
+    requires { ⌜ length (now image) ≡ sectorSize * n ⌝ }
     ensures { λ r. ⌜ r ≡ seenOf (now (image .entry)) n p ⌝ }
 {
     let mut seen = Seen {

@@ -14,7 +14,7 @@ sector-offset-requires : tie.Need-sector-offset-requires
 sector-offset-requires c κs = search needs
 
 add-to : tie.Need-add-to
-add-to c = omega (arith, sector-from ((c .before .before .args .k)) (omega arith), ((c .sector-offset .ensures)))
+add-to c = omega (arith, sector-from ((c .before .before .args .k)) (c .before .before .pre .0), ((c .sector-offset .ensures)))
 
 sub-blank : tie.Need-sub-blank
 sub-blank c = search needs
@@ -23,7 +23,7 @@ part-blank-start : tie.Need-part-blank-start
 part-blank-start c = search needs
 
 part-blank-end : tie.Need-part-blank-end
-part-blank-end c = omega (arith, sector-from ((c .before .before .args .k)) (omega arith), ((c .sector-offset .ensures)))
+part-blank-end c = omega (arith, sector-from ((c .before .before .args .k)) (c .before .before .pre .0), ((c .sector-offset .ensures)))
 
 blank-requires : tie.Need-blank-requires
 blank-requires c κs = search needs

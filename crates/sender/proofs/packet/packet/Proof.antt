@@ -27,7 +27,7 @@ returns-3 : tie.Need-returns-3
 returns-3 c = packet-refused _ _ _ _ _ (made-no-room _ _ _ _ (sym ((c .before .before .before .good-n .ensures)) ∙ not-false _ ((c .before .before .if1 .left))) ((c .before .if2 .left)) (omega arith)) refl
 
 survey-requires : tie.Need-survey-requires
-survey-requires c κs = (good-high _ (sym ((c .before .before .before .good-n .ensures)) ∙ not-false _ ((c .before .before .if1 .left))), ((c .before .if2 .left)))
+survey-requires c κs = ((sym ((c .before .before .before .good-n .ensures)) ∙ not-false _ ((c .before .before .if1 .left))), ((c .before .if2 .left)))
 
 returns-4 : tie.Need-returns-4
 returns-4 c = packet-refused _ _ _ _ _ (made-past _ _ _ _ (sym ((c .before .before .before .before .before .before .good-n .ensures)) ∙ not-false _ ((c .before .before .before .before .before .if1 .left))) ((c .before .before .before .before .if2 .left)) (omega arith) (omega (arith, seen-count ((c .before .before .before .before .before .before .before .before .before .args .image .now)) ((c .before .before .before .before .before .before .before .before .before .args .p)) ((c .before .before .before .before .before .before .before .before .before .args .n)) _ ((c .before .before .survey .ensures))))) refl

@@ -3,6 +3,7 @@
 use mathlib.Core.Path.{_≡_, ap, _∙_}
 use Prim.Native.Nat.{ℕ, _-_, _≤_}
 use native.Mathlib.Omega.{arith}
+use Rattle.bank.proofs.Layouts.{good-below}
 use Rattle.sender.specs.Packet.{seenOf}
 use Rattle.sender.proofs.Packets.{seen-none}
 use Rattle.sender.proofs.packet.survey.Statement.{statement}
@@ -18,7 +19,7 @@ loop-holds : tie.Need-loop-holds Inv-loop μ-loop
 loop-holds c = (omega arith, seen-none _ _)
 
 look-requires : tie.Need-look-requires Inv-loop μ-loop
-look-requires c κs = (omega arith, (omega arith, ((c .before .loop .inv .1))))
+look-requires c κs = (good-below _ ((c .before .before .before .pre .0)) _ (omega arith) (omega arith), (omega arith, ((c .before .loop .inv .1))))
 
 add-k : tie.Need-add-k Inv-loop μ-loop
 add-k c = omega arith
