@@ -7,7 +7,7 @@ use native.Mathlib.Nat.{mul-comm}
 use native.Mathlib.Omega.{arith}
 use lib.Dec.{eqb, leb}
 use borrow.Author.Tests.{eq-eqb, ne-eqb, le-leb, lt-leb, leb-true, eqb-true}
-use Rattle.buffer.proofs.Bools.{and-left, and-right}
+use Rattle.buffer.proofs.Bools.{and-left, and-right, and-both}
 use Rattle.bank.specs.declared.layout.Bank.{Bank}
 use Rattle.bank.specs.declared.layout.Bank.the-variants.{Zero, One}
 use Rattle.bank.specs.declared.layout.Counted.the-variants.{Refused, Sectors}
@@ -35,6 +35,11 @@ module _ (n : ℕ) where
   pub good-high : goodN n ≡ true → n ≤ 491
   unfolding goodN
   good-high e = leb-true n 491 (and-right (leb 1 n) (leb n 491) e)
+
+  -- so is every N below it
+  pub good-below : goodN n ≡ true → (k : ℕ) → 1 ≤ k → k ≤ n → goodN k ≡ true
+  unfolding goodN
+  good-below e k l h = and-both (leb 1 k) (leb k 491) (le-leb 1 k l) (le-leb k 491 (omega (arith, good-high e)))
 
   -- what the length of a bank tells
   pub whole-sectors : wholeLength n ≡ true → n / 512 * 512 ≡ n

@@ -1,0 +1,6 @@
+pub mod Answers
+pub mod Image
+pub mod Making
+pub mod Packets
+pub mod Responses
+pub mod Six

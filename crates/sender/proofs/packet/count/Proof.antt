@@ -1,0 +1,33 @@
+-- `sender::packet::count` meets its contract: each way out is a case of the definition.
+-- Assumes nothing.
+use mathlib.Core.Path.{sym, ap, _∙_}
+use native.Mathlib.Omega.{arith}
+use borrow.Author.Tests.{not-true, not-false}
+use Rattle.bank.proofs.Layouts.{good-high}
+use Rattle.sender.specs.declared.packet.Tally.the-variants.{Packets}
+use Rattle.sender.proofs.Packets.{seen-count, tally-bad-n, tally-bad-image, tally-packets}
+use borrow.Author.Needs.{needs}
+use Rattle.sender.proofs.packet.count.Statement.{statement}
+use Rattle.sender.proofs.packet.count.Tie as tie
+
+good-n-requires : tie.Need-good-n-requires
+good-n-requires c κs = search needs
+
+returns : tie.Need-returns
+returns c = tally-bad-n _ _ (sym ((c .before .good-n .ensures)) ∙ not-true _ ((c .if1 .taken)))
+
+mul-if2 : tie.Need-mul-if2
+mul-if2 c = omega (arith, good-high _ (sym ((c .before .good-n .ensures)) ∙ not-false _ ((c .if1 .left))))
+
+returns-2 : tie.Need-returns-2
+returns-2 c = tally-bad-image _ _ (sym ((c .before .before .good-n .ensures)) ∙ not-false _ ((c .before .if1 .left))) ((c .if2 .taken))
+
+survey-requires : tie.Need-survey-requires
+survey-requires c κs = ((sym ((c .before .before .good-n .ensures)) ∙ not-false _ ((c .before .if1 .left))), ((c .if2 .left)))
+
+returns-3 : tie.Need-returns-3
+returns-3 c = ap Packets (seen-count ((c .before .before .before .before .before .args .image .now)) 0 ((c .before .before .before .before .before .args .n)) _ ((c .survey .ensures))) ∙ tally-packets _ _ (sym ((c .before .before .before .good-n .ensures)) ∙ not-false _ ((c .before .before .if1 .left))) ((c .before .if2 .left))
+
+pub count-spec : {M : Type 1} → statement M
+count-spec =
+    tie.close (tie.spec good-n-requires returns mul-if2 returns-2 survey-requires returns-3)

@@ -1,0 +1,5 @@
+pub mod Made
+pub mod Meaning
+pub mod Packet
+pub mod Request
+pub mod Response

@@ -1,0 +1,77 @@
+-- The sector packets of an image (01, 'Hex text', "The sender sends, lowest first"; 'Frames').
+-- Assumes nothing.
+use mathlib.Core.Path.{_≡_}
+use mathlib.Core.Bool.{Bool, _&&_, cond}
+use mathlib.Core.List.{List, [], _∷_, _++_}
+use Prim.Native.Nat.{ℕ, zero, suc, _+_, _*_}
+use lib.Dec.{eqb, leb, ltb}
+use lib.ListN.{length, getD, take, drop}
+use Rattle.buffer.specs.Compare.{blankOf}
+use Rattle.frame.specs.Frame.{writeFrame}
+use Rattle.frame.specs.declared.read.Footer.{Footer}
+use Rattle.frame.specs.declared.read.Footer.the-variants.{End, Continued}
+use Rattle.bank.specs.Layout.{sectorSize, goodN, sectorOffset}
+use Rattle.sender.specs.declared.made.Made.{Made}
+use Rattle.sender.specs.declared.made.Made.the-variants.{BadN, BadLength, PastLast, Frame}
+use Rattle.sender.specs.declared.packet.Seen.{Seen}
+use Rattle.sender.specs.declared.packet.Tally.{Tally}
+use Rattle.sender.specs.declared.packet.Tally.the-variants.{BadN as NoBank, BadLength as NoImage, Packets}
+use Rattle.sender.specs.Made.{room, standing}
+
+-- the bytes of sector k
+unfoldable pub sectorOf : List ℕ → ℕ → List ℕ
+sectorOf image k = take sectorSize (drop (sectorOffset k) image)
+
+-- of the first k sectors those that have "a byte other than 0xFF", lowest first
+unfoldable pub sentOf : List ℕ → ℕ → List ℕ
+sentOf image zero = []
+sentOf image (suc k) = sentOf image k ++ cond (blankOf (sectorOf image (suc k))) [] (suc k ∷ [])
+
+-- how many packets an image of n sectors has, and the sector of packet p, "by number, from 0"
+abbrev pub packetCount : List ℕ → ℕ → ℕ
+packetCount image n = length (sentOf image n)
+
+abbrev pub packetSector : List ℕ → ℕ → ℕ → ℕ
+packetSector image n p = getD (sentOf image n) p 0
+
+-- "`03` on its last sector packet and `17` on the others"
+unfoldable pub footerOf : ℕ → ℕ → Footer
+footerOf count p = cond (eqb (p + 1) count) End Continued
+
+-- packet p: "512 bytes" of its sector
+unfoldable pub packetFrame : List ℕ → ℕ → ℕ → List ℕ
+packetFrame image n p =
+    writeFrame (packetSector image n p) (sectorOf image (packetSector image n p)) (footerOf (packetCount image n) p)
+
+-- "image not 512·N"
+abbrev pub imageGood : List ℕ → ℕ → Bool
+imageGood image n = eqb (length image) (sectorSize * n)
+
+-- "Sender: 3, 2, 5"
+unfoldable pub packetMade : List ℕ → ℕ → ℕ → ℕ → Made
+packetMade image n p size =
+    cond (goodN n)
+    (cond (imageGood image n && leb room size)
+    (cond (ltb p (packetCount image n)) (Frame (length (packetFrame image n p))) PastLast)
+    BadLength)
+    BadN
+
+unfoldable pub tallyOf : List ℕ → ℕ → Tally
+tallyOf image n = cond (goodN n) (cond (imageGood image n) (Packets (packetCount image n)) NoImage) NoBank
+
+-- the paper's number of each answer, 0 where the packets were counted
+abbrev pub tallyNumber : Tally → ℕ
+tallyNumber NoBank = 3
+tallyNumber NoImage = 2
+tallyNumber (Packets n) = 0
+
+-- what is known when the first k sectors were looked at
+unfoldable pub seenOf : List ℕ → ℕ → ℕ → Seen
+seenOf image k p = record { count = packetCount image k; sector = packetSector image k p }
+
+abbrev pub Count·Is : List ℕ → ℕ → Tally → Type 0
+Count·Is image n r = r ≡ tallyOf image n
+
+pub record Packet·Is (image : List ℕ) (n p : ℕ) (before : List ℕ) (r : Made) (after : List ℕ) : Type 0 where
+  pub answered : r ≡ packetMade image n p (length before)
+  pub stands : after ≡ standing (packetMade image n p (length before)) before (packetFrame image n p)

@@ -1,0 +1,54 @@
+// The requests, each a control frame.
+use crate::made::Made;
+use crate::made::ROOM;
+use bank::layout::Bank;
+ghost use Prim.Native.Nat.{_≤_};
+ghost use lib.ListN.{length};
+ghost use Rattle.sender.specs.Request.{Control·Is, Request·Is};
+
+pub enum Request {
+    ModeStart,
+    BankInfo,
+    Version,
+    // The whole of a bank of n sectors is to be written.
+    WriteStart { bank: Bank, n: usize },
+    WriteEnd,
+    ModeEnd,
+}
+
+// A control frame, where there is room for the longest frame of the sender.
+fn control(code: u8, parameters: &[u8], buffer: &mut [u8]) -> Made
+    requires { ⌜ length (now parameters) ≤ 254 ⌝ }
+    ensures { λ r. ⌜ Control·Is code (now (parameters .entry)) (now (buffer .entry)) r (now (buffer .exit)) ⌝ }
+{
+    if buffer.len() < ROOM {
+        return Made::BadLength;
+    }
+    frame::write::put_control(buffer, code, parameters);
+    Made::Frame(parameters.len() + 5)
+}
+
+fn write_start(bank: Bank, n: usize, buffer: &mut [u8]) -> Made
+    ensures { λ r. ⌜ Request·Is (Request.WriteStart bank n) (now (buffer .entry)) r (now (buffer .exit)) ⌝ }
+{
+    if !bank::layout::good_n(n) {
+        return Made::BadN;
+    }
+    let mut addresses = [0u8; 8];
+    buffer::number::put_number4(&mut addresses, 0, bank::layout::start_address(bank));
+    buffer::number::put_number4(&mut addresses, 4, bank::layout::end_address(bank, n));
+    control(0x40, &addresses, buffer)
+}
+
+pub fn make(request: Request, buffer: &mut [u8]) -> Made
+    ensures { λ r. ⌜ Request·Is request (now (buffer .entry)) r (now (buffer .exit)) ⌝ }
+{
+    match request {
+        Request::ModeStart => control(0x61, b"", buffer),
+        Request::BankInfo => control(0x62, b"", buffer),
+        Request::Version => control(0x68, b"", buffer),
+        Request::WriteStart { bank, n } => write_start(bank, n, buffer),
+        Request::WriteEnd => control(0x45, b"", buffer),
+        Request::ModeEnd => control(0x64, b"", buffer),
+    }
+}
