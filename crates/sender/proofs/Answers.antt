@@ -1,14 +1,14 @@
 -- A response as a client writes it is read back as it was written.
 -- Assumes nothing.
 use mathlib.Core.Path.{_≡_, refl, sym, ap, ap₂, _∙_}
-use mathlib.Core.Bool.{true, false}
+use mathlib.Core.Bool.{Bool, true, false}
 use mathlib.Core.List.{List, [], _∷_, _++_}
 use Prim.Native.Nat.{ℕ, _+_, _*_, _/_, _%_, _^_, _<_}
 use native.Mathlib.Omega.{arith}
 use lib.Dec.{eqb}
 use lib.ListN.{length, take, length-append}
 use lib.Seq.{take-all, drop-at}
-use borrow.Author.Tests.{ne-eqb}
+use borrow.Author.Tests.{eqb-true}
 use Rattle.buffer.specs.Number.{numberOf, bytesOf, numberAt}
 use Rattle.buffer.proofs.Numbers.{number-inside, number-two, number-bytes, length-bytes, bytes-two}
 use Rattle.frame.specs.Frame.{controlFrame, writeFrame}
@@ -18,11 +18,11 @@ use Rattle.bank.specs.Layout.{bankNumber}
 use Rattle.bank.specs.declared.layout.Bank.{Bank}
 use Rattle.bank.specs.declared.layout.Bank.the-variants.{Zero, One}
 use Rattle.sender.specs.declared.response.Kind.{Kind}
-use Rattle.sender.specs.declared.response.Kind.the-variants.{BankInfo, Version, Packet}
+use Rattle.sender.specs.declared.response.Kind.the-variants.{ModeStart, BankInfo, Version, WriteStart, Packet, WriteEnd, ModeEnd, Error}
 use Rattle.sender.specs.declared.response.Coded.the-variants.{Answers}
 use Rattle.sender.specs.declared.response.Response.the-variants.{Plain, Target, Firmware, Written}
-use Rattle.sender.specs.Response.{kindOf, mayCarry, addsOf, acceptedOf, targetOf, controlOf, repeatsOf, crcFits, writtenOf, responseOf}
-use Rattle.sender.proofs.Responses.{adds-none, adds-some, is-plain, is-accepted, is-written, from-control, from-write}
+use Rattle.sender.specs.Response.{kindOf, mayCarry, addsOf, addedOf, acceptedOf, targetOf, controlOf, repeatsOf, crcFits, writtenOf, responseOf}
+use Rattle.sender.proofs.Responses.{adds-some, is-plain, is-accepted, is-written, from-control, from-write}
 
 -- a control frame, by its code and parameters
 pub control-read : (code : ℕ) (parameters : List ℕ) → controlOf code parameters ≡ responseOf (controlFrame code parameters)
@@ -36,20 +36,28 @@ write-read sector bytes s l =
     ap (writtenOf sector) (sym (write-bytes sector bytes End))
     ∙ from-write (writeFrame sector bytes End) sector (length bytes) (write-back sector bytes End s l)
 
--- the result alone, of a kind and a result that add nothing
-module _ (code : ℕ) (kind : Kind) (result : ℕ) (k : kindOf code ≡ Answers kind) (m : mayCarry kind result ≡ true) where
-  pub refusal-back : (result ≡ 0x06 → ⊥) → Plain kind result ≡ responseOf (controlFrame code (result ∷ []))
-  refusal-back n =
-      let f : eqb result 0x06 ≡ false = ne-eqb result 0x06 n in
-      is-plain code (result ∷ []) kind k result refl m (ap (λ (x : ℕ). x + 1) (adds-none kind result f)) f
-      ∙ control-read code (result ∷ [])
+-- a kind that adds nothing gives its result alone
+alone : (kind : Kind) (parameters : List ℕ) → addsOf kind ≡ 0 → Plain kind 0x06 ≡ acceptedOf kind parameters
+alone ModeStart parameters z = refl
+alone BankInfo parameters z = absurd (omega arith)
+alone Version parameters z = absurd (omega arith)
+alone WriteStart parameters z = refl
+alone Packet parameters z = refl
+alone WriteEnd parameters z = refl
+alone ModeEnd parameters z = refl
+alone Error parameters z = refl
 
-pub plain-back : (code : ℕ) (kind : Kind) → kindOf code ≡ Answers kind → mayCarry kind 0x06 ≡ true → addsOf kind ≡ 0 → acceptedOf kind (0x06 ∷ []) ≡ Plain kind 0x06
-    → Plain kind 0x06 ≡ responseOf (controlFrame code (0x06 ∷ []))
-plain-back code kind k m z a =
-    sym a
-    ∙ is-accepted code (0x06 ∷ []) kind k 0x06 refl m (ap (λ (x : ℕ). x + 1) (sym z ∙ adds-some kind 0x06 refl)) refl
-    ∙ control-read code (0x06 ∷ [])
+-- a code and a result that add nothing
+pub plain-back : (code : ℕ) (kind : Kind) (result : ℕ) → kindOf code ≡ Answers kind → mayCarry kind result ≡ true → addedOf kind result ≡ 0
+    → Plain kind result ≡ responseOf (controlFrame code (result ∷ []))
+plain-back code kind result k m z = by (eqb result 0x06) refl ∙ control-read code (result ∷ [])
+  where
+    by : (t : Bool) → eqb result 0x06 ≡ t → Plain kind result ≡ controlOf code (result ∷ [])
+    by true t =
+        ap (Plain kind) (eqb-true result 0x06 t)
+        ∙ alone kind (result ∷ []) (adds-some kind result t ∙ z)
+        ∙ is-accepted code (result ∷ []) kind k result refl m (ap (λ (x : ℕ). x + 1) (sym z)) t
+    by false f = is-plain code (result ∷ []) kind k result refl m (ap (λ (x : ℕ). x + 1) (sym z)) f
 
 -- bank information with 06
 pub bank-back : (bank : Bank) → Target bank ≡ responseOf (controlFrame 0x72 (0x06 ∷ bankNumber bank ∷ []))

@@ -114,7 +114,7 @@ fn added(kind: Kind, result: u8) -> usize
 }
 
 // The bank that a number names.
-fn target(number: u8) -> Response
+fn named(number: u8) -> Response
     ensures { λ r. ⌜ r ≡ targetOf number ⌝ }
 {
     if number == 0 {
@@ -133,7 +133,7 @@ fn accepted(kind: Kind, parameters: &[u8]) -> Response
 {
     match kind {
         Kind::ModeStart => Response::Plain { kind, result: 0x06 },
-        Kind::BankInfo => target(parameters[1]),
+        Kind::BankInfo => named(parameters[1]),
         Kind::Version => Response::Firmware {
             id: buffer::number::number2(parameters, 1),
             major: parameters[3],

@@ -19,11 +19,11 @@ enum-told c = search needs
 enum-told-2 : tie.Need-enum-told-2
 enum-told-2 c = search needs
 
-shared-slice-read-target : tie.Need-shared-slice-read-target
-shared-slice-read-target c = omega (arith, adds-six _ BankInfo ((c .before .enum-told2 .given .1)))
+shared-slice-read-named : tie.Need-shared-slice-read-named
+shared-slice-read-named c = omega (arith, adds-six _ BankInfo ((c .before .enum-told2 .given .1)))
 
-target-requires : tie.Need-target-requires
-target-requires c κs = search needs
+named-requires : tie.Need-named-requires
+named-requires c κs = search needs
 
 enum-told-3 : tie.Need-enum-told-3
 enum-told-3 c = search needs
@@ -59,7 +59,7 @@ returns : tie.Need-returns
 returns c = kind-alone _ ModeStart _ ((c .enum-told .given .1)) refl
 
 returns-2 : tie.Need-returns-2
-returns-2 c = ((c .target .ensures)) ∙ sym (ap (λ (k : Kind). acceptedOf k ((c .before .before .before .before .before .args .parameters .now))) ((c .before .before .enum-told2 .given .1)))
+returns-2 c = ((c .named .ensures)) ∙ sym (ap (λ (k : Kind). acceptedOf k ((c .before .before .before .before .before .args .parameters .now))) ((c .before .before .enum-told2 .given .1)))
 
 returns-3 : tie.Need-returns-3
 returns-3 c =
@@ -87,8 +87,8 @@ accepted-spec =
     (tie.spec
     enum-told
     enum-told-2
-    shared-slice-read-target
-    target-requires
+    shared-slice-read-named
+    named-requires
     enum-told-3
     number2-requires
     shared-slice-read-t8
