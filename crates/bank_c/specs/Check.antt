@@ -1,9 +1,15 @@
--- What is told to C of a bank.
+-- What is told to C of a bank: the number or the result by which 01 says the verdict. No two verdicts share one.
 -- Assumes nothing.
 use Prim.Native.Nat.{ℕ}
 use mathlib.Core.Path.{_≡_}
 use mathlib.Core.List.{List}
-use Rattle.bank.specs.Sound.{verdictOf, verdictNumber}
+use Rattle.bank.specs.Said.{Said, number, result, value, verdictSaid}
+use Rattle.bank.specs.Sound.{verdictOf}
+
+abbrev pub code : Said → ℕ
+code (number n) = n
+code (result n) = n
+code (value n) = n
 
 abbrev pub CheckNumber·Is : List ℕ → ℕ → Type 0
-CheckNumber·Is b r = r ≡ verdictNumber (verdictOf b)
+CheckNumber·Is b r = r ≡ code (verdictSaid (verdictOf b))

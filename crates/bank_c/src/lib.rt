@@ -2,7 +2,7 @@
 ghost use Rattle.bank_c.specs.Check.{CheckNumber·Is};
 use bank::check::Verdict;
 
-// The paper's number of the verdict.
+// The verdict as the number by which the paper says it.
 #[no_mangle]
 pub extern "C" fn bank_check(bank: &[u8]) -> u8
     ensures { λ r. ⌜ CheckNumber·Is (now (bank .entry)) r ⌝ }

@@ -1,7 +1,8 @@
 -- `bank_c::bank_check` meets its contract: each verdict has its number.
 -- Assumes nothing.
 use mathlib.Core.Path.{sym, ap, _∙_}
-use Rattle.bank.specs.Sound.{verdictNumber}
+use Rattle.bank.specs.Said.{verdictSaid}
+use Rattle.bank_c.specs.Check.{code}
 use borrow.Author.Needs.{needs}
 use Rattle.bank_c.proofs.bank_check.Statement.{statement}
 use Rattle.bank_c.proofs.bank_check.Tie as tie
@@ -19,13 +20,13 @@ enum-told-3 : tie.Need-enum-told-3
 enum-told-3 c = search needs
 
 returns : tie.Need-returns
-returns c = ap verdictNumber (sym (c .enum-told .given .1) ∙ c .before .before .check .ensures)
+returns c = ap (λ v. code (verdictSaid v)) (sym (c .enum-told .given .1) ∙ c .before .before .check .ensures)
 
 returns-2 : tie.Need-returns-2
-returns-2 c = ap verdictNumber (sym (c .enum-told2 .given .1) ∙ c .before .before .check .ensures)
+returns-2 c = ap (λ v. code (verdictSaid v)) (sym (c .enum-told2 .given .1) ∙ c .before .before .check .ensures)
 
 returns-3 : tie.Need-returns-3
-returns-3 c = ap verdictNumber (sym (c .enum-told3 .given .1) ∙ c .before .before .check .ensures)
+returns-3 c = ap (λ v. code (verdictSaid v)) (sym (c .enum-told3 .given .1) ∙ c .before .before .check .ensures)
 
 pub bank-check-spec : {M : Type 1} → statement M
 bank-check-spec =
