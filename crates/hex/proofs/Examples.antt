@@ -3,14 +3,14 @@
 use mathlib.Core.Path.{_≡_, refl}
 use mathlib.Core.List.{List, [], _∷_}
 use Prim.Native.Nat.{ℕ}
-use lib.ListN.{take, drop, replicate}
+use lib.ListN.{replicate}
 use Rattle.bank.specs.declared.layout.Bank.the-variants.{Zero}
 use Rattle.bank.specs.Layout.{goodN}
 use Rattle.hex.specs.declared.fault.Kind.the-variants.{H1, H6}
 use Rattle.hex.specs.declared.read.Answer.the-variants.{Refused, Accepted}
 use Rattle.hex.specs.Digit.{digitOf, isDigit, byteOf, bytesOf}
 use Rattle.hex.specs.Line.{lines}
-use Rattle.hex.specs.Record.{Spelled, Whole, Broken, digitsIn, digitsWhole, recordOf, total, dataAt, typed, foundOf}
+use Rattle.hex.specs.Record.{Broken, digitsIn, digitsWhole, recordOf, total, dataAt, typed, foundOf}
 use Rattle.hex.specs.Read.{Reading, readLines, readOf}
 
 -- for bank 0 of one sector

@@ -2,17 +2,17 @@
 -- end record was seen; a refusal names the first faulty line.
 -- Assumes nothing.
 use mathlib.Core.Path.{_≡_, refl, sym, ap, _∙_}
-use mathlib.Core.Bool.{Bool, true, false, _&&_, cond}
+use mathlib.Core.Bool.{Bool, true, false}
 use mathlib.Core.List.{List, [], _∷_}
 use mathlib.Core.Logic.{_⊎_, ⊎-elim}
 use Prim.Native.Nat.{ℕ, zero, suc, _+_, _-_, _*_, _%_, _<_, _≤_}
 use native.Mathlib.Nat.{not-suc-le-zero, le-of-suc-le-suc}
 use native.Mathlib.Omega.{arith}
-use lib.Dec.{eqb, leb}
-use lib.ListN.{length, getD, drop, set, replicate, length-drop, length-take, length-replicate, length-set, getD-replicate}
+use lib.Dec.{eqb}
+use lib.ListN.{length, getD, set, replicate, length-drop, length-take, length-replicate, length-set, getD-replicate}
 use lib.Seq.{sets, length-sets, getD-set-same, getD-set-other}
-use borrow.Author.Tests.{eqb-true, eqb-false, leb-true}
-use Rattle.buffer.proofs.Bools.{and-left, and-right, split}
+use borrow.Author.Tests.{eqb-true, eqb-false}
+use Rattle.buffer.proofs.Bools.{split}
 use Rattle.bank.specs.declared.layout.Bank.{Bank}
 use Rattle.bank.specs.Layout.{goodN, startOf, sectorSize}
 use Rattle.hex.specs.declared.fault.Kind.{Kind}
@@ -24,12 +24,11 @@ use Rattle.hex.specs.declared.record.Found.the-variants.{Fault, Data, Up
 use Rattle.hex.specs.declared.read.Answer.the-variants.{BadN, BadLength, Refused, Accepted}
 use Rattle.hex.specs.declared.read.Outcome.{Outcome}
 use Rattle.hex.specs.declared.read.Outcome.the-variants.{Stopped, Through}
-use Rattle.hex.specs.Digit.{bytesOf}
-use Rattle.hex.specs.Record.{countOf, addressOf, typeOf, dataOf, total, dataAt, typed, foundOf}
+use Rattle.hex.specs.Record.{countOf, dataOf, total, typed, foundOf}
 use Rattle.hex.specs.Line.{lines}
-use Rattle.hex.specs.Read.{stateAfter, imageAfter, Done, refused, goes, readLines, fresh, Reading, answerOf, answered, answerNumber, readOf}
+use Rattle.hex.specs.Read.{stateAfter, imageAfter, Done, refused, readLines, fresh, Reading, answerOf, answered, answerNumber, readOf}
 use Rattle.hex.specs.Meaning.{stateAt, saysAt, Sound, Faulted, at-line, past-the-last}
-use Rattle.hex.proofs.Records.{spelledBy, isRecord, record-fields, found-over, found-1, found-2, found-typed}
+use Rattle.hex.proofs.Records.{spelledBy, isRecord, typed-by, record-fields, found-over, found-1, found-2, found-typed}
 use Rattle.hex.proofs.Steps.{erased}
 
 no-way : {A : Type 0} → _≡_ {A = ℕ} 0 1 → A
@@ -69,39 +68,12 @@ Told base size last line (Upper u) = Unit {0}
 Told base size last line End = Unit {0}
 Told base size last line Other = Unit {0}
 
-module _ (base size upper last : ℕ) (line : List ℕ) (w : length (spelledBy line) ≡ countOf (spelledBy line) + 5) where
-  abbrev bytes : List ℕ
-  bytes = spelledBy line
-
-  abbrev T : Found → Type 0
-  T = Told base size last line
-
-  told-data : (start : ℕ) → T (dataAt base size last start (countOf bytes))
-  unfolding dataAt
-  told-data start =
-      let n : ℕ = countOf bytes in
-      split T (eqb n 0) (λ x. tt)
-      (λ x. split T (leb base start && leb (start + n) (base + size))
-      (λ y. split T (leb last start)
-      (λ z.
-      record {
-        low = leb-true _ _ (and-left (leb base start) (leb (start + n) (base + size)) y);
-        high = leb-true _ _ (and-right (leb base start) (leb (start + n) (base + size)) y);
-        after = leb-true _ _ z;
-        whole = simp (length-take, length-drop) (omega arith);
-      })
-      (λ z. tt))
-      (λ y. tt))
-
-  told-typed : T (typed base size upper last bytes)
-  unfolding typed
-  told-typed =
-      split T (eqb (typeOf bytes) 0) (λ x. told-data (upper * 65536 + addressOf bytes))
-      (λ x. split T (eqb (addressOf bytes) 0)
-      (λ y. split T (eqb (typeOf bytes) 1 && eqb (countOf bytes) 0) (λ z. tt)
-      (λ z. split T (eqb (typeOf bytes) 4 && eqb (countOf bytes) 2) (λ u. tt)
-      (λ u. split T (eqb (typeOf bytes) 5 && eqb (countOf bytes) 4) (λ v. tt) (λ v. tt))))
-      (λ y. tt))
+told-typed :
+    (base size upper last : ℕ) (line : List ℕ) → length (spelledBy line) ≡ countOf (spelledBy line) + 5
+    → Told base size last line (typed base size upper last (spelledBy line))
+told-typed base size upper last line w =
+    typed-by (Told base size last line) (λ k. tt) tt base size last upper (spelledBy line) tt tt
+    (λ start low high after. record { low = low; high = high; after = after; whole = simp (length-take, length-drop) (omega arith) })
 
 told : (base size : ℕ) (s : State) (line : List ℕ) → Told base size (s .last) line (foundOf base size s line)
 told base size s line = by (s .over) refl

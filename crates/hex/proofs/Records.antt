@@ -12,12 +12,13 @@ use lib.ListN.{length, getD, take, drop, length-drop}
 use lib.Seq.{slice, slice-cons, slice-empty, length-slice}
 use borrow.Author.Tests.{eq-eqb, ne-eqb, eqb-true, lt-ltb, ltb-true, leb-true}
 use Rattle.buffer.proofs.Bools.{and-left, and-right, and-both, not-so, same-tests, split}
-use Rattle.hex.specs.declared.fault.Kind.the-variants.{H1, H2, H3, H6}
+use Rattle.hex.specs.declared.fault.Kind.{Kind}
+use Rattle.hex.specs.declared.fault.Kind.the-variants.{H1, H2, H3, H4, H5, H6}
 use Rattle.hex.specs.declared.record.State.{State}
 use Rattle.hex.specs.declared.record.Found.{Found}
-use Rattle.hex.specs.declared.record.Found.the-variants.{Fault, Upper, End, Other}
+use Rattle.hex.specs.declared.record.Found.the-variants.{Fault, Data, Upper, End, Other}
 use Rattle.hex.specs.Digit.{isDigit, byteOf, bytesOf}
-use Rattle.hex.specs.Record.{Whole, digitsIn, countOf, addressOf, typeOf, dataOf, dueOf, digitsWhole, recordOf, total, dataAt, typed, says, foundOf}
+use Rattle.hex.specs.Record.{Whole, digitsIn, countOf, addressOf, typeOf, dataOf, dueOf, digitsWhole, recordOf, total, inBank, dataAt, typed, says, foundOf}
 use Rattle.hex.specs.Places.{byteAt, bytesAt, allBytes, checkFrom, FoundFits}
 use Rattle.hex.proofs.Digits.{byte-small, pair-small, pair-so}
 
@@ -326,6 +327,34 @@ module _ (base size upper last : ℕ) (t : List ℕ) (p : ℕ) {n h l k : ℕ}
       typed-bad x y z =
           simp (k-is, ne-eqb k 0 nz, a-is, eq-eqb (h * 256 + l) 0 az, n-is, not-both k 1 n 0 x, not-both k 4 n 2 y, not-both k 5 n 4 z)
 
+in-bank : (base size start n : ℕ) → inBank base size start n ≡ true → (base ≤ start) × (start + n ≤ base + size)
+unfolding inBank
+in-bank base size start n e =
+    (leb-true base start (and-left (leb base start) (leb (start + n) (base + size)) e), leb-true (start + n) (base + size) (and-right (leb base start) (leb (start + n) (base + size)) e))
+
+-- what holds of each thing that a record may say holds of what it says
+module _ (P : Found → Type 0) (faulty : (k : Kind) → P (Fault k)) (other : P Other) (base size last : ℕ) where
+  data-by :
+      (start n : ℕ) → (base ≤ start → start + n ≤ base + size → last ≤ start → P (Data start n)) → P (dataAt base size last start n)
+  unfolding dataAt
+  data-by start n f =
+      split P (eqb n 0) (λ x. other)
+      (λ x. split P (inBank base size start n)
+      (λ y. split P (leb last start) (λ z. f (in-bank base size start n y .0) (in-bank base size start n y .1) (leb-true last start z)) (λ z. faulty H5))
+      (λ y. faulty H4))
+
+  pub typed-by :
+      (upper : ℕ) (r : List ℕ) → P End → P (Upper (getD r 4 0 * 256 + getD r 5 0))
+      → ((start : ℕ) → base ≤ start → start + countOf r ≤ base + size → last ≤ start → P (Data start (countOf r))) → P (typed base size upper last r)
+  unfolding typed
+  typed-by upper r end high f =
+      split P (eqb (typeOf r) 0) (λ x. data-by (upper * 65536 + addressOf r) (countOf r) (f (upper * 65536 + addressOf r)))
+      (λ x. split P (eqb (addressOf r) 0)
+      (λ y. split P (eqb (typeOf r) 1 && eqb (countOf r) 0) (λ z. end)
+      (λ z. split P (eqb (typeOf r) 4 && eqb (countOf r) 2) (λ u. high)
+      (λ u. split P (eqb (typeOf r) 5 && eqb (countOf r) 4) (λ v. other) (λ v. faulty H3))))
+      (λ y. faulty H3))
+
 -- what the record of a line lets the caller do
 module _ (t : List ℕ) (from to base size upper last n : ℕ) (r : List ℕ)
     (k : to ≤ length t) (len : to - from ≡ 11 + 2 * n) (o : from ≤ to) (is : r ≡ bytesAt t (from + 1) (n + 5)) (all : allBytes r ≡ true) (c : countOf r ≡ n) where
@@ -335,16 +364,14 @@ module _ (t : List ℕ) (from to base size upper last n : ℕ) (r : List ℕ)
       let f : from + 1 + 2 * 4 ≡ from + 9 = omega arith in
       rw (c, is, e, bytes-drop t (from + 1) 4 (n + 1), f) (bytes-take t (from + 9) n 1)
 
-  pub data-fits : (start : ℕ) → FoundFits t from to base size (dataAt base size last start (countOf r))
-  unfolding dataAt
-  data-fits start =
-      split (FoundFits t from to base size) (eqb (countOf r) 0) (λ x. tt)
-      (λ x. split (FoundFits t from to base size) (leb base start && leb (start + countOf r) (base + size))
-      (λ y. split (FoundFits t from to base size) (leb last start)
-      (λ z. (
-        leb-true _ _ (and-left (leb base start) (leb (start + countOf r) (base + size)) y),
+  pub typed-fits : FoundFits t from to base size (typed base size upper last r)
+  typed-fits =
+      typed-by (FoundFits t from to base size) (λ f. tt) tt base size last upper r tt
+      (rw is (let a = bytes-small t (from + 1) (n + 5) 4 in let b = bytes-small t (from + 1) (n + 5) 5 in omega arith))
+      (λ start low high after. (
+        low,
         (
-          leb-true _ _ (and-right (leb base start) (leb (start + countOf r) (base + size)) y),
+          high,
           (
             omega arith,
             (
@@ -354,21 +381,3 @@ module _ (t : List ℕ) (from to base size upper last n : ℕ) (r : List ℕ)
           ),
         ),
       ))
-      (λ z. tt))
-      (λ y. tt))
-
-  pub typed-fits : FoundFits t from to base size (typed base size upper last r)
-  unfolding typed
-  typed-fits =
-      split F (eqb (typeOf r) 0) (λ x. data-fits (upper * 65536 + addressOf r))
-      (λ x. split F (eqb (addressOf r) 0)
-      (λ y. split F (eqb (typeOf r) 1 && eqb (countOf r) 0) (λ z. tt)
-      (λ z. split F (eqb (typeOf r) 4 && eqb (countOf r) 2) (λ u. small)
-      (λ u. split F (eqb (typeOf r) 5 && eqb (countOf r) 4) (λ v. tt) (λ v. tt))))
-      (λ y. tt))
-    where
-      F : Found → Type 0
-      F = FoundFits t from to base size
-
-      small : getD r 4 0 * 256 + getD r 5 0 ≤ 65792
-      small = rw is (let a = bytes-small t (from + 1) (n + 5) 4 in let b = bytes-small t (from + 1) (n + 5) 5 in omega arith)

@@ -1,8 +1,8 @@
 -- What each line of a text says when those before it were read. proofs/Meaning.antt tells by it what an answer means.
 -- Assumes nothing.
-use Prim.Native.Nat.{ℕ, zero, suc, _+_, _<_, _≤_}
+use Prim.Native.Nat.{ℕ, zero, suc, _+_, _<_}
 use mathlib.Core.Path.{_≡_}
-use mathlib.Core.Bool.{true, false}
+use mathlib.Core.Bool.{false}
 use mathlib.Core.List.{List, [], _∷_}
 use lib.ListN.{length, getD}
 use Rattle.hex.specs.declared.fault.Kind.{Kind}
@@ -10,7 +10,7 @@ use Rattle.hex.specs.declared.fault.Kind.the-variants.{H6}
 use Rattle.hex.specs.declared.fault.Refusal.{Refusal}
 use Rattle.hex.specs.declared.record.State.{State}
 use Rattle.hex.specs.declared.record.Found.{Found}
-use Rattle.hex.specs.declared.record.Found.the-variants.{Fault, Data}
+use Rattle.hex.specs.declared.record.Found.the-variants.{Fault}
 use Rattle.hex.specs.Record.{foundOf}
 use Rattle.hex.specs.Read.{stateAfter}
 

@@ -56,12 +56,16 @@ unfoldable pub total : List ℕ → ℕ
 total [] = 0
 total (b ∷ bs) = b + total bs
 
--- WHAT A RECORD SAYS to a bank of `size` bytes from address `base` on. "Data of count 0" says nothing; H4 comes before H5. Addresses
--- are plain numbers: nothing wraps, and a carry stays out of the upper half.
+-- WHAT A RECORD SAYS to a bank of `size` bytes from address `base` on. Addresses are plain numbers: they "run on past offset 0xFFFF",
+-- nothing wraps, and a carry stays out of the upper half.
+unfoldable pub inBank : ℕ → ℕ → ℕ → ℕ → Bool
+inBank base size start n = leb base start && leb (start + n) (base + size)
+
+-- "Data of count 0" says nothing; H4 comes before H5
 unfoldable pub dataAt : ℕ → ℕ → ℕ → ℕ → ℕ → Found
 dataAt base size last start n =
     cond (eqb n 0) Other
-    (cond (leb base start && leb (start + n) (base + size)) (cond (leb last start) (Data start n) (Fault H5)) (Fault H4))
+    (cond (inBank base size start n) (cond (leb last start) (Data start n) (Fault H5)) (Fault H4))
 
 -- by its type; `upper` and `last` come from the lines before
 unfoldable pub typed : ℕ → ℕ → ℕ → ℕ → List ℕ → Found
