@@ -1,16 +1,15 @@
 -- The packets of an image: each sector that is not blank is sent, no other is, and together they give the image.
 -- Assumes nothing.
 use mathlib.Core.Path.{_≡_, refl, sym, ap, ap₂, subst, _∙_}
-use mathlib.Core.Bool.{Bool, true, false, _&&_, false≢true, cond}
+use mathlib.Core.Bool.{Bool, true, false, false≢true}
 use mathlib.Core.List.{List, [], _∷_, _++_, append-assoc, append-nil}
 use Prim.Native.Nat.{ℕ, zero, suc, _+_, _-_, _*_, _≤_, _<_}
 use native.Mathlib.Decide.{decLe}
 use native.Mathlib.Numerals.{add-one}
 use native.Mathlib.Omega.{arith}
-use lib.Dec.{leb, ltb}
 use lib.ListN.{length, getD, take, drop, replicate, length-append, length-replicate, replicate-append-replicate, List·getD-append}
 use lib.Seq.{take-add, take-all, getD-at, drop-at, length-take-le}
-use borrow.Author.Tests.{eq-eqb, ne-eqb, ltb-false}
+use borrow.Author.Tests.{eq-eqb, ne-eqb}
 use Rattle.buffer.specs.Compare.{blankOf}
 use Rattle.buffer.specs.Place.{placeOf}
 use Rattle.buffer.proofs.Comparing.{blank-true}
@@ -23,8 +22,7 @@ use Rattle.frame.specs.declared.read.Read.the-variants.{Write}
 use Rattle.frame.proofs.RoundTrip.{write-back, write-bytes}
 use Rattle.bank.specs.Layout.{goodN, sectorOffset}
 use Rattle.bank.proofs.Layouts.{good-below}
-use Rattle.sender.specs.declared.made.Made.the-variants.{BadN, BadLength, PastLast, Frame}
-use Rattle.sender.specs.Packet.{sectorOf, sentOf, packetCount, packetSector, footerOf, packetFrame, imageGood, packetMade}
+use Rattle.sender.specs.Packet.{sectorOf, sentOf, packetCount, packetSector, footerOf, packetFrame}
 use Rattle.sender.specs.Meaning.{putBack, restored}
 use Rattle.sender.proofs.Packets.{Sent, sector-from, sector-length, sent-blank, sent-more, sent-in, packet-small}
 
@@ -113,19 +111,6 @@ module _ (image : List ℕ) (n p : ℕ) (g : goodN n ≡ true) (e : length image
   pub other-footer : p + 1 < packetCount image n → Write (packetSector image n p) 512 Continued ≡ readOf (packetFrame image n p)
   unfolding footerOf
   other-footer q = ap (Write (packetSector image n p) 512) (rw (ne-eqb (p + 1) (packetCount image n) (λ r. omega arith))) ∙ packet-read
-
--- ---- 5 is given exactly from the count on
-
-pub five-only : (image : List ℕ) (n p size : ℕ) → PastLast ≡ packetMade image n p size → packetCount image n ≤ p
-unfolding packetMade
-five-only image n p size e = by (goodN n) (imageGood image n && leb 519 size) (ltb p (packetCount image n)) refl e
-  where
-    by : (a b c : Bool) → ltb p (packetCount image n) ≡ c → PastLast ≡ cond a (cond b (cond c (Frame (length (packetFrame image n p))) PastLast) BadLength) BadN
-        → packetCount image n ≤ p
-    by true true true t q = let z : _≡_ {A = ℕ} 0 1 = cc in absurd (omega arith)
-    by true true false t q = ltb-false p (packetCount image n) t
-    by true false c t q = let z : _≡_ {A = ℕ} 0 1 = cc in absurd (omega arith)
-    by false b c t q = let z : _≡_ {A = ℕ} 0 1 = cc in absurd (omega arith)
 
 -- ---- the packets put back give the image
 

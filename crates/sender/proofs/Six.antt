@@ -22,8 +22,8 @@ use Rattle.sender.specs.declared.response.Kind.the-variants.{ModeStart, 
 use Rattle.sender.specs.declared.response.Coded.{Coded}
 use Rattle.sender.specs.declared.response.Coded.the-variants.{Unknown, Answers}
 use Rattle.sender.specs.declared.response.Response.{Response}
-use Rattle.sender.specs.declared.response.Response.the-variants.{Unreadable, Plain, Target, Written}
-use Rattle.sender.specs.Response.{kindOf, mayCarry, addedOf, targetOf, acceptedOf, answerOf, repeatsOf, crcFits, writtenOf, responseIn, responseOf}
+use Rattle.sender.specs.declared.response.Response.the-variants.{Unreadable, Plain, Target, Firmware, Written}
+use Rattle.sender.specs.Response.{kindOf, mayCarry, addedOf, targetOf, acceptedOf, answerOf, repeatsOf, crcFits, writtenOf, responseIn, responseOf, responseNumber}
 use Rattle.sender.specs.Meaning.{unknown, kindResult, kindLength, kindBank, sixIn, sixOf, unreadable}
 
 target-six : (number : ℕ) → unreadable (targetOf number) ≡ ltb 1 number
@@ -103,5 +103,12 @@ six-in d (Write sector m Continued) =
     let write : ℕ = byteAt (bytesIn d m) 1 in
     continued (eqb (length (bytesIn d m)) 6) (mayCarry Packet response && mayCarry Packet write) (repeatsOf response write) (crcFits response write (numberAt 4 (bytesIn d m) 2))
 
-pub six-exactly : (d : List ℕ) → unreadable (responseOf d) ≡ sixOf d
-six-exactly d = six-in d (readOf d)
+by-number : (r : Response) → responseNumber r ≡ cond (unreadable r) 6 0
+by-number Unreadable = refl
+by-number (Plain kind result) = refl
+by-number (Target bank) = refl
+by-number (Firmware id major minor revision) = refl
+by-number (Written sector response write crc) = refl
+
+pub six-exactly : (d : List ℕ) → responseNumber (responseOf d) ≡ cond (sixOf d) 6 0
+six-exactly d = by-number (responseOf d) ∙ ap (λ (b : Bool). cond b 6 0) (six-in d (readOf d))

@@ -1,6 +1,6 @@
--- What the sender's definitions come to: number 6 by its list of causes, and an image put together from its packets.
+-- What the sender's definitions come to: its refusals by number, number 6 by its causes, an image put together from its packets.
 -- Assumes nothing.
-use mathlib.Core.Bool.{Bool, true, false, not, _&&_, _||_}
+use mathlib.Core.Bool.{Bool, true, false, not, _&&_, _||_, cond}
 use mathlib.Core.List.{List}
 use Prim.Native.Nat.{ℕ, zero, suc, _+_, _*_}
 use lib.Dec.{eqb, ltb}
@@ -21,6 +21,10 @@ use Rattle.sender.specs.declared.response.Response.{Response}
 use Rattle.sender.specs.declared.response.Response.the-variants.{Unreadable, Plain, Target, Firmware, Written}
 use Rattle.sender.specs.Packet.{packetFrame}
 use Rattle.sender.specs.Response.{kindOf, mayCarry, addedOf, repeatsOf, crcFits}
+
+-- "Sender: 3, 2, 5", and 0 where nothing is refused
+abbrev pub refusal : Bool → Bool → Bool → ℕ
+refusal badN badLength past = cond badN 3 (cond badLength 2 (cond past 5 0))
 
 -- ---- number 6, cause by cause, of a frame that was read and the datagram where it lies
 
