@@ -91,6 +91,12 @@ same-append (x ∷ a) b [] d e = absurd (omega arith)
 same-append (x ∷ a) b (y ∷ c) d e =
     ap (λ (r : Bool). eqb x y && r) (same-append a b c d (omega arith)) ∙ sym (and-assoc (eqb x y) (sameOf a c) (sameOf b d))
 
+-- the same as 0xFF over and over is blank
+pub same-filled : (l : List ℕ) → sameOf l (replicate (length l) 0xFF) ≡ blankOf l
+unfolding sameOf blankOf
+same-filled [] = refl
+same-filled (x ∷ l) = ap (λ (r : Bool). eqb x 0xFF && r) (same-filled l)
+
 pub same-more :
     (a b : List ℕ) (i : ℕ) (r : Bool) → i < length a → i < length b
     → ((r && eqb (getD a i 0) (getD b i 0)) && sameOf (drop (i + 1) a) (drop (i + 1) b)) ≡ (r && sameOf (drop i a) (drop i b))

@@ -1,0 +1,137 @@
+-- A sweep: what each sector is then.
+-- Assumes nothing.
+use mathlib.Core.Path.{_≡_, refl, sym, ap, subst, _∙_}
+use mathlib.Core.Bool.{Bool, true, false, cond}
+use mathlib.Core.List.{List}
+use Prim.Native.Nat.{ℕ, zero, suc, _+_, _-_, _≤_, _<_, min}
+use native.Mathlib.Numerals.{add-one}
+use native.Mathlib.Omega.{arith}
+use lib.Dec.{eqb, leb}
+use lib.ListN.{length, getD, take, drop, length-replicate}
+use borrow.Author.Tests.{eqb-true, eqb-false, leb-true, leb-false}
+use borrow.Rule.Slice.PartMut.{putMid}
+use Rattle.flash.specs.Sector.{sectorBytes, blanks, erasedOf}
+use Rattle.flash.specs.Bank.{startOf, hasSector, sectorOf, withSector, blankSector, atSector, sweptOne, swept, markedOf, sweptOf}
+use Rattle.flash.proofs.Changes.{Keeps, at-has, at-none, length-at, at-here, at-other}
+use Rattle.flash.proofs.Sectors.{Has, has-told, has-still, length-sector, lent-out, lent-back}
+
+pub keeps-erased : Keeps erasedOf
+unfolding erasedOf
+keeps-erased sector = length-replicate (length sector) 0xFF
+
+-- a whole sector that was erased
+pub erased-blank : (sector : List ℕ) → length sector ≡ sectorBytes → erasedOf sector ≡ blankSector
+unfolding erasedOf blankSector
+erased-blank sector e = ap blanks e
+
+-- ---- one sector swept
+
+module _ (bank : List ℕ) (k : ℕ) where
+  length-one : (received : Bool) → length (sweptOne bank k received) ≡ length bank
+  length-one true = refl
+  length-one false = length-at erasedOf keeps-erased k bank
+
+  one-other : (received : Bool) (j : ℕ) → Has (length bank) j → (j ≡ k → ⊥) → sectorOf (sweptOne bank k received) j ≡ sectorOf bank j
+  one-other true j h n = refl
+  one-other false j h n = at-other erasedOf keeps-erased k bank j h n
+
+  one-here : (received : Bool) → Has (length bank) k → sectorOf (sweptOne bank k received) k ≡ cond received (sectorOf bank k) blankSector
+  one-here true h = refl
+  one-here false h = at-here erasedOf keeps-erased k bank h ∙ erased-blank (sectorOf bank k) (length-sector bank k h)
+
+-- ---- the first n
+
+pub length-swept : (received : List Bool) (n : ℕ) (bank : List ℕ) → length (swept received n bank) ≡ length bank
+unfolding swept
+length-swept received zero bank = refl
+length-swept received (suc j) bank =
+    length-one (swept received j bank) (suc j) (getD received j false) ∙ length-swept received j bank
+
+module _ (received : List Bool) (bank : List ℕ) (k : ℕ) (h : Has (length bank) k) where
+  -- the bank has it at each turn
+  still : (n : ℕ) → Has (length (swept received n bank)) k
+  still n = has-still (length-swept received n bank) h
+
+  first-past : (n : ℕ) → n < k → sectorOf (swept received n bank) k ≡ sectorOf bank k
+  unfolding swept
+  first-past zero l = refl
+  first-past (suc j) l =
+      one-other (swept received j bank) (suc j) (getD received j false) k (still j) (λ e. omega arith) ∙ first-past j (omega arith)
+
+  -- the last of them, and one before it
+  last-swept : (j : ℕ) → k ≡ suc j → sectorOf (swept received (suc j) bank) k ≡ cond (getD received (k - 1) false) (sectorOf bank k) blankSector
+  unfolding swept
+  last-swept j e =
+      let b : List ℕ = swept received j bank in
+      let r : Bool = getD received j false in
+      let i : j ≡ k - 1 = omega arith in
+      ap (λ (m : ℕ). sectorOf (sweptOne b m r) k) (sym e)
+      ∙ one-here b k r (still j)
+      ∙ ap (λ (sector : List ℕ). cond r sector blankSector) (first-past j (omega arith))
+      ∙ ap (λ (m : ℕ). cond (getD received m false) (sectorOf bank k) blankSector) i
+
+  first-swept : (n : ℕ) → k ≤ n → sectorOf (swept received n bank) k ≡ cond (getD received (k - 1) false) (sectorOf bank k) blankSector
+  unfolding swept
+  first-swept zero l = absurd (omega arith)
+  first-swept (suc j) l = by (eqb k (suc j)) refl (first-swept j)
+    where
+      by : (t : Bool) → eqb k (suc j) ≡ t → (k ≤ j → sectorOf (swept received j bank) k ≡ cond (getD received (k - 1) false) (sectorOf bank k) blankSector)
+          → sectorOf (swept received (suc j) bank) k ≡ cond (getD received (k - 1) false) (sectorOf bank k) blankSector
+      by true e before = last-swept j (eqb-true k (suc j) e)
+      by false e before =
+          let n : k ≡ suc j → ⊥ = eqb-false k (suc j) e in
+          one-other (swept received j bank) (suc j) (getD received j false) k (still j) n ∙ before (omega arith)
+
+-- ---- a whole sweep: the mark of sector k stands at index k - 1
+
+module _ (bank : List ℕ) (n : ℕ) (received : List Bool) where
+  pub length-sweep : length (sweptOf bank n received) ≡ length bank
+  length-sweep = length-swept received (markedOf n) bank
+
+  -- past the last
+  pub swept-past : (k : ℕ) → Has (length bank) k → n < k → sectorOf (sweptOf bank n received) k ≡ sectorOf bank k
+  swept-past k h l = first-past received bank k h (markedOf n) (omega arith)
+
+  -- received
+  pub swept-received : (k : ℕ) → Has (length bank) k → getD received (k - 1) false ≡ true → sectorOf (sweptOf bank n received) k ≡ sectorOf bank k
+  swept-received k h r = by (leb k (markedOf n)) refl
+    where
+      by : (t : Bool) → leb k (markedOf n) ≡ t → sectorOf (sweptOf bank n received) k ≡ sectorOf bank k
+      by true e =
+          first-swept received bank k h (markedOf n) (leb-true k (markedOf n) e) ∙ ap (λ (t : Bool). cond t (sectorOf bank k) blankSector) r
+      by false e = first-past received bank k h (markedOf n) (leb-false k (markedOf n) e)
+
+  -- not received
+  pub swept-missed : (k : ℕ) → Has (length bank) k → k ≤ n → k ≤ 491 → getD received (k - 1) false ≡ false → sectorOf (sweptOf bank n received) k ≡ blankSector
+  swept-missed k h l m r =
+      first-swept received bank k h (markedOf n) (omega arith) ∙ ap (λ (t : Bool). cond t (sectorOf bank k) blankSector) r
+
+-- ---- each way out of a turn, and the turns as the loop has them
+
+module _ (bank : List ℕ) (k : ℕ) where
+  pub one-received : bank ≡ sweptOne bank k true
+  one-received = refl
+
+  pub one-outside : false ≡ hasSector (length bank) k → bank ≡ sweptOne bank k false
+  one-outside h = sym (at-none erasedOf k bank (sym h))
+
+  pub one-erased : (sector : List ℕ) → true ≡ hasSector (length bank) k
+      → sector ≡ erasedOf (take ((startOf k + sectorBytes) - startOf k) (drop (startOf k) bank))
+      → putMid (startOf k) ((startOf k + sectorBytes) - startOf k) bank sector ≡ sweptOne bank k false
+  one-erased sector h e =
+      lent-back bank k (has-told (length bank) k (sym h) .first) sector
+      ∙ ap (withSector bank k) (e ∙ ap erasedOf (lent-out bank k))
+      ∙ sym (at-has erasedOf k bank (sym h))
+
+pub swept-none : (received : List Bool) (bank : List ℕ) → bank ≡ swept received 0 bank
+unfolding swept
+swept-none received bank = refl
+
+pub swept-next : (received : List Bool) (j : ℕ) (bank begun after : List ℕ) → begun ≡ swept received j bank
+    → after ≡ sweptOne begun (j + 1) (getD received j false) → after ≡ swept received (j + 1) bank
+unfolding swept
+swept-next received j bank begun after b a =
+    a ∙ ap (λ (l : List ℕ). sweptOne l (j + 1) (getD received j false)) b ∙ rw add-one
+
+pub swept-all : (received : List Bool) (j m : ℕ) (bank after : List ℕ) → after ≡ swept received j bank → j ≡ m → after ≡ swept received m bank
+swept-all received j m bank after a e = a ∙ ap (λ (i : ℕ). swept received i bank) e

@@ -1,0 +1,161 @@
+-- Bytes written to a sector of a bank: what the sectors are then, and what is answered.
+-- Assumes nothing.
+use mathlib.Core.Path.{_≡_, refl, sym, ap, subst, _∙_}
+use mathlib.Core.Bool.{Bool, true, false, _&&_}
+use mathlib.Core.List.{List}
+use Prim.Native.Nat.{ℕ, _+_, _-_, _%_, _≤_}
+use native.Mathlib.Omega.{arith}
+use lib.ListN.{length, take, drop}
+use borrow.Rule.Slice.PartMut.{putMid}
+use Rattle.buffer.specs.Compare.{sameOf, blankOf}
+use Rattle.buffer.proofs.Bools.{and-left, and-right}
+use Rattle.buffer.proofs.Comparing.{same-self, same-true}
+use Rattle.flash.specs.Sector.{sectorBytes, wordBytes, paddedOf, fitsSector, writtenOf, alreadyOf, WriteSector·Is}
+use Rattle.flash.specs.Bank.{startOf, hasSector, sectorOf, withSector, atSector, writtenAt, alreadyAt, blankAt, WriteAt·Is, SectorBlank·Is}
+use Rattle.flash.proofs.Changes.{Keeps, at-has, at-none, at-same, at-alike, length-at, at-here, at-other, at-then, at-swap}
+use Rattle.flash.proofs.Sectors.{Has, has, has-told, has-still, length-sector, lent-out, lent-back}
+use Rattle.flash.proofs.Words.{Fits, fits, fits-told, length-padded, written-fits, already-fits}
+
+-- ---- one sector
+
+-- what is done to it
+abbrev write : List ℕ → List ℕ → List ℕ
+write bytes sector = writtenOf sector bytes
+
+module _ (sector bytes : List ℕ) where
+  pub written-unfit : fitsSector sector bytes ≡ false → writtenOf sector bytes ≡ sector
+  unfolding writtenOf
+  written-unfit e = rw e
+
+  -- written once more it stays
+  written-stays : writtenOf (writtenOf sector bytes) bytes ≡ writtenOf sector bytes
+  written-stays = by (fitsSector sector bytes) refl
+    where
+      by : (t : Bool) → fitsSector sector bytes ≡ t → writtenOf (writtenOf sector bytes) bytes ≡ writtenOf sector bytes
+      by true e =
+          let f : Fits sector bytes = fits-told sector bytes e in
+          let g : Fits (writtenOf sector bytes) bytes =
+          record {
+            whole = ap length (written-fits sector bytes f) ∙ length-padded bytes (f .short);
+            short = f .short;
+            words = f .words;
+          } in
+          written-fits (writtenOf sector bytes) bytes g ∙ sym (written-fits sector bytes f)
+      by false e = ap (write bytes) (written-unfit e)
+
+  -- one that already was what it should become stays
+  already-stays : alreadyOf sector bytes ≡ true → writtenOf sector bytes ≡ sector
+  unfolding alreadyOf
+  already-stays e =
+      let f : Fits sector bytes = fits-told sector bytes (and-left (fitsSector sector bytes) (sameOf sector (paddedOf bytes)) e) in
+      written-fits sector bytes f
+      ∙ sym (same-true sector (paddedOf bytes) (and-right (fitsSector sector bytes) (sameOf sector (paddedOf bytes)) e))
+
+pub keeps-written : (bytes : List ℕ) → Keeps (write bytes)
+keeps-written bytes sector = by (fitsSector sector bytes) refl
+  where
+    by : (t : Bool) → fitsSector sector bytes ≡ t → length (writtenOf sector bytes) ≡ length sector
+    by true e =
+        let f : Fits sector bytes = fits-told sector bytes e in
+        ap length (written-fits sector bytes f) ∙ length-padded bytes (f .short) ∙ sym (f .whole)
+    by false e = ap length (written-unfit sector bytes e)
+
+-- ---- a bank
+
+-- a sector that the bank has, and bytes that fit it in whole words
+pub record FitsAt (bank : List ℕ) (k : ℕ) (bytes : List ℕ) : Type 0 where
+  pub inside : Has (length bank) k
+  pub short : length bytes ≤ sectorBytes
+  pub words : length bytes % wordBytes ≡ 0
+
+module _ (bank : List ℕ) (k : ℕ) (bytes : List ℕ) where
+  fits-sector : FitsAt bank k bytes → Fits (sectorOf bank k) bytes
+  fits-sector f = record { whole = length-sector bank k (f .inside); short = f .short; words = f .words }
+
+  pub length-written : length (writtenAt bank k bytes) ≡ length bank
+  length-written = length-at (write bytes) (keeps-written bytes) k bank
+
+  -- it fits as it did
+  pub fits-still : FitsAt bank k bytes → FitsAt (writtenAt bank k bytes) k bytes
+  fits-still f = record { inside = has-still length-written (f .inside); short = f .short; words = f .words }
+
+  -- sector k becomes the bytes followed by 0xFF
+  pub written-here : FitsAt bank k bytes → sectorOf (writtenAt bank k bytes) k ≡ paddedOf bytes
+  written-here f =
+      at-here (write bytes) (keeps-written bytes) k bank (f .inside) ∙ written-fits (sectorOf bank k) bytes (fits-sector f)
+
+  -- each other one stays
+  pub written-other : (j : ℕ) → Has (length bank) j → (j ≡ k → ⊥) → sectorOf (writtenAt bank k bytes) j ≡ sectorOf bank j
+  written-other = at-other (write bytes) (keeps-written bytes) k bank
+
+  -- the answer: whether the sector already was what it should become
+  pub already-same : FitsAt bank k bytes → alreadyAt bank k bytes ≡ sameOf (sectorOf bank k) (paddedOf bytes)
+  unfolding alreadyAt
+  already-same f = rw (has (length bank) k (f .inside)) (already-fits (sectorOf bank k) bytes (fits-sector f))
+
+  -- then nothing changes
+  pub already-kept : alreadyAt bank k bytes ≡ true → writtenAt bank k bytes ≡ bank
+  unfolding alreadyAt
+  already-kept e =
+      at-same (write bytes) k bank
+      (already-stays (sectorOf bank k) bytes (and-right (hasSector (length bank) k) (alreadyOf (sectorOf bank k) bytes) e))
+
+  -- the same once more changes nothing, and answers so
+  pub written-again : writtenAt (writtenAt bank k bytes) k bytes ≡ writtenAt bank k bytes
+  written-again =
+      at-then (write bytes) (keeps-written bytes) k bank (write bytes)
+      ∙ at-alike (λ (sector : List ℕ). write bytes (write bytes sector)) k bank (write bytes) (written-stays (sectorOf bank k) bytes)
+
+-- (needs the law above at another bank)
+pub already-again : (bank : List ℕ) (k : ℕ) (bytes : List ℕ) → FitsAt bank k bytes → alreadyAt (writtenAt bank k bytes) k bytes ≡ true
+already-again bank k bytes f =
+    already-same (writtenAt bank k bytes) k bytes (fits-still bank k bytes f)
+    ∙ ap (λ (sector : List ℕ). sameOf sector (paddedOf bytes)) (written-here bank k bytes f)
+    ∙ same-self (paddedOf bytes)
+
+-- two sectors: the bank is the same in either order, and so are the answers
+module _ (bank : List ℕ) (j k : ℕ) (a b : List ℕ) (n : j ≡ k → ⊥) where
+  pub written-swap : writtenAt (writtenAt bank j a) k b ≡ writtenAt (writtenAt bank k b) j a
+  written-swap = at-swap (write a) (write b) (keeps-written a) (keeps-written b) j k bank n
+
+  pub already-other : alreadyAt (writtenAt bank j a) k b ≡ alreadyAt bank k b
+  unfolding alreadyAt
+  already-other =
+      ap (λ (i : ℕ). hasSector i k && alreadyOf (sectorOf (writtenAt bank j a) k) b) (length-written bank j a)
+      ∙ by (hasSector (length bank) k) refl
+    where
+      by : (t : Bool) → hasSector (length bank) k ≡ t
+          → (hasSector (length bank) k && alreadyOf (sectorOf (writtenAt bank j a) k) b) ≡ (hasSector (length bank) k && alreadyOf (sectorOf bank k) b)
+      by true h =
+          ap (λ (sector : List ℕ). hasSector (length bank) k && alreadyOf sector b)
+          (written-other bank j a k (has-told (length bank) k h) (λ e. n (sym e)))
+      by false h = rw h
+
+-- ---- each way out of a write, and of a look at a sector
+
+module _ (bank : List ℕ) (k : ℕ) where
+  pub write-outside : (bytes : List ℕ) → false ≡ hasSector (length bank) k → WriteAt·Is bank k bytes bank false
+  unfolding alreadyAt
+  write-outside bytes h = record { written = sym (at-none (write bytes) k bank (sym h)); already = rw (← h) }
+
+  pub write-inside : (bytes sector : List ℕ) (r : Bool) → true ≡ hasSector (length bank) k
+      → WriteSector·Is (take ((startOf k + sectorBytes) - startOf k) (drop (startOf k) bank)) bytes sector r
+      → WriteAt·Is bank k bytes (putMid (startOf k) ((startOf k + sectorBytes) - startOf k) bank sector) r
+  unfolding alreadyAt
+  write-inside bytes sector r h w =
+      record {
+        written =
+            lent-back bank k (has-told (length bank) k (sym h) .first) sector
+            ∙ ap (withSector bank k) (w .written ∙ ap (write bytes) (lent-out bank k))
+            ∙ sym (at-has (write bytes) k bank (sym h));
+        already = w .already ∙ ap (λ (s : List ℕ). alreadyOf s bytes) (lent-out bank k) ∙ rw (← h);
+      }
+
+  pub blank-outside : false ≡ hasSector (length bank) k → SectorBlank·Is bank k true
+  unfolding blankAt
+  blank-outside h = rw (← h)
+
+  pub blank-inside : (r : Bool) → true ≡ hasSector (length bank) k
+      → r ≡ blankOf (take ((startOf k + sectorBytes) - startOf k) (drop (startOf k) bank)) → SectorBlank·Is bank k r
+  unfolding blankAt
+  blank-inside r h e = rw (← h) (e ∙ ap blankOf (lent-out bank k))

@@ -1,0 +1,72 @@
+-- A bank as sectors (01, 'Banks and sectors'; 'End OTA Write').
+-- Assumes nothing.
+use mathlib.Core.Path.{_≡_}
+use mathlib.Core.Bool.{Bool, true, false, not, _&&_, cond}
+use mathlib.Core.List.{List, _++_}
+use Prim.Native.Nat.{ℕ, zero, suc, _-_, _*_, min}
+use lib.Dec.{eqb, leb}
+use lib.ListN.{length, getD, take, drop}
+use Rattle.buffer.specs.Compare.{blankOf}
+use Rattle.flash.specs.Sector.{sectorBytes, blanks, erasedOf, writtenOf, alreadyOf}
+
+-- the index of the first byte of sector k ("sector k starts at start + (k - 1)·512")
+abbrev pub startOf : ℕ → ℕ
+startOf k = (k - 1) * sectorBytes
+
+-- whether a bank of so many bytes has a sector k ("Sector numbers run from 1")
+unfoldable pub hasSector : ℕ → ℕ → Bool
+hasSector bytes k = not (eqb k 0) && leb (k * sectorBytes) bytes
+
+-- the bytes of sector k
+unfoldable pub sectorOf : List ℕ → ℕ → List ℕ
+sectorOf bank k = take sectorBytes (drop (startOf k) bank)
+
+-- the bank with another sector k
+unfoldable pub withSector : List ℕ → ℕ → List ℕ → List ℕ
+withSector bank k sector = take (startOf k) bank ++ (sector ++ drop (k * sectorBytes) bank)
+
+-- a sector that was erased
+unfoldable pub blankSector : List ℕ
+blankSector = blanks sectorBytes
+
+-- the bank after something was done to its sector k; one that it does not have changes nothing
+unfoldable pub atSector : (List ℕ → List ℕ) → ℕ → List ℕ → List ℕ
+atSector f k bank = cond (hasSector (length bank) k) (withSector bank k (f (sectorOf bank k))) bank
+
+-- the bank after the bytes were written to sector k
+abbrev pub writtenAt : List ℕ → ℕ → List ℕ → List ℕ
+writtenAt bank k bytes = atSector (λ (sector : List ℕ). writtenOf sector bytes) k bank
+
+-- whether sector k already was what it should become; a sector that the bank does not have never was
+unfoldable pub alreadyAt : List ℕ → ℕ → List ℕ → Bool
+alreadyAt bank k bytes = hasSector (length bank) k && alreadyOf (sectorOf bank k) bytes
+
+-- every byte of sector k is 0xFF; so is one that the bank does not have, since no byte of it is another
+unfoldable pub blankAt : List ℕ → ℕ → Bool
+blankAt bank k = cond (hasSector (length bank) k) (blankOf (sectorOf bank k)) true
+
+-- the bank after sector k was swept: "each sector not received in this session is erased to 0xFF"
+abbrev pub sweptOne : List ℕ → ℕ → Bool → List ℕ
+sweptOne bank k received = cond received bank (atSector erasedOf k bank)
+
+-- after the first n sectors were; the mark at index j is that of sector j + 1
+unfoldable pub swept : List Bool → ℕ → List ℕ → List ℕ
+swept received zero bank = bank
+swept received (suc j) bank = sweptOne (swept received j bank) (suc j) (getD received j false)
+
+-- how many of the first n sectors have a mark ("N from 1 to 491")
+abbrev pub markedOf : ℕ → ℕ
+markedOf n = min n 491
+
+abbrev pub sweptOf : List ℕ → ℕ → List Bool → List ℕ
+sweptOf bank n received = swept received (markedOf n) bank
+
+pub record WriteAt·Is (before : List ℕ) (k : ℕ) (bytes after : List ℕ) (r : Bool) : Type 0 where
+  pub written : after ≡ writtenAt before k bytes
+  pub already : r ≡ alreadyAt before k bytes
+
+abbrev pub SectorBlank·Is : List ℕ → ℕ → Bool → Type 0
+SectorBlank·Is bank k r = r ≡ blankAt bank k
+
+abbrev pub Sweep·Is : List ℕ → ℕ → List Bool → List ℕ → Type 0
+Sweep·Is before n received after = after ≡ sweptOf before n received

@@ -1,0 +1,80 @@
+// A bank of sectors, numbered from 1. Only the bytes of one sector are lent on to what changes them.
+use crate::sector::SECTOR;
+ghost use mathlib.Core.Path.{_≡_};
+ghost use Prim.Native.Nat.{_+_, _≤_};
+ghost use lib.ListN.{length};
+ghost use Rattle.flash.specs.Bank.{hasSector, markedOf, sweptOne, swept, WriteAt·Is, SectorBlank·Is, Sweep·Is};
+
+// As many marks as a session has: one for each sector of the largest bank.
+pub const MARKS: usize = 491;
+
+// Whether sector `k` lies within a bank of so many bytes.
+fn has_sector(bytes: usize, k: usize) -> bool
+    ensures { λ r. ⌜ r ≡ hasSector bytes k ⌝ }
+{
+    if k == 0 {
+        return false;
+    }
+    k <= bytes / SECTOR
+}
+
+// Sector `k` becomes the bytes followed by 0xFF. Whether all of it already was that.
+pub fn write_at(bank: &mut [u8], k: usize, bytes: &[u8]) -> bool
+    ensures { λ r. ⌜ WriteAt·Is (now (bank .entry)) k (now (bytes .entry)) (now (bank .exit)) r ⌝ }
+{
+    if !has_sector(bank.len(), k) {
+        return false;
+    }
+    let from = (k - 1) * SECTOR;
+    let to = from + SECTOR;
+    crate::sector::write_sector(&mut bank[from..to], bytes)
+}
+
+// Whether every byte of sector `k` is 0xFF, as of one that the bank does not have.
+pub fn sector_blank(bank: &[u8], k: usize) -> bool
+    ensures { λ r. ⌜ SectorBlank·Is (now (bank .entry)) k r ⌝ }
+{
+    if !has_sector(bank.len(), k) {
+        return true;
+    }
+    let from = (k - 1) * SECTOR;
+    let to = from + SECTOR;
+    buffer::compare::blank(&bank[from..to])
+}
+
+// Sector `k` is erased, unless it was received.
+fn sweep_one(bank: &mut [u8], k: usize, received: bool)
+    ensures { λ _. ⌜ now (bank .exit) ≡ sweptOne (now (bank .entry)) k received ⌝ }
+{
+    if received {
+        return;
+    }
+    if !has_sector(bank.len(), k) {
+        return;
+    }
+    let from = (k - 1) * SECTOR;
+    let to = from + SECTOR;
+    crate::sector::erase(&mut bank[from..to]);
+}
+
+// How many of the first `n` sectors have a mark.
+fn marked(n: usize) -> usize
+    ensures { λ r. ⌜ r ≡ markedOf n ⌝ }
+{
+    if n < MARKS {
+        return n;
+    }
+    MARKS
+}
+
+// Each of sectors 1 to `n` that was not received is erased, blank or not.
+pub fn sweep(bank: &mut [u8], n: usize, received: [bool; 491])
+    ensures { λ _. ⌜ Sweep·Is (now (bank .entry)) n received (now (bank .exit)) ⌝ }
+{
+    let last = marked(n);
+    let mut j = 0;
+    while j < last {
+        sweep_one(bank, j + 1, received[j]);
+        j += 1;
+    }
+}
