@@ -1,7 +1,7 @@
 -- What a buffer holds after bytes were put to a place of it.
 -- Assumes nothing.
 use mathlib.Core.Path.{_≡_, refl, sym, ap, _∙_}
-use mathlib.Core.List.{List, _++_}
+use mathlib.Core.List.{List, [], _++_, append-nil}
 use Prim.Native.Nat.{ℕ, zero, _+_, _≤_, _<_}
 use native.Mathlib.Nat.{zero-add}
 use native.Mathlib.Omega.{arith}
@@ -53,9 +53,27 @@ module _ (buffer bytes : List ℕ) where
   pub front-drop : length bytes ≤ length buffer → drop (length bytes) (frontOf buffer bytes) ≡ drop (length bytes) buffer
   front-drop h = ap (drop (length bytes)) (front-fits h) ∙ drop-at bytes (drop (length bytes) buffer) (length bytes) refl
 
+-- no bytes
+pub front-none : (buffer : List ℕ) → frontOf buffer [] ≡ buffer
+front-none buffer = front-fits buffer [] (omega arith)
+
+-- as many bytes as the buffer has
+pub front-whole : (buffer bytes : List ℕ) → length bytes ≡ length buffer → frontOf buffer bytes ≡ bytes
+front-whole buffer bytes e =
+    front-fits buffer bytes (omega arith)
+    ∙ ap (λ (r : List ℕ). bytes ++ r) (drop-of-length-le buffer {i = length bytes} (omega arith))
+    ∙ append-nil bytes
+
 -- bytes put right behind a beginning
 pub place-next : (a rest bytes : List ℕ) → length bytes ≤ length rest → placeOf (a ++ rest) (length a) bytes ≡ a ++ bytes ++ drop (length bytes) rest
 place-next a rest bytes h =
     let n : length (a ++ rest) ≡ length a + length rest = length-append a rest in
     place-fits (a ++ rest) (length a) bytes (omega arith)
     ∙ rw (take-append-seam a rest, drop-append-add a rest (length bytes))
+
+-- bytes put right behind a beginning, up to the end
+pub place-last : (a rest bytes : List ℕ) → length bytes ≡ length rest → placeOf (a ++ rest) (length a) bytes ≡ a ++ bytes
+place-last a rest bytes e =
+    place-next a rest bytes (omega arith)
+    ∙ ap (λ (r : List ℕ). a ++ bytes ++ r) (drop-of-length-le rest {i = length bytes} (omega arith))
+    ∙ append-nil (a ++ bytes)

@@ -33,6 +33,16 @@ length-write sector bytes footer =
     length-framed 0x02 (bytesOf 2 sector ++ bytesOf 2 (length bytes) ++ bytes) (footerByte footer)
     ∙ (rw (length-append (bytesOf 2 sector ++ bytesOf 2 (length bytes)) bytes, length-append (bytesOf 2 sector) (bytesOf 2 (length bytes)), length-bytes 2 sector, length-bytes 2 (length bytes)) (omega arith))
 
+-- ---- what the length field can count
+
+pub control-fits : (buffer : List ℕ) (code : ℕ) (parameters : List ℕ) → length parameters ≤ 254 → putControl buffer code parameters ≡ frontOf buffer (controlFrame code parameters)
+unfolding putControl
+control-fits buffer code parameters h = rw (le-leb (length parameters) 254 h)
+
+pub write-fits : (buffer : List ℕ) (sector : ℕ) (bytes : List ℕ) (footer : Footer) → length bytes ≤ 65535 → putWrite buffer sector bytes footer ≡ frontOf buffer (writeFrame sector bytes footer)
+unfolding putWrite
+write-fits buffer sector bytes footer h = rw (le-leb (length bytes) 65535 h)
+
 -- ---- the pieces: a beginning, the bytes behind it, checksum and footer behind these
 
 close-next : (first : ℕ) (covered left : List ℕ) (footer : ℕ) → 2 ≤ length left → closedAt (first ∷ covered ++ left) (suc (length covered)) footer ≡ framed first covered footer ++ drop 2 left

@@ -1,0 +1,8 @@
+pub mod Answer
+pub mod Command
+pub mod Host
+pub mod Notice
+
+
+pub mod Record
+
