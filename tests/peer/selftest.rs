@@ -7,7 +7,7 @@ pub fn run() -> Result<(), String> {
     match checks.concat().into_iter().find(|(_, good)| !good) {
         Some((what, _)) => Err(format!("selftest: {}", what)),
         None => {
-            println!("peer selftest: {} values hold", count);
+            println!("{} published values and worked examples hold", count);
             Ok(())
         }
     }

@@ -8,7 +8,7 @@ use native.Mathlib.Nat.{not-suc-le-zero}
 use native.Mathlib.Numerals.{add-one}
 use native.Mathlib.Omega.{arith}
 use lib.Dec.{eqb}
-use lib.ListN.{length, getD, take, drop, replicate, drop-of-length-le}
+use lib.ListN.{length, getD, take, drop, replicate, drop-of-length-le, take-append-drop}
 use lib.Seq.{drop-cons}
 use borrow.Author.Tests.{eq-eqb, ne-eqb, eqb-true}
 use Rattle.buffer.proofs.Bools.{and-assoc, and-true, and-left, and-right, and-both}
@@ -44,6 +44,13 @@ pub at-blank : (l : List ℕ) → ((i : ℕ) → i < length l → getD l i 0 ≡
 unfolding blankOf
 at-blank [] f = refl
 at-blank (x ∷ l) f = and-both (eqb x 0xFF) (blankOf l) (eq-eqb x 0xFF (f 0 (omega arith))) (at-blank l (λ i h. f (suc i) (omega arith)))
+
+-- a part of what is blank
+pub blank-part : (l : List ℕ) (a n : ℕ) → blankOf l ≡ true → blankOf (take n (drop a l)) ≡ true
+blank-part l a n e =
+    let r : blankOf (drop a l) ≡ true = and-right (blankOf (take a l)) (blankOf (drop a l)) (sym (blank-append (take a l) (drop a l)) ∙ ap blankOf (take-append-drop a l) ∙ e) in
+    and-left (blankOf (take n (drop a l))) (blankOf (drop (a + n) l))
+    (sym (blank-append (take n (drop a l)) (drop (a + n) l)) ∙ ap blankOf (sym (part-rest l a n)) ∙ r)
 
 -- one byte more of a run
 pub blank-more : (l : List ℕ) (i : ℕ) (r : Bool) → i < length l → ((r && eqb (getD l i 0) 0xFF) && blankOf (drop (i + 1) l)) ≡ (r && blankOf (drop i l))

@@ -6,7 +6,7 @@ use Prim.Native.Nat.{ℕ, zero, _+_, _≤_, _<_}
 use native.Mathlib.Nat.{zero-add}
 use native.Mathlib.Omega.{arith}
 use lib.Dec.{leb}
-use lib.ListN.{length, take, drop, length-append, length-drop}
+use lib.ListN.{length, take, drop, length-append, length-drop, drop-of-length-le}
 use lib.Seq.{length-take-le, take-at, drop-at, take-append-seam, drop-append-add}
 use borrow.Author.Tests.{leb-true, le-leb, lt-leb}
 use Rattle.buffer.proofs.Bools.{split}

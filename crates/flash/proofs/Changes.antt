@@ -5,10 +5,9 @@ use mathlib.Core.Bool.{Bool, true, false, cond}
 use mathlib.Core.List.{List}
 use Prim.Native.Nat.{ℕ}
 use lib.ListN.{length}
-use Rattle.buffer.proofs.Bools.{split}
 use Rattle.flash.specs.Sector.{sectorBytes}
 use Rattle.flash.specs.Bank.{hasSector, sectorOf, withSector, atSector}
-use Rattle.flash.proofs.Sectors.{Has, has, has-told, has-still, length-sector, length-with, with-here, with-other, with-again, with-same, with-swap}
+use Rattle.flash.proofs.Sectors.{Has, has, has-told, length-sector, length-with, with-here, with-other, with-again, with-same, with-swap}
 
 -- a sector keeps its length
 abbrev pub Keeps : (List ℕ → List ℕ) → Type 0

@@ -1,4 +1,6 @@
+pub mod Blanks
 pub mod Changes
+pub mod Received
 pub mod Sectors
 pub mod Stores
 pub mod Sweeps

@@ -1,19 +1,19 @@
 -- A bank and its sectors: one sector another, all others as they were; and a bank is known by its sectors.
 -- Assumes nothing.
 use mathlib.Core.Path.{_≡_, refl, sym, ap, ap₂, _∙_}
-use mathlib.Core.Bool.{Bool, true, false, not, _&&_, cond}
-use mathlib.Core.List.{List, [], _∷_, _++_, append-assoc}
-use Prim.Native.Nat.{ℕ, zero, suc, _+_, _-_, _*_, _/_, _%_, _≤_, _<_}
+use mathlib.Core.Bool.{Bool, true, false, not}
+use mathlib.Core.List.{List, _++_, append-assoc}
+use Prim.Native.Nat.{ℕ, _+_, _-_, _*_, _/_, _%_, _≤_, _<_}
 use native.Mathlib.Omega.{arith}
 use lib.Dec.{eqb, leb}
 use lib.ListN.{length, getD, take, drop, length-append, length-drop, take-append-drop, List·getD-append}
 use lib.Seq.{take-at, drop-at, length-take-le, ext-getD, getD-take, getD-drop, getD-append-add}
 use borrow.Rule.Slice.PartMut.{putMid}
-use borrow.Author.Tests.{eqb-true, eqb-false, leb-true, leb-false, le-leb, lt-leb, eq-eqb, ne-eqb, not-true}
+use borrow.Author.Tests.{eqb-true, eqb-false, leb-true, leb-false, le-leb, lt-leb, eq-eqb, ne-eqb, not-true, not-false}
 use Rattle.buffer.proofs.Bools.{and-left, and-right}
 use Rattle.buffer.proofs.Parts.{part-out, part-back, part-length, part-rest}
 use Rattle.flash.specs.Sector.{sectorBytes}
-use Rattle.flash.specs.Bank.{startOf, hasSector, sectorOf, withSector, atSector}
+use Rattle.flash.specs.Bank.{startOf, hasSector, sectorOf, withSector}
 
 -- ---- the sectors that a bank of so many bytes has
 
@@ -36,6 +36,10 @@ module _ (bytes k : ℕ) where
         first = omega arith;
         last = leb-true (k * sectorBytes) bytes (and-right (not (eqb k 0)) (leb (k * sectorBytes) bytes) e);
       }
+
+  -- told by the code's own test
+  pub has-tested : (r : Bool) → r ≡ hasSector bytes k → not r ≡ false → Has bytes k
+  has-tested r e f = has-told (sym e ∙ not-false r f)
 
   -- as the code tests it
   pub has-zero : k ≡ 0 → false ≡ hasSector bytes k
@@ -179,16 +183,16 @@ with-same bank k h =
 
 -- ---- the part of a bank that is its sector k, lent and come back
 
-module _ (bank : List ℕ) (k : ℕ) where
-  pub lent-out : take ((startOf k + sectorBytes) - startOf k) (drop (startOf k) bank) ≡ sectorOf bank k
+module _ (bank : List ℕ) (k start : ℕ) (e : start ≡ startOf k) where
+  pub lent-out : take ((start + sectorBytes) - start) (drop start bank) ≡ sectorOf bank k
   unfolding sectorOf
-  lent-out = part-out bank (startOf k) sectorBytes
+  lent-out = part-out bank start sectorBytes ∙ ap (λ (i : ℕ). take sectorBytes (drop i bank)) e
 
-  pub lent-back : 1 ≤ k → (sector : List ℕ) → putMid (startOf k) ((startOf k + sectorBytes) - startOf k) bank sector ≡ withSector bank k sector
+  pub lent-back : 1 ≤ k → (sector : List ℕ) → putMid start ((start + sectorBytes) - start) bank sector ≡ withSector bank k sector
   unfolding withSector
   lent-back h sector =
-      let e : startOf k + sectorBytes ≡ k * sectorBytes = omega arith in
-      part-back bank sector (startOf k) sectorBytes ∙ ap (λ (i : ℕ). take (startOf k) bank ++ (sector ++ drop i bank)) e
+      let f : start + sectorBytes ≡ k * sectorBytes = omega arith in
+      part-back bank sector start sectorBytes ∙ ap₂ (λ (i m : ℕ). take i bank ++ (sector ++ drop m bank)) e f
 
 -- ---- two sectors
 

@@ -1,17 +1,17 @@
 -- The stores one by one: what they leave is what the functions leave.
 -- Assumes nothing.
 use mathlib.Core.Path.{_≡_, refl, sym, ap, _∙_}
-use mathlib.Core.Bool.{Bool, true, false, not, _&&_, cond}
+use mathlib.Core.Bool.{Bool, true, false, _&&_}
 use mathlib.Core.List.{List, [], _∷_, _++_, map}
 use Prim.Native.Nat.{ℕ, zero, suc}
-use lib.ListN.{length, getD, length-replicate}
+use lib.ListN.{length, getD}
 use Rattle.buffer.specs.Compare.{sameOf}
 use Rattle.buffer.proofs.Places.{length-place}
 use Rattle.buffer.proofs.Bools.{and-left, and-right}
 use Rattle.flash.specs.Sector.{erasedOf, paddedOf, fitsSector, writtenOf, alreadyOf}
 use Rattle.flash.specs.Bank.{hasSector, sectorOf, atSector, writtenAt, alreadyAt, sweptOne, swept, sweptOf, markedOf}
-use Rattle.flash.specs.Store.{Store, Erase, Word, made, allMade, storesOf, madeIn, allMadeIn, storesAt, sweepStore, sweepStores, storesOfSweep}
-use Rattle.flash.proofs.Changes.{Keeps, at-has, at-none, at-same, at-alike, length-at, at-then}
+use Rattle.flash.specs.Store.{Store, Erase, Word, made, allMade, storesOf, allMadeIn, storesAt, sweepStore, sweepStores, storesOfSweep}
+use Rattle.flash.proofs.Changes.{Keeps, at-none, at-same, at-alike, at-then}
 use Rattle.flash.proofs.Sweeps.{keeps-erased, length-swept}
 use Rattle.flash.proofs.Words.{stores-leave}
 

@@ -1,28 +1,24 @@
 -- A sweep: what each sector is then.
 -- Assumes nothing.
-use mathlib.Core.Path.{_≡_, refl, sym, ap, subst, _∙_}
-use mathlib.Core.Bool.{Bool, true, false, cond}
+use mathlib.Core.Path.{_≡_, refl, sym, ap, _∙_}
+use mathlib.Core.Bool.{Bool, true, false, not, cond}
 use mathlib.Core.List.{List}
-use Prim.Native.Nat.{ℕ, zero, suc, _+_, _-_, _≤_, _<_, min}
+use Prim.Native.Nat.{ℕ, zero, suc, _+_, _-_, _≤_, _<_}
 use native.Mathlib.Numerals.{add-one}
 use native.Mathlib.Omega.{arith}
 use lib.Dec.{eqb, leb}
 use lib.ListN.{length, getD, take, drop, length-replicate}
-use borrow.Author.Tests.{eqb-true, eqb-false, leb-true, leb-false}
+use borrow.Author.Tests.{eqb-true, eqb-false, leb-true, leb-false, not-true}
 use borrow.Rule.Slice.PartMut.{putMid}
-use Rattle.flash.specs.Sector.{sectorBytes, blanks, erasedOf}
-use Rattle.flash.specs.Bank.{startOf, hasSector, sectorOf, withSector, blankSector, atSector, sweptOne, swept, markedOf, sweptOf}
+use Rattle.flash.specs.Sector.{sectorBytes, erasedOf}
+use Rattle.flash.specs.Bank.{startOf, hasSector, sectorOf, withSector, blankSector, sweptOne, swept, marks, markedOf, sweptOf}
+use Rattle.flash.proofs.Blanks.{erased-blank}
 use Rattle.flash.proofs.Changes.{Keeps, at-has, at-none, length-at, at-here, at-other}
-use Rattle.flash.proofs.Sectors.{Has, has-told, has-still, length-sector, lent-out, lent-back}
+use Rattle.flash.proofs.Sectors.{Has, has, has-still, length-sector, lent-out, lent-back}
 
 pub keeps-erased : Keeps erasedOf
 unfolding erasedOf
 keeps-erased sector = length-replicate (length sector) 0xFF
-
--- a whole sector that was erased
-pub erased-blank : (sector : List ℕ) → length sector ≡ sectorBytes → erasedOf sector ≡ blankSector
-unfolding erasedOf blankSector
-erased-blank sector e = ap blanks e
 
 -- ---- one sector swept
 
@@ -88,6 +84,10 @@ module _ (bank : List ℕ) (n : ℕ) (received : List Bool) where
   pub length-sweep : length (sweptOf bank n received) ≡ length bank
   length-sweep = length-swept received (markedOf n) bank
 
+  -- each sector that has a mark
+  pub swept-sector : (k : ℕ) → Has (length bank) k → k ≤ n → k ≤ marks → sectorOf (sweptOf bank n received) k ≡ cond (getD received (k - 1) false) (sectorOf bank k) blankSector
+  swept-sector k h l m = first-swept received bank k h (markedOf n) (omega arith)
+
   -- past the last
   pub swept-past : (k : ℕ) → Has (length bank) k → n < k → sectorOf (sweptOf bank n received) k ≡ sectorOf bank k
   swept-past k h l = first-past received bank k h (markedOf n) (omega arith)
@@ -102,26 +102,27 @@ module _ (bank : List ℕ) (n : ℕ) (received : List Bool) where
       by false e = first-past received bank k h (markedOf n) (leb-false k (markedOf n) e)
 
   -- not received
-  pub swept-missed : (k : ℕ) → Has (length bank) k → k ≤ n → k ≤ 491 → getD received (k - 1) false ≡ false → sectorOf (sweptOf bank n received) k ≡ blankSector
+  pub swept-missed : (k : ℕ) → Has (length bank) k → k ≤ n → k ≤ marks → getD received (k - 1) false ≡ false → sectorOf (sweptOf bank n received) k ≡ blankSector
   swept-missed k h l m r =
-      first-swept received bank k h (markedOf n) (omega arith) ∙ ap (λ (t : Bool). cond t (sectorOf bank k) blankSector) r
+      swept-sector k h l m ∙ ap (λ (t : Bool). cond t (sectorOf bank k) blankSector) r
 
 -- ---- each way out of a turn, and the turns as the loop has them
 
-module _ (bank : List ℕ) (k : ℕ) where
-  pub one-received : bank ≡ sweptOne bank k true
-  one-received = refl
+pub one-received : (bank : List ℕ) (k : ℕ) (received : Bool) → received ≡ true → bank ≡ sweptOne bank k received
+one-received bank k received e = rw e
 
-  pub one-outside : false ≡ hasSector (length bank) k → bank ≡ sweptOne bank k false
-  one-outside h = sym (at-none erasedOf k bank (sym h))
+pub one-outside : (bank : List ℕ) (k : ℕ) (received r : Bool) → received ≡ false → r ≡ hasSector (length bank) k → not r ≡ true → bank ≡ sweptOne bank k received
+one-outside bank k received r e h t = rw e (sym (at-none erasedOf k bank (sym h ∙ not-true r t)))
 
-  pub one-erased : (sector : List ℕ) → true ≡ hasSector (length bank) k
-      → sector ≡ erasedOf (take ((startOf k + sectorBytes) - startOf k) (drop (startOf k) bank))
-      → putMid (startOf k) ((startOf k + sectorBytes) - startOf k) bank sector ≡ sweptOne bank k false
-  one-erased sector h e =
-      lent-back bank k (has-told (length bank) k (sym h) .first) sector
-      ∙ ap (withSector bank k) (e ∙ ap erasedOf (lent-out bank k))
-      ∙ sym (at-has erasedOf k bank (sym h))
+-- the part that was lent for the sector, and what came back
+pub one-erased : (bank : List ℕ) (k start : ℕ) (received : Bool) (sector : List ℕ) → received ≡ false → Has (length bank) k → start ≡ startOf k
+    → sector ≡ erasedOf (take ((start + sectorBytes) - start) (drop start bank))
+    → putMid start ((start + sectorBytes) - start) bank sector ≡ sweptOne bank k received
+one-erased bank k start received sector e h s a =
+    rw e
+    (lent-back bank k start s (h .first) sector
+    ∙ ap (withSector bank k) (a ∙ ap erasedOf (lent-out bank k start s))
+    ∙ sym (at-has erasedOf k bank (has (length bank) k h)))
 
 pub swept-none : (received : List Bool) (bank : List ℕ) → bank ≡ swept received 0 bank
 unfolding swept

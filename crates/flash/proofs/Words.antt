@@ -1,28 +1,26 @@
 -- A sector erased and written word by word: what the stores leave is the bytes followed by 0xFF.
 -- Assumes nothing.
 use mathlib.Core.Path.{_≡_, refl, sym, ap, _∙_}
-use mathlib.Core.Bool.{Bool, true, false, not, _&&_, cond}
+use mathlib.Core.Bool.{Bool, true, false, _&&_}
 use mathlib.Core.List.{List, [], _∷_, _++_, append-assoc}
 use Prim.Native.Nat.{ℕ, zero, suc, _+_, _-_, _*_, _/_, _%_, _≤_, _<_}
 use native.Mathlib.Numerals.{add-one}
 use native.Mathlib.Omega.{arith}
 use lib.Dec.{eqb, leb}
-use lib.ListN.{length, getD, take, drop, replicate, length-append, length-drop, length-replicate, replicate-append-replicate, take-append-drop}
+use lib.ListN.{length, getD, take, drop, length-append, length-drop, replicate-append-replicate, take-append-drop}
 use lib.Seq.{take-add, drop-at, length-take-le, take-length}
 use borrow.Author.Tests.{eqb-true, leb-true, le-leb, lt-leb, eq-eqb, ne-eqb}
 use Rattle.buffer.specs.Compare.{sameOf, blankOf}
 use Rattle.buffer.specs.Place.{placeOf}
 use Rattle.buffer.proofs.Bools.{and-left, and-right}
-use Rattle.buffer.proofs.Comparing.{blank-true, same-append, same-filled, same-true}
+use Rattle.buffer.proofs.Comparing.{blank-true, blank-filled, blank-part, same-append, same-filled, same-true}
 use Rattle.buffer.proofs.Parts.{part-next, part-length}
 use Rattle.buffer.proofs.Places.{place-next}
 use Rattle.flash.specs.Sector.{sectorBytes, wordBytes, blanks, erasedOf, paddedOf, fitsSector, writtenOf, alreadyOf, WriteSector·Is}
-use Rattle.flash.specs.Store.{Store, Erase, Word, allMade, wordAt, wordStore, wordStores, storesOf}
+use Rattle.flash.specs.Store.{Store, Erase, allMade, wordAt, wordStore, wordStores, storesOf}
+use Rattle.flash.proofs.Blanks.{length-blanks, erased-blank, padded-blanks}
 
 -- ---- bytes followed by 0xFF
-
-length-blanks : (n : ℕ) → length (blanks n) ≡ n
-length-blanks n = length-replicate n 0xFF
 
 pub length-padded : (bytes : List ℕ) → length bytes ≤ sectorBytes → length (paddedOf bytes) ≡ sectorBytes
 unfolding paddedOf
@@ -30,8 +28,7 @@ length-padded bytes h = omega (arith, length-append bytes (blanks (sectorBytes -
 
 -- a sector that was erased is no bytes, followed by 0xFF
 pub padded-none : (sector : List ℕ) → length sector ≡ sectorBytes → erasedOf sector ≡ paddedOf []
-unfolding erasedOf paddedOf
-padded-none sector e = ap (λ (n : ℕ). blanks n) e
+padded-none sector e = erased-blank sector e ∙ sym (padded-blanks [] (omega arith) (blank-filled 0))
 
 -- 0xFF over and over is some of it and the rest
 filled-parts : (n w m : ℕ) → n ≡ w + m → blanks n ≡ blanks w ++ blanks m
@@ -141,6 +138,12 @@ words-leave bytes (suc i) h l =
     ∙ word-more bytes i begun b (omega arith) (blankOf (wordAt bytes i)) refl
     ∙ sym (ap (λ (k : ℕ). paddedOf (take k bytes)) e ∙ ap paddedOf (take-add (i * wordBytes) wordBytes bytes))
 
+-- blank bytes have no word to store
+blank-words : (bytes : List ℕ) (n : ℕ) → blankOf bytes ≡ true → wordStores bytes n ≡ []
+unfolding wordStores wordStore
+blank-words bytes zero b = refl
+blank-words bytes (suc i) b = rw (blank-words bytes i b, blank-part bytes (i * wordBytes) wordBytes b)
+
 -- ---- the whole sector
 
 -- a whole sector, and bytes that fit it in whole words
@@ -192,6 +195,11 @@ module _ (sector bytes : List ℕ) where
       by false s e g = rw e
       by true true e g = rw (e, g) (same-true sector (paddedOf bytes) g)
       by true false e g = rw (e, g) (words-stored (fits-told e))
+
+  -- blank bytes take one store over what is not blank: the sector is erased
+  pub blank-stores : Fits sector bytes → blankOf bytes ≡ true → sameOf sector (paddedOf bytes) ≡ false → storesOf sector bytes ≡ Erase ∷ []
+  unfolding storesOf
+  blank-stores f b d = rw (fits f, d) (ap (λ (l : List Store). Erase ∷ l) (blank-words bytes (length bytes / wordBytes) b))
 
   -- ---- each way out of the writing of a sector
 

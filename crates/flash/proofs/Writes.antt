@@ -1,17 +1,17 @@
 -- Bytes written to a sector of a bank: what the sectors are then, and what is answered.
 -- Assumes nothing.
-use mathlib.Core.Path.{_≡_, refl, sym, ap, subst, _∙_}
-use mathlib.Core.Bool.{Bool, true, false, _&&_}
+use mathlib.Core.Path.{_≡_, refl, sym, ap, _∙_}
+use mathlib.Core.Bool.{Bool, true, false, not, _&&_}
 use mathlib.Core.List.{List}
 use Prim.Native.Nat.{ℕ, _+_, _-_, _%_, _≤_}
-use native.Mathlib.Omega.{arith}
 use lib.ListN.{length, take, drop}
+use borrow.Author.Tests.{not-true}
 use borrow.Rule.Slice.PartMut.{putMid}
-use Rattle.buffer.specs.Compare.{sameOf, blankOf}
+use Rattle.buffer.specs.Compare.{sameOf}
 use Rattle.buffer.proofs.Bools.{and-left, and-right}
 use Rattle.buffer.proofs.Comparing.{same-self, same-true}
 use Rattle.flash.specs.Sector.{sectorBytes, wordBytes, paddedOf, fitsSector, writtenOf, alreadyOf, WriteSector·Is}
-use Rattle.flash.specs.Bank.{startOf, hasSector, sectorOf, withSector, atSector, writtenAt, alreadyAt, blankAt, WriteAt·Is, SectorBlank·Is}
+use Rattle.flash.specs.Bank.{startOf, hasSector, sectorOf, withSector, writtenAt, alreadyAt, WriteAt·Is}
 use Rattle.flash.proofs.Changes.{Keeps, at-has, at-none, at-same, at-alike, length-at, at-here, at-other, at-then, at-swap}
 use Rattle.flash.proofs.Sectors.{Has, has, has-told, has-still, length-sector, lent-out, lent-back}
 use Rattle.flash.proofs.Words.{Fits, fits, fits-told, length-padded, written-fits, already-fits}
@@ -51,7 +51,7 @@ module _ (sector bytes : List ℕ) where
       written-fits sector bytes f
       ∙ sym (same-true sector (paddedOf bytes) (and-right (fitsSector sector bytes) (sameOf sector (paddedOf bytes)) e))
 
-pub keeps-written : (bytes : List ℕ) → Keeps (write bytes)
+pub keeps-written : (bytes : List ℕ) → Keeps (λ (sector : List ℕ). writtenOf sector bytes)
 keeps-written bytes sector = by (fitsSector sector bytes) refl
   where
     by : (t : Bool) → fitsSector sector bytes ≡ t → length (writtenOf sector bytes) ≡ length sector
@@ -100,13 +100,13 @@ module _ (bank : List ℕ) (k : ℕ) (bytes : List ℕ) where
       at-same (write bytes) k bank
       (already-stays (sectorOf bank k) bytes (and-right (hasSector (length bank) k) (alreadyOf (sectorOf bank k) bytes) e))
 
-  -- the same once more changes nothing, and answers so
+  -- the same once more changes nothing
   pub written-again : writtenAt (writtenAt bank k bytes) k bytes ≡ writtenAt bank k bytes
   written-again =
       at-then (write bytes) (keeps-written bytes) k bank (write bytes)
       ∙ at-alike (λ (sector : List ℕ). write bytes (write bytes sector)) k bank (write bytes) (written-stays (sectorOf bank k) bytes)
 
--- (needs the law above at another bank)
+-- and answers so
 pub already-again : (bank : List ℕ) (k : ℕ) (bytes : List ℕ) → FitsAt bank k bytes → alreadyAt (writtenAt bank k bytes) k bytes ≡ true
 already-again bank k bytes f =
     already-same (writtenAt bank k bytes) k bytes (fits-still bank k bytes f)
@@ -131,31 +131,25 @@ module _ (bank : List ℕ) (j k : ℕ) (a b : List ℕ) (n : j ≡ k → ⊥) wh
           (written-other bank j a k (has-told (length bank) k h) (λ e. n (sym e)))
       by false h = rw h
 
--- ---- each way out of a write, and of a look at a sector
+-- ---- each way out of a write
 
-module _ (bank : List ℕ) (k : ℕ) where
-  pub write-outside : (bytes : List ℕ) → false ≡ hasSector (length bank) k → WriteAt·Is bank k bytes bank false
-  unfolding alreadyAt
-  write-outside bytes h = record { written = sym (at-none (write bytes) k bank (sym h)); already = rw (← h) }
+pub write-outside : (bank : List ℕ) (k : ℕ) (bytes : List ℕ) (r : Bool) → r ≡ hasSector (length bank) k → not r ≡ true → WriteAt·Is bank k bytes bank false
+unfolding alreadyAt
+write-outside bank k bytes r h t =
+    let n : hasSector (length bank) k ≡ false = sym h ∙ not-true r t in
+    record { written = sym (at-none (write bytes) k bank n); already = rw n }
 
-  pub write-inside : (bytes sector : List ℕ) (r : Bool) → true ≡ hasSector (length bank) k
-      → WriteSector·Is (take ((startOf k + sectorBytes) - startOf k) (drop (startOf k) bank)) bytes sector r
-      → WriteAt·Is bank k bytes (putMid (startOf k) ((startOf k + sectorBytes) - startOf k) bank sector) r
-  unfolding alreadyAt
-  write-inside bytes sector r h w =
-      record {
-        written =
-            lent-back bank k (has-told (length bank) k (sym h) .first) sector
-            ∙ ap (withSector bank k) (w .written ∙ ap (write bytes) (lent-out bank k))
-            ∙ sym (at-has (write bytes) k bank (sym h));
-        already = w .already ∙ ap (λ (s : List ℕ). alreadyOf s bytes) (lent-out bank k) ∙ rw (← h);
-      }
-
-  pub blank-outside : false ≡ hasSector (length bank) k → SectorBlank·Is bank k true
-  unfolding blankAt
-  blank-outside h = rw (← h)
-
-  pub blank-inside : (r : Bool) → true ≡ hasSector (length bank) k
-      → r ≡ blankOf (take ((startOf k + sectorBytes) - startOf k) (drop (startOf k) bank)) → SectorBlank·Is bank k r
-  unfolding blankAt
-  blank-inside r h e = rw (← h) (e ∙ ap blankOf (lent-out bank k))
+-- the part that was lent for the sector, and what came back
+pub write-inside : (bank : List ℕ) (k start : ℕ) (bytes sector : List ℕ) (r : Bool) → Has (length bank) k → start ≡ startOf k
+    → WriteSector·Is (take ((start + sectorBytes) - start) (drop start bank)) bytes sector r
+    → WriteAt·Is bank k bytes (putMid start ((start + sectorBytes) - start) bank sector) r
+unfolding alreadyAt
+write-inside bank k start bytes sector r h e w =
+    let t : hasSector (length bank) k ≡ true = has (length bank) k h in
+    record {
+      written =
+          lent-back bank k start e (h .first) sector
+          ∙ ap (withSector bank k) (w .written ∙ ap (write bytes) (lent-out bank k start e))
+          ∙ sym (at-has (write bytes) k bank t);
+      already = w .already ∙ ap (λ (s : List ℕ). alreadyOf s bytes) (lent-out bank k start e) ∙ rw t;
+    }

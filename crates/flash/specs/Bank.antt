@@ -54,9 +54,13 @@ unfoldable pub swept : List Bool → ℕ → List ℕ → List ℕ
 swept received zero bank = bank
 swept received (suc j) bank = sweptOne (swept received j bank) (suc j) (getD received j false)
 
--- how many of the first n sectors have a mark ("N from 1 to 491")
+-- as many marks as there are sectors at most ("N from 1 to 491")
+abbrev pub marks : ℕ
+marks = 491
+
+-- how many of the first n sectors have a mark
 abbrev pub markedOf : ℕ → ℕ
-markedOf n = min n 491
+markedOf n = min n marks
 
 abbrev pub sweptOf : List ℕ → ℕ → List Bool → List ℕ
 sweptOf bank n received = swept received (markedOf n) bank

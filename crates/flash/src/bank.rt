@@ -1,9 +1,9 @@
 // A bank of sectors, numbered from 1. Only the bytes of one sector are lent on to what changes them.
 use crate::sector::SECTOR;
 ghost use mathlib.Core.Path.{_≡_};
-ghost use Prim.Native.Nat.{_+_, _≤_};
-ghost use lib.ListN.{length};
-ghost use Rattle.flash.specs.Bank.{hasSector, markedOf, sweptOne, swept, WriteAt·Is, SectorBlank·Is, Sweep·Is};
+ghost use Prim.Native.Nat.{_*_, _^_, _≤_, _<_};
+ghost use Rattle.flash.specs.Sector.{sectorBytes};
+ghost use Rattle.flash.specs.Bank.{startOf, hasSector, markedOf, sweptOne, WriteAt·Is, SectorBlank·Is, Sweep·Is};
 
 // As many marks as a session has: one for each sector of the largest bank.
 pub const MARKS: usize = 491;
@@ -18,6 +18,14 @@ fn has_sector(bytes: usize, k: usize) -> bool
     k <= bytes / SECTOR
 }
 
+// The index of the first byte of sector `k`.
+fn start(k: usize) -> usize
+    requires { ⌜ (1 ≤ k) × (k * sectorBytes < 2 ^ 64) ⌝ }
+    ensures { λ r. ⌜ r ≡ startOf k ⌝ }
+{
+    (k - 1) * SECTOR
+}
+
 // Sector `k` becomes the bytes followed by 0xFF. Whether all of it already was that.
 pub fn write_at(bank: &mut [u8], k: usize, bytes: &[u8]) -> bool
     ensures { λ r. ⌜ WriteAt·Is (now (bank .entry)) k (now (bytes .entry)) (now (bank .exit)) r ⌝ }
@@ -25,9 +33,8 @@ pub fn write_at(bank: &mut [u8], k: usize, bytes: &[u8]) -> bool
     if !has_sector(bank.len(), k) {
         return false;
     }
-    let from = (k - 1) * SECTOR;
-    let to = from + SECTOR;
-    crate::sector::write_sector(&mut bank[from..to], bytes)
+    let from = start(k);
+    crate::sector::write_sector(&mut bank[from..from + SECTOR], bytes)
 }
 
 // Whether every byte of sector `k` is 0xFF, as of one that the bank does not have.
@@ -37,9 +44,8 @@ pub fn sector_blank(bank: &[u8], k: usize) -> bool
     if !has_sector(bank.len(), k) {
         return true;
     }
-    let from = (k - 1) * SECTOR;
-    let to = from + SECTOR;
-    buffer::compare::blank(&bank[from..to])
+    let from = start(k);
+    buffer::compare::blank(&bank[from..from + SECTOR])
 }
 
 // Sector `k` is erased, unless it was received.
@@ -52,9 +58,8 @@ fn sweep_one(bank: &mut [u8], k: usize, received: bool)
     if !has_sector(bank.len(), k) {
         return;
     }
-    let from = (k - 1) * SECTOR;
-    let to = from + SECTOR;
-    crate::sector::erase(&mut bank[from..to]);
+    let from = start(k);
+    crate::sector::erase(&mut bank[from..from + SECTOR]);
 }
 
 // How many of the first `n` sectors have a mark.
@@ -68,7 +73,7 @@ fn marked(n: usize) -> usize
 }
 
 // Each of sectors 1 to `n` that was not received is erased, blank or not.
-pub fn sweep(bank: &mut [u8], n: usize, received: [bool; 491])
+pub fn sweep(bank: &mut [u8], n: usize, received: [bool; MARKS])
     ensures { λ _. ⌜ Sweep·Is (now (bank .entry)) n received (now (bank .exit)) ⌝ }
 {
     let last = marked(n);

@@ -18,7 +18,7 @@ pub fn erase(sector: &mut [u8])
     buffer::fill::fill(sector, 0xFF);
 }
 
-pub fn store_word(sector: &mut [u8], at: usize, word: [u8; 4])
+pub fn store_word(sector: &mut [u8], at: usize, word: [u8; WORD])
     ensures { λ _. ⌜ StoreWord·Is (now (sector .entry)) at word (now (sector .exit)) ⌝ }
 {
     buffer::place::put_at(sector, at, &word);

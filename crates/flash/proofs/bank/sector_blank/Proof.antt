@@ -1,11 +1,7 @@
 -- `flash::bank::sector_blank` meets its contract.
 -- Assumes nothing.
-use mathlib.Core.Path.{sym, _∙_}
-use native.Mathlib.Omega.{arith}
-use lib.ListN.{length}
-use borrow.Author.Tests.{not-true, not-false}
-use Rattle.flash.proofs.Sectors.{Has, has-told}
-use Rattle.flash.proofs.Writes.{blank-outside, blank-inside}
+use Rattle.flash.proofs.Blanks.{blank-outside, blank-inside}
+use Rattle.flash.proofs.Sectors.{has-tested}
 use borrow.Author.Needs.{needs}
 use Rattle.flash.proofs.bank.sector_blank.Statement.{statement}
 use Rattle.flash.proofs.bank.sector_blank.Tie as tie
@@ -14,21 +10,16 @@ has-sector-requires : tie.Need-has-sector-requires
 has-sector-requires c κs = search needs
 
 returns : tie.Need-returns
-returns c = blank-outside (c .before .before .before .args .bank .now) (c .before .before .before .args .k) (sym (not-true _ (c .if1 .taken)) ∙ (c .before .has-sector .ensures))
+returns c = blank-outside (c .before .before .before .args .bank .now) (c .before .before .before .args .k) _ (c .before .has-sector .ensures) (c .if1 .taken)
 
-sub-from : tie.Need-sub-from
-sub-from c =
-    let h : Has (length (c .before .before .before .args .bank .now)) (c .before .before .before .args .k) = has-told _ _ (sym (c .before .has-sector .ensures) ∙ not-false _ (c .if1 .left)) in
-    omega arith
-
-mul-from : tie.Need-mul-from
-mul-from c =
-    let h : Has (length (c .before .before .before .args .bank .now)) (c .before .before .before .args .k) = has-told _ _ (sym (c .before .has-sector .ensures) ∙ not-false _ (c .if1 .left)) in
+start-requires : tie.Need-start-requires
+start-requires c κs =
+    let h = has-tested _ _ _ (c .before .has-sector .ensures) (c .if1 .left) in
     search needs
 
-add-to : tie.Need-add-to
-add-to c =
-    let h : Has (length (c .before .before .before .args .bank .now)) (c .before .before .before .args .k) = has-told _ _ (sym (c .before .has-sector .ensures) ∙ not-false _ (c .if1 .left)) in
+add-blank : tie.Need-add-blank
+add-blank c =
+    let h = has-tested _ _ _ (c .before .before .has-sector .ensures) (c .before .if1 .left) in
     search needs
 
 sub-blank : tie.Need-sub-blank
@@ -39,7 +30,7 @@ part-blank-start c = search needs
 
 part-blank-end : tie.Need-part-blank-end
 part-blank-end c =
-    let h : Has (length (c .before .before .before .args .bank .now)) (c .before .before .before .args .k) = has-told _ _ (sym (c .before .has-sector .ensures) ∙ not-false _ (c .if1 .left)) in
+    let h = has-tested _ _ _ (c .before .before .has-sector .ensures) (c .before .if1 .left) in
     search needs
 
 blank-requires : tie.Need-blank-requires
@@ -47,7 +38,7 @@ blank-requires c κs = search needs
 
 returns-2 : tie.Need-returns-2
 returns-2 c =
-    blank-inside (c .before .before .before .before .before .args .bank .now) (c .before .before .before .before .before .args .k) (c .blank .result) (sym (not-false _ (c .before .before .if1 .left)) ∙ (c .before .before .before .has-sector .ensures)) (c .blank .ensures)
+    blank-inside (c .before .before .before .before .before .before .args .bank .now) (c .before .before .before .before .before .before .args .k) _ (c .blank .result) (has-tested _ _ _ (c .before .before .before .before .has-sector .ensures) (c .before .before .before .if1 .left)) (c .before .before .start .ensures) (c .blank .ensures)
 
 pub sector-blank-spec : {M : Type 1} → statement M
 sector-blank-spec =
@@ -55,9 +46,8 @@ sector-blank-spec =
     (tie.spec
     has-sector-requires
     returns
-    sub-from
-    mul-from
-    add-to
+    start-requires
+    add-blank
     sub-blank
     part-blank-start
     part-blank-end

@@ -1,41 +1,28 @@
--- `flash::bank::sweep_one` meets its contract.
+-- `flash::bank::sweep_one` meets its contract: what `erase` says of the part, said of the bank.
 -- Assumes nothing.
-use mathlib.Core.Path.{sym, ap, _∙_}
-use mathlib.Core.Bool.{Bool}
-use native.Mathlib.Omega.{arith}
-use lib.ListN.{length}
-use borrow.Author.Tests.{not-true, not-false}
-use Rattle.flash.specs.Bank.{sweptOne}
-use Rattle.flash.proofs.Sectors.{Has, has-told}
+use Rattle.flash.proofs.Sectors.{has-tested}
 use Rattle.flash.proofs.Sweeps.{one-received, one-outside, one-erased}
 use borrow.Author.Needs.{needs}
 use Rattle.flash.proofs.bank.sweep_one.Statement.{statement}
 use Rattle.flash.proofs.bank.sweep_one.Tie as tie
 
 returns : tie.Need-returns
-returns c = one-received (c .before .before .args .bank .now) (c .before .before .args .k) ∙ ap (sweptOne (c .before .before .args .bank .now) (c .before .before .args .k)) (sym (c .if1 .taken))
+returns c = one-received (c .before .before .args .bank .now) (c .before .before .args .k) (c .before .before .args .received) (c .if1 .taken)
 
 has-sector-requires : tie.Need-has-sector-requires
 has-sector-requires c κs = search needs
 
 returns-2 : tie.Need-returns-2
-returns-2 c =
-    one-outside (c .before .before .before .before .args .bank .now) (c .before .before .before .before .args .k) (sym (not-true _ (c .if2 .taken)) ∙ (c .before .has-sector .ensures))
-    ∙ ap (sweptOne (c .before .before .before .before .args .bank .now) (c .before .before .before .before .args .k)) (sym (c .before .before .if1 .left))
+returns-2 c = one-outside (c .before .before .before .before .args .bank .now) (c .before .before .before .before .args .k) (c .before .before .before .before .args .received) _ (c .before .before .if1 .left) (c .before .has-sector .ensures) (c .if2 .taken)
 
-sub-from : tie.Need-sub-from
-sub-from c =
-    let h : Has (length (c .before .before .before .before .args .bank .now)) (c .before .before .before .before .args .k) = has-told _ _ (sym (c .before .has-sector .ensures) ∙ not-false _ (c .if2 .left)) in
-    omega arith
-
-mul-from : tie.Need-mul-from
-mul-from c =
-    let h : Has (length (c .before .before .before .before .args .bank .now)) (c .before .before .before .before .args .k) = has-told _ _ (sym (c .before .has-sector .ensures) ∙ not-false _ (c .if2 .left)) in
+start-requires : tie.Need-start-requires
+start-requires c κs =
+    let h = has-tested _ _ _ (c .before .has-sector .ensures) (c .if2 .left) in
     search needs
 
-add-to : tie.Need-add-to
-add-to c =
-    let h : Has (length (c .before .before .before .before .args .bank .now)) (c .before .before .before .before .args .k) = has-told _ _ (sym (c .before .has-sector .ensures) ∙ not-false _ (c .if2 .left)) in
+add-erase : tie.Need-add-erase
+add-erase c =
+    let h = has-tested _ _ _ (c .before .before .has-sector .ensures) (c .before .if2 .left) in
     search needs
 
 sub-erase : tie.Need-sub-erase
@@ -46,7 +33,7 @@ part-erase-start c = search needs
 
 part-erase-end : tie.Need-part-erase-end
 part-erase-end c =
-    let h : Has (length (c .before .before .before .before .args .bank .now)) (c .before .before .before .before .args .k) = has-told _ _ (sym (c .before .has-sector .ensures) ∙ not-false _ (c .if2 .left)) in
+    let h = has-tested _ _ _ (c .before .before .has-sector .ensures) (c .before .if2 .left) in
     search needs
 
 erase-requires : tie.Need-erase-requires
@@ -57,8 +44,7 @@ same-length c = search needs
 
 returns-3 : tie.Need-returns-3
 returns-3 c =
-    one-erased (c .before .before .before .before .before .before .before .before .args .bank .now) (c .before .before .before .before .before .before .before .before .args .k) _ (sym (not-false _ (c .before .before .before .before .if2 .left)) ∙ (c .before .before .before .before .before .has-sector .ensures)) (c .before .before .erase .ensures)
-    ∙ ap (sweptOne (c .before .before .before .before .before .before .before .before .args .bank .now) (c .before .before .before .before .before .before .before .before .args .k)) (sym (c .before .before .before .before .before .before .if1 .left))
+    one-erased (c .before .before .before .before .before .before .before .before .before .args .bank .now) (c .before .before .before .before .before .before .before .before .before .args .k) _ (c .before .before .before .before .before .before .before .before .before .args .received) _ (c .before .before .before .before .before .before .before .if1 .left) (has-tested _ _ _ (c .before .before .before .before .before .before .has-sector .ensures) (c .before .before .before .before .before .if2 .left)) (c .before .before .before .before .start .ensures) (c .before .before .erase .ensures)
 
 pub sweep-one-spec : {M : Type 1} → statement M
 sweep-one-spec =
@@ -67,9 +53,8 @@ sweep-one-spec =
     returns
     has-sector-requires
     returns-2
-    sub-from
-    mul-from
-    add-to
+    start-requires
+    add-erase
     sub-erase
     part-erase-start
     part-erase-end

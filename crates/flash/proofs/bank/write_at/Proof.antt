@@ -1,10 +1,6 @@
 -- `flash::bank::write_at` meets its contract: what `write_sector` says of the part, said of the bank.
 -- Assumes nothing.
-use mathlib.Core.Path.{sym, _∙_}
-use native.Mathlib.Omega.{arith}
-use lib.ListN.{length}
-use borrow.Author.Tests.{not-true, not-false}
-use Rattle.flash.proofs.Sectors.{Has, has-told}
+use Rattle.flash.proofs.Sectors.{has-tested}
 use Rattle.flash.proofs.Writes.{write-outside, write-inside}
 use borrow.Author.Needs.{needs}
 use Rattle.flash.proofs.bank.write_at.Statement.{statement}
@@ -14,21 +10,16 @@ has-sector-requires : tie.Need-has-sector-requires
 has-sector-requires c κs = search needs
 
 returns : tie.Need-returns
-returns c = write-outside (c .before .before .before .before .args .bank .now) (c .before .before .before .before .args .k) (c .before .before .before .before .args .bytes .now) (sym (not-true _ (c .if1 .taken)) ∙ (c .before .has-sector .ensures))
+returns c = write-outside (c .before .before .before .before .args .bank .now) (c .before .before .before .before .args .k) (c .before .before .before .before .args .bytes .now) _ (c .before .has-sector .ensures) (c .if1 .taken)
 
-sub-from : tie.Need-sub-from
-sub-from c =
-    let h : Has (length (c .before .before .before .before .args .bank .now)) (c .before .before .before .before .args .k) = has-told _ _ (sym (c .before .has-sector .ensures) ∙ not-false _ (c .if1 .left)) in
-    omega arith
-
-mul-from : tie.Need-mul-from
-mul-from c =
-    let h : Has (length (c .before .before .before .before .args .bank .now)) (c .before .before .before .before .args .k) = has-told _ _ (sym (c .before .has-sector .ensures) ∙ not-false _ (c .if1 .left)) in
+start-requires : tie.Need-start-requires
+start-requires c κs =
+    let h = has-tested _ _ _ (c .before .has-sector .ensures) (c .if1 .left) in
     search needs
 
-add-to : tie.Need-add-to
-add-to c =
-    let h : Has (length (c .before .before .before .before .args .bank .now)) (c .before .before .before .before .args .k) = has-told _ _ (sym (c .before .has-sector .ensures) ∙ not-false _ (c .if1 .left)) in
+add-write-sector : tie.Need-add-write-sector
+add-write-sector c =
+    let h = has-tested _ _ _ (c .before .before .has-sector .ensures) (c .before .if1 .left) in
     search needs
 
 sub-write-sector : tie.Need-sub-write-sector
@@ -39,7 +30,7 @@ part-write-sector-start c = search needs
 
 part-write-sector-end : tie.Need-part-write-sector-end
 part-write-sector-end c =
-    let h : Has (length (c .before .before .before .before .args .bank .now)) (c .before .before .before .before .args .k) = has-told _ _ (sym (c .before .has-sector .ensures) ∙ not-false _ (c .if1 .left)) in
+    let h = has-tested _ _ _ (c .before .before .has-sector .ensures) (c .before .if1 .left) in
     search needs
 
 write-sector-requires : tie.Need-write-sector-requires
@@ -50,7 +41,7 @@ same-length c = search needs
 
 returns-2 : tie.Need-returns-2
 returns-2 c =
-    write-inside (c .before .before .before .before .before .before .before .before .args .bank .now) (c .before .before .before .before .before .before .before .before .args .k) (c .before .before .before .before .before .before .before .before .args .bytes .now) _ _ (sym (not-false _ (c .before .before .before .before .if1 .left)) ∙ (c .before .before .before .before .before .has-sector .ensures)) (c .before .before .write-sector .ensures)
+    write-inside (c .before .before .before .before .before .before .before .before .before .args .bank .now) (c .before .before .before .before .before .before .before .before .before .args .k) _ (c .before .before .before .before .before .before .before .before .before .args .bytes .now) _ _ (has-tested _ _ _ (c .before .before .before .before .before .before .has-sector .ensures) (c .before .before .before .before .before .if1 .left)) (c .before .before .before .before .start .ensures) (c .before .before .write-sector .ensures)
 
 pub write-at-spec : {M : Type 1} → statement M
 write-at-spec =
@@ -58,9 +49,8 @@ write-at-spec =
     (tie.spec
     has-sector-requires
     returns
-    sub-from
-    mul-from
-    add-to
+    start-requires
+    add-write-sector
     sub-write-sector
     part-write-sector-start
     part-write-sector-end

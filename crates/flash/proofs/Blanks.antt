@@ -1,0 +1,68 @@
+-- Blank sectors: one that was erased, one that blank bytes were written to, and the look at one.
+-- Assumes nothing.
+use mathlib.Core.Path.{_≡_, sym, ap, _∙_}
+use mathlib.Core.Bool.{Bool, true, false, not}
+use mathlib.Core.List.{List, _++_}
+use Prim.Native.Nat.{ℕ, _+_, _-_, _≤_}
+use native.Mathlib.Omega.{arith}
+use lib.ListN.{length, take, drop, length-replicate, replicate-append-replicate}
+use borrow.Author.Tests.{not-true}
+use Rattle.buffer.specs.Compare.{blankOf}
+use Rattle.buffer.proofs.Comparing.{blank-true, blank-filled}
+use Rattle.flash.specs.Sector.{sectorBytes, blanks, erasedOf, paddedOf}
+use Rattle.flash.specs.Bank.{startOf, hasSector, sectorOf, blankSector, blankAt, SectorBlank·Is}
+use Rattle.flash.proofs.Sectors.{Has, has, length-sector, lent-out}
+
+pub length-blanks : (n : ℕ) → length (blanks n) ≡ n
+length-blanks n = length-replicate n 0xFF
+
+-- ---- a blank sector
+
+pub length-blank : length blankSector ≡ sectorBytes
+unfolding blankSector
+length-blank = length-blanks sectorBytes
+
+pub blank-sector : blankOf blankSector ≡ true
+unfolding blankSector
+blank-sector = blank-filled sectorBytes
+
+-- a sector of which every byte is 0xFF
+pub blank-whole : (sector : List ℕ) → length sector ≡ sectorBytes → blankOf sector ≡ true → sector ≡ blankSector
+unfolding blankSector
+blank-whole sector e b = blank-true sector b ∙ ap blanks e
+
+-- one that was erased
+pub erased-blank : (sector : List ℕ) → length sector ≡ sectorBytes → erasedOf sector ≡ blankSector
+unfolding erasedOf blankSector
+erased-blank sector e = ap blanks e
+
+-- blank bytes, followed by 0xFF
+pub padded-blanks : (bytes : List ℕ) → length bytes ≤ sectorBytes → blankOf bytes ≡ true → paddedOf bytes ≡ blankSector
+unfolding paddedOf blankSector
+padded-blanks bytes h b =
+    let e : length bytes + (sectorBytes - length bytes) ≡ sectorBytes = omega arith in
+    ap (λ (l : List ℕ). l ++ blanks (sectorBytes - length bytes)) (blank-true bytes b)
+    ∙ replicate-append-replicate (length bytes) (sectorBytes - length bytes) 0xFF
+    ∙ ap blanks e
+
+-- ---- the look at sector k
+
+module _ (bank : List ℕ) (k : ℕ) where
+  pub blank-here : Has (length bank) k → blankAt bank k ≡ blankOf (sectorOf bank k)
+  unfolding blankAt
+  blank-here h = rw (has (length bank) k h)
+
+  -- what it tells
+  pub blank-told : Has (length bank) k → blankAt bank k ≡ true → sectorOf bank k ≡ blankSector
+  blank-told h e = blank-whole (sectorOf bank k) (length-sector bank k h) (sym (blank-here h) ∙ e)
+
+  -- each way out of it
+  pub blank-outside : (r : Bool) → r ≡ hasSector (length bank) k → not r ≡ true → SectorBlank·Is bank k true
+  unfolding blankAt
+  blank-outside r h t =
+      let n : hasSector (length bank) k ≡ false = sym h ∙ not-true r t in
+      rw n
+
+  pub blank-inside : (start : ℕ) (r : Bool) → Has (length bank) k → start ≡ startOf k
+      → r ≡ blankOf (take ((start + sectorBytes) - start) (drop start bank)) → SectorBlank·Is bank k r
+  blank-inside start r h e b = b ∙ ap blankOf (lent-out bank k start e) ∙ sym (blank-here h)
