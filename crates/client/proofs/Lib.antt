@@ -1,3 +1,4 @@
 pub mod Commands
 pub mod Hosting
+pub mod Planning
 pub mod Saying
