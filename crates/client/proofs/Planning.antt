@@ -73,7 +73,7 @@ lent n bank0 bank1 marks address buffer e =
       zero-whole = eqb-true bank0 (n * sectorSize) (and-left p (q && (r && (s && t))) e);
       one-whole = eqb-true bank1 (n * sectorSize) (and-left q (r && (s && t)) f);
       marked = eqb-true marks n (and-left r (s && t) g);
-      addressed = eqb-true address 16 (and-left s t h)
+      addressed = eqb-true address 16 (and-left s t h);
     }
 
 -- ---- worn sectors

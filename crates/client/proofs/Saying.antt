@@ -56,7 +56,7 @@ module _ (before : List ℕ) where
         let f : List ℕ = 0x06 ∷ bankNumber bank ∷ [] in
         record {
           said = e ∙ ap (λ (n : ℕ). putControl before 0x72 (0x06 ∷ n ∷ [])) b ∙ control-fits before 0x72 f (omega arith);
-          told = sym (length-control 0x72 f)
+          told = sym (length-control 0x72 f);
         }
 
     pub say-version : (major minor revision : ℕ) (fields : List ℕ) → fields ≡ versionBytes major minor revision → after ≡ putControl before 0x78 fields
@@ -77,5 +77,5 @@ module _ (before : List ℕ) where
         let m : length v + 7 ≡ 13 = omega arith in
         record {
           said = e ∙ ap (λ (l : List ℕ). putWrite before sector l End) f ∙ write-fits before sector v End (omega arith);
-          told = sym (length-write sector v End ∙ m)
+          told = sym (length-write sector v End ∙ m);
         }

@@ -27,7 +27,7 @@ newClient n running major minor revision =
       major = major;
       minor = minor;
       revision = revision;
-      received = noneReceived
+      received = noneReceived;
     }
 
 -- host: "closed to idle"
@@ -42,7 +42,7 @@ initiated c =
       major = c .major;
       minor = c .minor;
       revision = c .revision;
-      received = c .received
+      received = c .received;
     }
 
 -- host: to closed; "the session is lost, next-start bank and flash stay"
@@ -57,7 +57,7 @@ terminated c =
       major = c .major;
       minor = c .minor;
       revision = c .revision;
-      received = noneReceived
+      received = noneReceived;
     }
 
 -- 61: "to control"; the count of write sessions starts anew
@@ -72,7 +72,7 @@ opened c =
       major = c .major;
       minor = c .minor;
       revision = c .revision;
-      received = c .received
+      received = c .received;
     }
 
 -- 64: "to idle"
@@ -87,7 +87,7 @@ closed c =
       major = c .major;
       minor = c .minor;
       revision = c .revision;
-      received = noneReceived
+      received = noneReceived;
     }
 
 -- 40: "to write; no sector received yet; next-start bank set to the running one"
@@ -102,7 +102,7 @@ begun c =
       major = c .major;
       minor = c .minor;
       revision = c .revision;
-      received = noneReceived
+      received = noneReceived;
     }
 
 -- a write packet: sector k "counts as received"; the mark of sector k stands at index k - 1
@@ -117,7 +117,7 @@ marked c k =
       major = c .major;
       minor = c .minor;
       revision = c .revision;
-      received = set (c .received) (k - 1) true
+      received = set (c .received) (k - 1) true;
     }
 
 -- 45: "the state becomes control"; how the session ended, and the bank that starts next
@@ -132,5 +132,5 @@ ended c latest next =
       major = c .major;
       minor = c .minor;
       revision = c .revision;
-      received = noneReceived
+      received = noneReceived;
     }

@@ -17,7 +17,10 @@ pub enum Answer {
     Refused(Refusal),
     FrameError,
     // A response with a result and no field behind it.
-    Response { code: u8, result: u8 },
+    Response {
+        code: u8,
+        result: u8,
+    },
     BankIs(Bank),
     VersionIs {
         major: u8,

@@ -30,9 +30,17 @@ pub(crate) enum Plan {
 
 // Bytes of an answer buffer, and of an address.
 const BUFFER: usize = 14;
+
 const ADDRESS: usize = 16;
 
-fn lent_good(n: usize, bank0: usize, bank1: usize, marks: usize, address: usize, buffer: usize) -> bool
+fn lent_good(
+    n: usize,
+    bank0: usize,
+    bank1: usize,
+    marks: usize,
+    address: usize,
+    buffer: usize,
+) -> bool
     requires { ⌜ n ≤ 491 ⌝ }
     ensures { λ r. ⌜ r ≡ lentGood n bank0 bank1 marks address buffer ⌝ }
 {
@@ -176,7 +184,15 @@ impl Client {
     }
 
     // Order: 3, 2, 1, frame, code, parameter length, state, values, worn.
-    pub(crate) fn plan(self, bank0: usize, bank1: usize, marks: &[u8], address: usize, buffer: usize, datagram: &[u8]) -> Plan
+    pub(crate) fn plan(
+        self,
+        bank0: usize,
+        bank1: usize,
+        marks: &[u8],
+        address: usize,
+        buffer: usize,
+        datagram: &[u8],
+    ) -> Plan
         ensures { λ r. ⌜ r ≡ planOf self bank0 bank1 (now (marks .entry)) address buffer (now (datagram .entry)) ⌝ }
     {
         let n = self.n;

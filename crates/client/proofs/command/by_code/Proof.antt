@@ -11,7 +11,7 @@ counted-as-requires : tie.Need-counted-as-requires
 counted-as-requires c κs = search needs
 
 returns : tie.Need-returns
-returns c = (c .counted-as .ensures) ∙ code-61 ((c .before .before .args .code)) ((c .before .before .args .parameters))  (eq-eqb _ _ ((c .before .if1 .taken)))
+returns c = (c .counted-as .ensures) ∙ code-61 ((c .before .before .args .code)) ((c .before .before .args .parameters)) (eq-eqb _ _ ((c .before .if1 .taken)))
 
 counted-as-requires-2 : tie.Need-counted-as-requires-2
 counted-as-requires-2 c κs = search needs
