@@ -1,0 +1,215 @@
+-- What the deciding promises to the doing, and how the three become one step.
+-- Assumes nothing.
+use mathlib.Core.Path.{_≡_, refl, sym, ap, ap₂, subst, _∙_}
+use mathlib.Core.Bool.{Bool, true, false, not, cond}
+use mathlib.Core.List.{List}
+use Prim.Native.Nat.{ℕ, _+_, _-_, _*_, _≤_}
+use native.Mathlib.Omega.{arith}
+use lib.Dec.{eqb}
+use lib.ListN.{length, getD}
+use borrow.Author.Tests.{not-true, not-false}
+use Rattle.buffer.specs.Place.{frontOf}
+use Rattle.buffer.proofs.Bools.{split}
+use Rattle.frame.specs.Read.{readOf}
+use Rattle.frame.specs.declared.read.Read.{Read}
+use Rattle.frame.specs.declared.read.Read.the-variants as read
+use Rattle.frame.proofs.Told.{Told, told}
+use Rattle.bank.specs.declared.layout.Bank.{Bank}
+use Rattle.bank.specs.declared.layout.Bank.the-variants.{Zero, One}
+use Rattle.bank.specs.Layout.{sectorSize, goodN}
+use Rattle.bank.proofs.Layouts.{good-high}
+use Rattle.client.specs.declared.answer.Answer.{Answer}
+use Rattle.client.specs.declared.answer.Notice.{Notice}
+use Rattle.client.specs.declared.command.Asked.{Asked}
+use Rattle.client.specs.declared.command.Asked.the-variants.{Fault, NoRequest, WrongLength, Right}
+use Rattle.client.specs.declared.command.Command.{Command}
+use Rattle.client.specs.declared.command.Command.the-variants.{ModeStart, BankInfo, VersionInfo, WriteStart, WriteEnd, ModeEnd, Packet}
+use Rattle.client.specs.declared.perform.Served.{Served}
+use Rattle.client.specs.declared.plan.Plan.{Plan}
+use Rattle.client.specs.declared.plan.Plan.the-variants.{Keep, Open, Close, Begin, Store, Wear, Finish}
+use Rattle.client.specs.declared.record.Client.{Client}
+use Rattle.client.specs.declared.step.Stepped.{Stepped}
+use Rattle.client.specs.Answer.{answerBytes, Say}
+use Rattle.client.specs.Command.{wantedOf, counted, byCode, askedBy, askedOf, fitsState}
+use Rattle.client.specs.Host.{isClosed}
+use Rattle.client.specs.Plan.{lentGood, isWorn, anyWorn, valuesGood, addressesGood, planStart, planEnd, planPacket, planGood, planCommand, planAsked, planOf}
+use Rattle.client.specs.Perform.{Done, servedOf, Served·Is, Storable, Fair}
+use Rattle.client.specs.Step.{noticeOf, Addressed, Carried, carriedOf, Carried·Is, targetOf, zeroOf, oneOf, planned, stepOf, Step·Is}
+use Rattle.client.proofs.Planning.{Lent, lent, values-low, values-high}
+
+-- ---- where the bytes of a packet lie
+
+abbrev Inside : Command → ℕ → Type 0
+Inside ModeStart d = Unit {0}
+Inside BankInfo d = Unit {0}
+Inside VersionInfo d = Unit {0}
+Inside WriteStart d = Unit {0}
+Inside WriteEnd d = Unit {0}
+Inside ModeEnd d = Unit {0}
+Inside (Packet sector m) d = m + 5 ≤ d
+
+abbrev Held : ℕ → Asked → Type 0
+Held d Fault = Unit {0}
+Held d NoRequest = Unit {0}
+Held d (WrongLength command) = Unit {0}
+Held d (Right command) = Inside command d
+
+held-code : (d code n : ℕ) → Held d (byCode code n)
+unfolding byCode
+held-code d code n =
+    split (Held d) (eqb code 0x61) (λ _. split (Held d) (eqb n 0) (λ _. tt) (λ _. tt))
+    (λ _. split (Held d) (eqb code 0x62) (λ _. split (Held d) (eqb n 0) (λ _. tt) (λ _. tt))
+    (λ _. split (Held d) (eqb code 0x68) (λ _. split (Held d) (eqb n 0) (λ _. tt) (λ _. tt))
+    (λ _. split (Held d) (eqb code 0x40) (λ _. split (Held d) (eqb n 8) (λ _. tt) (λ _. tt))
+    (λ _. split (Held d) (eqb code 0x45) (λ _. split (Held d) (eqb n 0) (λ _. tt) (λ _. tt))
+    (λ _. split (Held d) (eqb code 0x64) (λ _. split (Held d) (eqb n 0) (λ _. tt) (λ _. tt)) (λ _. tt))))))
+
+held-asked : (d : List ℕ) → Held (length d) (askedOf d)
+unfolding askedBy
+held-asked d = by (readOf d) (told d)
+  where
+    by : (r : Read) → Told d r → Held (length d) (askedBy r)
+    by read.Fault t = tt
+    by (read.Control code n) t = held-code (length d) code n
+    by (read.Write sector m footer) t = omega (arith, t .whole)
+
+-- ---- what the doing needs of a plan
+
+module _ (c : Client) (marks datagram : List ℕ) (t : ℕ) (good : goodN (c .n) ≡ true) (whole : t ≡ c .n * sectorSize) where
+  abbrev IsFair : Plan → Type 0
+  IsFair plan = Fair plan t (length datagram)
+
+  fair-packet : (sector m : ℕ) → m + 5 ≤ length datagram → IsFair (planPacket (c .n) marks sector m)
+  unfolding planPacket
+  fair-packet sector m h =
+      split IsFair (valuesGood (c .n) sector m)
+      (λ e. split IsFair (isWorn (getD marks (sector - 1) 0)) (λ _. tt)
+      (λ _.
+      let low = values-low (c .n) sector m e in
+      let high = values-high (c .n) sector m e in
+      let most = good-high (c .n) good in
+      record { first = low; last = omega arith; inside = omega arith; sent = h }))
+      (λ _. tt)
+
+  fair-good : (command : Command) → Inside command (length datagram) → IsFair (planGood c command marks datagram)
+  unfolding planGood planStart planEnd
+  fair-good ModeStart h = tt
+  fair-good BankInfo h = tt
+  fair-good VersionInfo h = tt
+  fair-good WriteStart h = split IsFair (addressesGood c datagram) (λ _. tt) (λ _. tt)
+  fair-good WriteEnd h = split IsFair (anyWorn marks) (λ _. tt) (λ _. tt)
+  fair-good ModeEnd h = tt
+  fair-good (Packet sector m) h = fair-packet sector m h
+
+  fair-command : (command : Command) → Inside command (length datagram) → IsFair (planCommand c command marks datagram)
+  unfolding planCommand
+  fair-command command h = split IsFair (fitsState (c .state) command) (λ _. fair-good command h) (λ _. tt)
+
+  fair-asked : (asked : Asked) → Held (length datagram) asked → IsFair (planAsked c asked marks datagram)
+  unfolding planAsked
+  fair-asked Fault h = tt
+  fair-asked NoRequest h = tt
+  fair-asked (WrongLength command) h = tt
+  fair-asked (Right command) h = fair-command command h
+
+module _ (c : Client) (bank0 bank1 marks address buffer datagram : List ℕ) where
+  lent-well : not (lentGood (c .n) (length bank0) (length bank1) (length marks) (length address) (length buffer)) ≡ false
+      → Lent (c .n) (length bank0) (length bank1) (length marks) (length address)
+  lent-well l = lent (c .n) (length bank0) (length bank1) (length marks) (length address) (length buffer) (not-false _ l)
+
+  whole-target : Lent (c .n) (length bank0) (length bank1) (length marks) (length address) → length (targetOf (c .running) bank0 bank1) ≡ c .n * sectorSize
+  whole-target l = by (c .running)
+    where
+      by : (running : Bank) → length (targetOf running bank0 bank1) ≡ c .n * sectorSize
+      by Zero = l .one-whole
+      by One = l .zero-whole
+
+  fair-planned : Fair (planned c bank0 bank1 marks address buffer datagram) (length (targetOf (c .running) bank0 bank1)) (length datagram)
+  unfolding planOf
+  fair-planned =
+      let t : ℕ = length (targetOf (c .running) bank0 bank1) in
+      let P : Plan → Type 0 = λ plan. Fair plan t (length datagram) in
+      split P (not (goodN (c .n))) (λ _. tt)
+      (λ g. split P (not (lentGood (c .n) (length bank0) (length bank1) (length marks) (length address) (length buffer))) (λ _. tt)
+      (λ l. split P (isClosed (c .state)) (λ _. tt)
+      (λ _. fair-asked c marks datagram t (not-false _ g) (whole-target (lent-well l)) (askedOf datagram) (held-asked datagram))))
+
+  addressed-any : (plan : Plan) → length address ≡ 16 → Addressed plan (length address)
+  addressed-any (Keep answer) e = tt
+  addressed-any Open e = e
+  addressed-any Close e = e
+  addressed-any Begin e = tt
+  addressed-any (Store sector m) e = tt
+  addressed-any Wear e = tt
+  addressed-any Finish e = tt
+
+  addressed-planned : Addressed (planned c bank0 bank1 marks address buffer datagram) (length address)
+  unfolding planOf
+  addressed-planned =
+      let P : Plan → Type 0 = λ plan. Addressed plan (length address) in
+      split P (not (goodN (c .n))) (λ _. tt)
+      (λ _. split P (not (lentGood (c .n) (length bank0) (length bank1) (length marks) (length address) (length buffer))) (λ _. tt)
+      (λ l. split P (isClosed (c .state)) (λ _. tt) (λ _. addressed-any (planAsked c (askedOf datagram) marks datagram) (lent-well l .addressed))))
+
+  module _ (plan : Plan) (is : plan ≡ planned c bank0 bank1 marks address buffer datagram) where
+    pub addressed : Addressed plan (length address)
+    addressed = rw is addressed-planned
+
+    pub fair-zero : c .running ≡ Zero → Fair plan (length bank1) (length datagram)
+    fair-zero e = rw is (subst (λ (x : Bank). Fair (planned c bank0 bank1 marks address buffer datagram) (length (targetOf x bank0 bank1)) (length datagram)) e fair-planned)
+
+    pub fair-one : c .running ≡ One → Fair plan (length bank0) (length datagram)
+    fair-one e = rw is (subst (λ (x : Bank). Fair (planned c bank0 bank1 marks address buffer datagram) (length (targetOf x bank0 bank1)) (length datagram)) e fair-planned)
+
+    -- ---- the step
+
+    module _ (r : Stepped) (after answered : List ℕ) where
+      pub step-zero : c .running ≡ Zero → Carried·Is (carriedOf c plan bank1 address buffer datagram) r after answered
+          → Step·Is c bank0 bank1 marks address buffer datagram r bank0 after answered
+      unfolding stepOf
+      step-zero e s =
+          let q : carriedOf c plan bank1 address buffer datagram ≡ stepOf c bank0 bank1 marks address buffer datagram =
+          ap (λ (x : Plan). carriedOf c x bank1 address buffer datagram) is
+          ∙ sym (ap (λ (x : Bank). carriedOf c (planned c bank0 bank1 marks address buffer datagram) (targetOf x bank0 bank1) address buffer datagram) e) in
+          record {
+            client = s .client ∙ ap (λ (x : Carried). x .client) q;
+            answered = s .answer ∙ ap (λ (x : Carried). x .answer) q;
+            told = s .told ∙ ap (λ (x : Carried). x .told) q;
+            notice = s .notice ∙ ap (λ (x : Carried). x .notice) q;
+            bank-zero = sym (ap (λ (x : Bank). zeroOf x bank0 (stepOf c bank0 bank1 marks address buffer datagram .target)) e);
+            bank-one = s .target ∙ ap (λ (x : Carried). x .target) q ∙ sym (ap (λ (x : Bank). oneOf x bank1 (stepOf c bank0 bank1 marks address buffer datagram .target)) e);
+            said = s .buffer ∙ ap (λ (x : Carried). x .buffer) q;
+          }
+
+      pub step-one : c .running ≡ One → Carried·Is (carriedOf c plan bank0 address buffer datagram) r after answered
+          → Step·Is c bank0 bank1 marks address buffer datagram r after bank1 answered
+      unfolding stepOf
+      step-one e s =
+          let q : carriedOf c plan bank0 address buffer datagram ≡ stepOf c bank0 bank1 marks address buffer datagram =
+          ap (λ (x : Plan). carriedOf c x bank0 address buffer datagram) is
+          ∙ sym (ap (λ (x : Bank). carriedOf c (planned c bank0 bank1 marks address buffer datagram) (targetOf x bank0 bank1) address buffer datagram) e) in
+          record {
+            client = s .client ∙ ap (λ (x : Carried). x .client) q;
+            answered = s .answer ∙ ap (λ (x : Carried). x .answer) q;
+            told = s .told ∙ ap (λ (x : Carried). x .told) q;
+            notice = s .notice ∙ ap (λ (x : Carried). x .notice) q;
+            bank-zero = s .target ∙ ap (λ (x : Carried). x .target) q ∙ sym (ap (λ (x : Bank). zeroOf x bank0 (stepOf c bank0 bank1 marks address buffer datagram .target)) e);
+            bank-one = sym (ap (λ (x : Bank). oneOf x bank1 (stepOf c bank0 bank1 marks address buffer datagram .target)) e);
+            said = s .buffer ∙ ap (λ (x : Carried). x .buffer) q;
+          }
+
+-- do, and then say
+pub carry-is :
+    (c : Client) (plan : Plan) (target address buffer datagram : List ℕ) (notice : Notice) (s : Served) (after answered : List ℕ) (n : ℕ)
+    → notice ≡ noticeOf plan (c .latest) address → Served·Is (servedOf c plan target datagram) s after → Say (s .answer) buffer answered n
+    → Carried·Is (carriedOf c plan target address buffer datagram) (record { client = s .client; answer = s .answer; length = n; notice = notice }) after answered
+unfolding carriedOf
+carry-is c plan target address buffer datagram notice s after answered n e d a =
+    record {
+      client = d .client;
+      answer = d .answer;
+      told = a .told ∙ ap (λ (x : Answer). length (answerBytes x)) (d .answer);
+      notice = e;
+      target = d .target;
+      buffer = a .said ∙ ap (λ (x : Answer). frontOf buffer (answerBytes x)) (d .answer);
+    }

@@ -1,0 +1,34 @@
+-- `client::host::Client::initiate` meets its contract.
+-- Assumes nothing.
+use mathlib.Core.Path.{_≡_, refl, sym, ap, _∙_}
+use borrow.Author.Tests.{eq-eqb, ne-eqb, not-true, not-false}
+use Rattle.client.specs.declared.host.Told.the-variants.{Done}
+use Rattle.client.specs.declared.record.Client.{Client}
+use Rattle.client.specs.Host.{hosted}
+use Rattle.client.proofs.Hosting.{initiate-bad, initiate-vain, initiate-done}
+use borrow.Author.Needs.{needs}
+use Rattle.client.proofs.record.Client.initiate.Statement.{statement}
+use Rattle.client.proofs.record.Client.initiate.Tie as tie
+
+good-n-requires : tie.Need-good-n-requires
+good-n-requires c κs = search needs
+
+returns : tie.Need-returns
+returns c = initiate-bad ((c .before .before .args .self)) (sym ((c .before .good-n .ensures)) ∙ not-true _ ((c .if1 .taken)))
+
+is-closed-requires : tie.Need-is-closed-requires
+is-closed-requires c κs = search needs
+
+returns-2 : tie.Need-returns-2
+returns-2 c = initiate-vain ((c .before .before .before .before .args .self)) (sym ((c .before .before .before .good-n .ensures)) ∙ not-false _ ((c .before .before .if1 .left))) (sym ((c .before .is-closed .ensures)) ∙ not-true _ ((c .if2 .taken)))
+
+initiated-requires : tie.Need-initiated-requires
+initiated-requires c κs = search needs
+
+returns-3 : tie.Need-returns-3
+returns-3 c = ap (λ (x : Client). hosted x Done) ((c .initiated .ensures)) ∙ initiate-done ((c .before .before .before .before .before .args .self)) (sym ((c .before .before .before .before .good-n .ensures)) ∙ not-false _ ((c .before .before .before .if1 .left))) (sym ((c .before .before .is-closed .ensures)) ∙ not-false _ ((c .before .if2 .left)))
+
+pub initiate-spec : {M : Type 1} → statement M
+initiate-spec =
+    tie.close
+    (tie.spec good-n-requires returns is-closed-requires returns-2 initiated-requires returns-3)

@@ -1,0 +1,22 @@
+-- `client::host::Client::new` meets its contract.
+-- Assumes nothing.
+use mathlib.Core.Path.{_≡_, refl, sym, ap, _∙_}
+use Rattle.client.proofs.Hosting.{new-good, new-bad}
+use borrow.Author.Needs.{needs}
+use Rattle.client.proofs.record.Client.new.Statement.{statement}
+use Rattle.client.proofs.record.Client.new.Tie as tie
+
+none-received-requires : tie.Need-none-received-requires
+none-received-requires c κs = search needs
+
+good-n-requires : tie.Need-good-n-requires
+good-n-requires c κs = search needs
+
+returns : tie.Need-returns
+returns c = simp ((c .before .before .none-received .ensures)) (new-good ((c .before .before .before .args .n)) ((c .before .before .before .args .running)) ((c .before .before .before .args .major)) ((c .before .before .before .args .minor)) ((c .before .before .before .args .revision)) (sym ((c .before .good-n .ensures)) ∙ (c .if1 .taken)))
+
+returns-2 : tie.Need-returns-2
+returns-2 c = simp ((c .before .before .none-received .ensures)) (new-bad ((c .before .before .before .args .n)) ((c .before .before .before .args .running)) ((c .before .before .before .args .major)) ((c .before .before .before .args .minor)) ((c .before .before .before .args .revision)) (sym ((c .before .good-n .ensures)) ∙ (c .if1 .left)))
+
+pub new-spec : {M : Type 1} → statement M
+new-spec = tie.close (tie.spec none-received-requires good-n-requires returns returns-2)

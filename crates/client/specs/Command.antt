@@ -1,0 +1,84 @@
+-- What a datagram asks of a client (01, 'The client, step by step', the table; 'What comes back when it is no').
+-- Assumes nothing.
+use mathlib.Core.Bool.{Bool, true, false, cond}
+use mathlib.Core.List.{List}
+use Prim.Native.Nat.{ℕ}
+use lib.Dec.{eqb}
+use Rattle.frame.specs.Read.{readOf}
+use Rattle.frame.specs.declared.read.Read.{Read}
+use Rattle.frame.specs.declared.read.Read.the-variants as read
+use Rattle.client.specs.declared.answer.Answer.{Answer}
+use Rattle.client.specs.declared.answer.Answer.the-variants.{Response, Written}
+use Rattle.client.specs.declared.command.Asked.{Asked}
+use Rattle.client.specs.declared.command.Asked.the-variants.{Fault, NoRequest, WrongLength, Right}
+use Rattle.client.specs.declared.command.Command.{Command}
+use Rattle.client.specs.declared.command.Command.the-variants.{ModeStart, BankInfo, VersionInfo, WriteStart, WriteEnd, ModeEnd, Packet}
+use Rattle.client.specs.declared.record.State.{State}
+use Rattle.client.specs.declared.record.State.the-variants as state
+
+-- the table's second column
+abbrev pub wantedOf : Command → ℕ
+wantedOf ModeStart = 0
+wantedOf BankInfo = 0
+wantedOf VersionInfo = 0
+wantedOf WriteStart = 8
+wantedOf WriteEnd = 0
+wantedOf ModeEnd = 0
+wantedOf (Packet sector length) = 0
+
+abbrev pub counted : Command → ℕ → Asked
+counted command parameters = cond (eqb parameters (wantedOf command)) (Right command) (WrongLength command)
+
+-- the table's first column: "one of the six requests", and then "parameter length (control)"
+unfoldable pub byCode : ℕ → ℕ → Asked
+byCode code parameters =
+    cond (eqb code 0x61) (counted ModeStart parameters)
+    (cond (eqb code 0x62) (counted BankInfo parameters)
+    (cond (eqb code 0x68) (counted VersionInfo parameters)
+    (cond (eqb code 0x40) (counted WriteStart parameters)
+    (cond (eqb code 0x45) (counted WriteEnd parameters)
+    (cond (eqb code 0x64) (counted ModeEnd parameters) NoRequest)))))
+
+-- "The client reads both footers alike"
+unfoldable pub askedBy : Read → Asked
+askedBy read.Fault = Fault
+askedBy (read.Control code parameters) = byCode code parameters
+askedBy (read.Write sector length footer) = Right (Packet sector length)
+
+abbrev pub askedOf : List ℕ → Asked
+askedOf datagram = askedBy (readOf datagram)
+
+-- the table's third column, and "Write packet in write state"
+abbrev pub fitsState : State → Command → Bool
+fitsState state.Closed command = false
+fitsState state.Idle ModeStart = true
+fitsState state.Idle BankInfo = false
+fitsState state.Idle VersionInfo = false
+fitsState state.Idle WriteStart = false
+fitsState state.Idle WriteEnd = false
+fitsState state.Idle ModeEnd = false
+fitsState state.Idle (Packet sector length) = false
+fitsState state.Control ModeStart = false
+fitsState state.Control BankInfo = true
+fitsState state.Control VersionInfo = true
+fitsState state.Control WriteStart = true
+fitsState state.Control WriteEnd = false
+fitsState state.Control ModeEnd = true
+fitsState state.Control (Packet sector length) = false
+fitsState state.Write ModeStart = false
+fitsState state.Write BankInfo = false
+fitsState state.Write VersionInfo = false
+fitsState state.Write WriteStart = false
+fitsState state.Write WriteEnd = true
+fitsState state.Write ModeEnd = false
+fitsState state.Write (Packet sector length) = true
+
+-- a result other than 06 "in the command's own response"; of a write packet "the write result repeats it" and the CRC field is 0
+abbrev pub declinedOf : Command → ℕ → Answer
+declinedOf ModeStart result = Response 0x71 result
+declinedOf BankInfo result = Response 0x72 result
+declinedOf VersionInfo result = Response 0x78 result
+declinedOf WriteStart result = Response 0x70 result
+declinedOf WriteEnd result = Response 0x75 result
+declinedOf ModeEnd result = Response 0x74 result
+declinedOf (Packet sector length) result = Written sector result result 0

@@ -1,0 +1,51 @@
+-- What the host asks (01, 'The client, step by step', "Host").
+-- Assumes nothing.
+use mathlib.Core.Path.{_≡_}
+use mathlib.Core.Bool.{Bool, true, false, not, cond}
+use Prim.Native.Nat.{ℕ}
+use Rattle.bank.specs.declared.layout.Bank.{Bank}
+use Rattle.bank.specs.Layout.{goodN}
+use Rattle.client.specs.declared.host.Hosted.{Hosted}
+use Rattle.client.specs.declared.host.Told.{Told}
+use Rattle.client.specs.declared.host.Told.the-variants.{Done, BadN, InVain}
+use Rattle.client.specs.declared.record.Client.{Client}
+use Rattle.client.specs.declared.record.State.{State}
+use Rattle.client.specs.declared.record.State.the-variants.{Closed, Idle, Control, Write}
+use Rattle.client.specs.Record.{newClient, initiated, terminated}
+
+-- the paper's numbers; a command that is done has none
+abbrev pub toldNumber : Told → ℕ
+toldNumber Done = 0
+toldNumber BadN = 3
+toldNumber InVain = 4
+
+abbrev pub isClosed : State → Bool
+isClosed Closed = true
+isClosed Idle = false
+isClosed Control = false
+isClosed Write = false
+
+abbrev pub hosted : Client → Told → Hosted
+hosted c told = record { client = c; told = told }
+
+-- "One refused by 3 hands back that record all the same"
+unfoldable pub newOf : ℕ → Bank → ℕ → ℕ → ℕ → Hosted
+newOf n running major minor revision = hosted (newClient n running major minor revision) (cond (goodN n) Done BadN)
+
+-- in the order 3, 4
+unfoldable pub initiateOf : Client → Hosted
+initiateOf c =
+    cond (not (goodN (c .n))) (hosted c BadN) (cond (not (isClosed (c .state))) (hosted c InVain) (hosted (initiated c) Done))
+
+unfoldable pub terminateOf : Client → Hosted
+terminateOf c =
+    cond (not (goodN (c .n))) (hosted c BadN) (cond (isClosed (c .state)) (hosted c InVain) (hosted (terminated c) Done))
+
+abbrev pub New·Is : ℕ → Bank → ℕ → ℕ → ℕ → Hosted → Type 0
+New·Is n running major minor revision r = r ≡ newOf n running major minor revision
+
+abbrev pub Initiate·Is : Client → Hosted → Type 0
+Initiate·Is c r = r ≡ initiateOf c
+
+abbrev pub Terminate·Is : Client → Hosted → Type 0
+Terminate·Is c r = r ≡ terminateOf c

@@ -1,0 +1,9 @@
+pub mod Answer
+pub mod Body
+pub mod Command
+pub mod Host
+pub mod Notice
+pub mod Perform
+pub mod Plan
+pub mod Record
+pub mod Step

@@ -1,0 +1,136 @@
+-- The client's record, and every way in which it changes (01, 'The client, step by step').
+-- Assumes nothing.
+use mathlib.Core.Bool.{Bool, true, false}
+use mathlib.Core.List.{List}
+use Prim.Native.Nat.{ℕ, _-_}
+use lib.ListN.{set, replicate}
+use Rattle.bank.specs.declared.layout.Bank.{Bank}
+use Rattle.bank.specs.Layout.{mostSectors}
+use Rattle.client.specs.declared.record.Client.{Client}
+use Rattle.client.specs.declared.record.Latest.{Latest}
+use Rattle.client.specs.declared.record.Latest.the-variants.{Nothing}
+use Rattle.client.specs.declared.record.State.the-variants.{Closed, Idle, Control, Write}
+
+-- "no sector received yet"
+unfoldable pub noneReceived : List Bool
+noneReceived = replicate mostSectors false
+
+-- a new client: "closed, and its next-start bank is the running one"
+abbrev pub newClient : ℕ → Bank → ℕ → ℕ → ℕ → Client
+newClient n running major minor revision =
+    record {
+      n = n;
+      running = running;
+      next = running;
+      state = Closed;
+      latest = Nothing;
+      major = major;
+      minor = minor;
+      revision = revision;
+      received = noneReceived;
+    }
+
+-- host: "closed to idle"
+abbrev pub initiated : Client → Client
+initiated c =
+    record {
+      n = c .n;
+      running = c .running;
+      next = c .next;
+      state = Idle;
+      latest = c .latest;
+      major = c .major;
+      minor = c .minor;
+      revision = c .revision;
+      received = c .received;
+    }
+
+-- host: to closed; "the session is lost, next-start bank and flash stay"
+abbrev pub terminated : Client → Client
+terminated c =
+    record {
+      n = c .n;
+      running = c .running;
+      next = c .next;
+      state = Closed;
+      latest = Nothing;
+      major = c .major;
+      minor = c .minor;
+      revision = c .revision;
+      received = noneReceived;
+    }
+
+-- 61: "to control"; the count of write sessions starts anew
+abbrev pub opened : Client → Client
+opened c =
+    record {
+      n = c .n;
+      running = c .running;
+      next = c .next;
+      state = Control;
+      latest = Nothing;
+      major = c .major;
+      minor = c .minor;
+      revision = c .revision;
+      received = c .received;
+    }
+
+-- 64: "to idle"
+abbrev pub closed : Client → Client
+closed c =
+    record {
+      n = c .n;
+      running = c .running;
+      next = c .next;
+      state = Idle;
+      latest = Nothing;
+      major = c .major;
+      minor = c .minor;
+      revision = c .revision;
+      received = noneReceived;
+    }
+
+-- 40: "to write; no sector received yet; next-start bank set to the running one"
+abbrev pub begun : Client → Client
+begun c =
+    record {
+      n = c .n;
+      running = c .running;
+      next = c .running;
+      state = Write;
+      latest = c .latest;
+      major = c .major;
+      minor = c .minor;
+      revision = c .revision;
+      received = noneReceived;
+    }
+
+-- a write packet: sector k "counts as received"; the mark of sector k stands at index k - 1
+abbrev pub marked : Client → ℕ → Client
+marked c k =
+    record {
+      n = c .n;
+      running = c .running;
+      next = c .next;
+      state = c .state;
+      latest = c .latest;
+      major = c .major;
+      minor = c .minor;
+      revision = c .revision;
+      received = set (c .received) (k - 1) true;
+    }
+
+-- 45: "the state becomes control"; how the session ended, and the bank that starts next
+abbrev pub ended : Client → Latest → Bank → Client
+ended c latest next =
+    record {
+      n = c .n;
+      running = c .running;
+      next = next;
+      state = Control;
+      latest = latest;
+      major = c .major;
+      minor = c .minor;
+      revision = c .revision;
+      received = noneReceived;
+    }

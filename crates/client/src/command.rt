@@ -1,0 +1,156 @@
+// What a datagram asks of a client.
+use crate::answer::Answer;
+use crate::record::State;
+use frame::read::Read;
+ghost use mathlib.Core.Path.{_≡_};
+ghost use Rattle.client.specs.Command.{wantedOf, counted, byCode, askedOf, fitsState, declinedOf};
+
+pub(crate) enum Command {
+    ModeStart,
+    BankInfo,
+    VersionInfo,
+    WriteStart,
+    WriteEnd,
+    ModeEnd,
+    Packet { sector: u16, length: usize },
+}
+
+pub(crate) enum Asked {
+    Fault,
+    // The code is none of the six requests.
+    NoRequest,
+    // Parameters of another length than the command's.
+    WrongLength(Command),
+    Right(Command),
+}
+
+// How many bytes of parameters a request has.
+fn wanted(command: Command) -> usize
+    ensures { λ r. ⌜ r ≡ wantedOf command ⌝ }
+{
+    match command {
+        Command::ModeStart => 0,
+        Command::BankInfo => 0,
+        Command::VersionInfo => 0,
+        Command::WriteStart => 8,
+        Command::WriteEnd => 0,
+        Command::ModeEnd => 0,
+        Command::Packet {
+            sector: _,
+            length: _,
+        } => 0,
+    }
+}
+
+fn counted_as(command: Command, parameters: usize) -> Asked
+    ensures { λ r. ⌜ r ≡ counted command parameters ⌝ }
+{
+    if parameters == wanted(command) {
+        Asked::Right(command)
+    } else {
+        Asked::WrongLength(command)
+    }
+}
+
+fn by_code(code: u8, parameters: usize) -> Asked
+    ensures { λ r. ⌜ r ≡ byCode code parameters ⌝ }
+{
+    if code == 0x61 {
+        return counted_as(Command::ModeStart, parameters);
+    }
+    if code == 0x62 {
+        return counted_as(Command::BankInfo, parameters);
+    }
+    if code == 0x68 {
+        return counted_as(Command::VersionInfo, parameters);
+    }
+    if code == 0x40 {
+        return counted_as(Command::WriteStart, parameters);
+    }
+    if code == 0x45 {
+        return counted_as(Command::WriteEnd, parameters);
+    }
+    if code == 0x64 {
+        return counted_as(Command::ModeEnd, parameters);
+    }
+    Asked::NoRequest
+}
+
+pub(crate) fn read_command(datagram: &[u8]) -> Asked
+    ensures { λ r. ⌜ r ≡ askedOf (now (datagram .entry)) ⌝ }
+{
+    match frame::read::read_frame(datagram) {
+        Read::Fault => Asked::Fault,
+        Read::Control { code, parameters } => by_code(code, parameters),
+        Read::Write {
+            sector,
+            length,
+            footer: _,
+        } => Asked::Right(Command::Packet { sector, length }),
+    }
+}
+
+// Whether a command is accepted in a state.
+pub(crate) fn fits_state(state: State, command: Command) -> bool
+    ensures { λ r. ⌜ r ≡ fitsState state command ⌝ }
+{
+    match state {
+        State::Closed => false,
+        State::Idle => match command {
+            Command::ModeStart => true,
+            Command::BankInfo => false,
+            Command::VersionInfo => false,
+            Command::WriteStart => false,
+            Command::WriteEnd => false,
+            Command::ModeEnd => false,
+            Command::Packet {
+                sector: _,
+                length: _,
+            } => false,
+        },
+        State::Control => match command {
+            Command::ModeStart => false,
+            Command::BankInfo => true,
+            Command::VersionInfo => true,
+            Command::WriteStart => true,
+            Command::WriteEnd => false,
+            Command::ModeEnd => true,
+            Command::Packet {
+                sector: _,
+                length: _,
+            } => false,
+        },
+        State::Write => match command {
+            Command::ModeStart => false,
+            Command::BankInfo => false,
+            Command::VersionInfo => false,
+            Command::WriteStart => false,
+            Command::WriteEnd => true,
+            Command::ModeEnd => false,
+            Command::Packet {
+                sector: _,
+                length: _,
+            } => true,
+        },
+    }
+}
+
+// A result other than 06 in the command's own response.
+pub(crate) fn declined(command: Command, result: u8) -> Answer
+    ensures { λ r. ⌜ r ≡ declinedOf command result ⌝ }
+{
+    match command {
+        Command::ModeStart => Answer::Response { code: 0x71, result },
+        Command::BankInfo => Answer::Response { code: 0x72, result },
+        Command::VersionInfo => Answer::Response { code: 0x78, result },
+        Command::WriteStart => Answer::Response { code: 0x70, result },
+        Command::WriteEnd => Answer::Response { code: 0x75, result },
+        Command::ModeEnd => Answer::Response { code: 0x74, result },
+        Command::Packet { sector, length: _ } => Answer::Written {
+            sector,
+            result,
+            write: result,
+            crc: 0,
+        },
+    }
+}

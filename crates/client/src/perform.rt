@@ -1,0 +1,159 @@
+// Do: a plan carried out on the target bank. The running bank is never seen here.
+use crate::answer::Answer;
+use crate::plan::Plan;
+use crate::record::Client;
+use crate::record::Latest;
+use bank::check::Verdict;
+ghost use mathlib.Core.Path.{_≡_};
+ghost use Prim.Native.Nat.{_*_, _≤_};
+ghost use lib.ListN.{length};
+ghost use Rattle.bank.specs.Layout.{sectorSize, mostSectors};
+ghost use Rattle.client.specs.Perform.{fitOf, storeResult, sectorCrc, storeOf, finishOf, servedOf, Served·Is, Fair};
+
+pub(crate) struct Served {
+    pub client: Client,
+    pub answer: Answer,
+}
+
+// Whether a bank may become the next-start bank.
+fn fit(bank: &[u8]) -> bool
+    ensures { λ r. ⌜ r ≡ fitOf (now (bank .entry)) ⌝ }
+{
+    match bank::check::check(bank) {
+        Verdict::Refused => false,
+        Verdict::Sound => true,
+        Verdict::Unsound => false,
+    }
+}
+
+// 1D where nothing but 0xFF was sent, or the sector already was what it should become.
+fn store_result(blank: bool, already: bool) -> u8
+    ensures { λ r. ⌜ r ≡ storeResult blank already ⌝ }
+{
+    if blank {
+        return 0x1D;
+    }
+    if already {
+        return 0x1D;
+    }
+    0x06
+}
+
+// The CRC-32 of sector k as it stands.
+fn sector_crc(bank: &[u8], k: usize) -> u32
+    requires { ⌜ (1 ≤ k) × (k ≤ mostSectors) ⌝ }
+    requires { ⌜ k * sectorSize ≤ length (now bank) ⌝ }
+    ensures { λ r. ⌜ r ≡ sectorCrc (now (bank .entry)) k ⌝ }
+{
+    let from = (k - 1) * bank::layout::SECTOR;
+    frame::crc::crc32(&bank[from..from + bank::layout::SECTOR])
+}
+
+impl Client {
+    // A write packet: the bytes to their sector, which counts as received.
+    fn store(self, target: &mut [u8], sector: u16, bytes: &[u8]) -> Served
+        requires { ⌜ (1 ≤ sector) × (sector ≤ mostSectors) ⌝ }
+        requires { ⌜ sector * sectorSize ≤ length (now target) ⌝ }
+        ensures { λ r. ⌜ Served·Is (storeOf self sector (now (bytes .entry)) (now (target .entry))) r (now (target .exit)) ⌝ }
+    {
+        let k = sector as usize;
+        let already = flash::bank::write_at(target, k, bytes);
+        let blank = buffer::compare::blank(bytes);
+        let write = store_result(blank, already);
+        let crc = sector_crc(target, k);
+        let client = self.marked(k);
+        Served {
+            client,
+            answer: Answer::Written {
+                sector,
+                result: 0x06,
+                write,
+                crc,
+            },
+        }
+    }
+
+    // End OTA Write: the sweep, and then the bank check. The next-start bank is set last.
+    fn finish(self, target: &mut [u8]) -> Served
+        ensures { λ r. ⌜ Served·Is (finishOf self (now (target .entry))) r (now (target .exit)) ⌝ }
+    {
+        let n = self.n;
+        let running = self.running;
+        let next = self.next;
+        let received = self.received;
+        flash::bank::sweep(target, n, received);
+        if fit(target) {
+            let client = self.ended(Latest::Good, bank::layout::other(running));
+            return Served {
+                client,
+                answer: Answer::Response {
+                    code: 0x75,
+                    result: 0x06,
+                },
+            };
+        }
+        let client = self.ended(Latest::Otherwise, next);
+        Served {
+            client,
+            answer: Answer::Response {
+                code: 0x75,
+                result: 0x1E,
+            },
+        }
+    }
+
+    pub(crate) fn serve(self, plan: Plan, target: &mut [u8], datagram: &[u8]) -> Served
+        requires { ⌜ Fair plan (length (now target)) (length (now datagram)) ⌝ }
+        ensures { λ r. ⌜ Served·Is (servedOf self plan (now (target .entry)) (now (datagram .entry))) r (now (target .exit)) ⌝ }
+    {
+        let next = self.next;
+        match plan {
+            Plan::Keep(answer) => Served {
+                client: self,
+                answer,
+            },
+            Plan::Open => {
+                let client = self.opened();
+                Served {
+                    client,
+                    answer: Answer::Response {
+                        code: 0x71,
+                        result: 0x06,
+                    },
+                }
+            }
+            Plan::Close => {
+                let client = self.closed();
+                Served {
+                    client,
+                    answer: Answer::Response {
+                        code: 0x74,
+                        result: 0x06,
+                    },
+                }
+            }
+            Plan::Begin => {
+                let client = self.begun();
+                Served {
+                    client,
+                    answer: Answer::Response {
+                        code: 0x70,
+                        result: 0x06,
+                    },
+                }
+            }
+            Plan::Store { sector, length } => self.store(target, sector, &datagram[5..5 + length]),
+            Plan::Wear => {
+                let client = self.ended(Latest::Otherwise, next);
+                Served {
+                    client,
+                    answer: Answer::Response {
+                        code: 0x75,
+                        result: 0x1C,
+                    },
+                }
+            }
+            Plan::Finish => self.finish(target),
+        }
+    }
+}

@@ -1,0 +1,211 @@
+// Decide: what a datagram leads to. The bytes of a bank are never looked at here, only its length.
+use crate::answer::Answer;
+use crate::answer::Refusal;
+use crate::command::Asked;
+use crate::command::Command;
+use crate::record::Client;
+ghost use mathlib.Core.Path.{_≡_};
+ghost use mathlib.Core.Bool.{true};
+ghost use Prim.Native.Nat.{_+_, _≤_};
+ghost use lib.ListN.{length};
+ghost use Rattle.bank.specs.Layout.{goodN};
+ghost use Rattle.client.specs.Plan.{lentGood, anyWorn, isWorn, valuesGood, addressesGood, planStart, planEnd, planPacket, planCommand, planAsked, planOf};
+
+pub(crate) enum Plan {
+    // Nothing changes; this is the answer.
+    Keep(Answer),
+    // Start OTA Mode.
+    Open,
+    // End OTA Mode.
+    Close,
+    // Start OTA Write.
+    Begin,
+    // A write packet.
+    Store { sector: u16, length: usize },
+    // End OTA Write with a worn sector.
+    Wear,
+    // End OTA Write.
+    Finish,
+}
+
+// Bytes of an answer buffer, and of an address.
+const BUFFER: usize = 14;
+
+const ADDRESS: usize = 16;
+
+fn lent_good(
+    n: usize,
+    bank0: usize,
+    bank1: usize,
+    marks: usize,
+    address: usize,
+    buffer: usize,
+) -> bool
+    requires { ⌜ n ≤ 491 ⌝ }
+    ensures { λ r. ⌜ r ≡ lentGood n bank0 bank1 marks address buffer ⌝ }
+{
+    if bank0 != n * bank::layout::SECTOR {
+        return false;
+    }
+    if bank1 != n * bank::layout::SECTOR {
+        return false;
+    }
+    if marks != n {
+        return false;
+    }
+    if address != ADDRESS {
+        return false;
+    }
+    BUFFER <= buffer
+}
+
+// Whether any sector is worn.
+fn any_worn(marks: &[u8]) -> bool
+    ensures { λ r. ⌜ r ≡ anyWorn (now (marks .entry)) ⌝ }
+{
+    let mut i = 0;
+    while i < marks.len() {
+        if marks[i] != 0 {
+            return true;
+        }
+        i += 1;
+    }
+    false
+}
+
+// Whether the sector is one of N, and the length one that a packet may have.
+fn values_good(n: usize, sector: u16, m: usize) -> bool
+    ensures { λ r. ⌜ r ≡ valuesGood n sector m ⌝ }
+{
+    let k = sector as usize;
+    if k < 1 {
+        return false;
+    }
+    if n < k {
+        return false;
+    }
+    if m < 1 {
+        return false;
+    }
+    if bank::layout::SECTOR < m {
+        return false;
+    }
+    m % 4 == 0
+}
+
+fn plan_packet(n: usize, marks: &[u8], sector: u16, m: usize) -> Plan
+    requires { ⌜ length (now marks) ≡ n ⌝ }
+    ensures { λ r. ⌜ r ≡ planPacket n (now (marks .entry)) sector m ⌝ }
+{
+    if !values_good(n, sector, m) {
+        return Plan::Keep(crate::command::declined(Command::Packet { sector, length: m }, 0x05));
+    }
+    let k = sector as usize;
+    if marks[k - 1] != 0 {
+        return Plan::Keep(Answer::Written {
+            sector,
+            result: 0x06,
+            write: 0x1C,
+            crc: 0,
+        });
+    }
+    Plan::Store { sector, length: m }
+}
+
+fn plan_end(marks: &[u8]) -> Plan
+    ensures { λ r. ⌜ r ≡ planEnd (now (marks .entry)) ⌝ }
+{
+    if any_worn(marks) {
+        Plan::Wear
+    } else {
+        Plan::Finish
+    }
+}
+
+impl Client {
+    // The target's address pair leads to a write session.
+    fn plan_start(self, datagram: &[u8]) -> Plan
+        ensures { λ r. ⌜ r ≡ planStart self (now (datagram .entry)) ⌝ }
+    {
+        let n = self.n;
+        let running = self.running;
+        let target = bank::layout::other(running);
+        if buffer::number::number4(datagram, 3) != bank::layout::start_address(target) {
+            return Plan::Keep(crate::command::declined(Command::WriteStart, 0x05));
+        }
+        if buffer::number::number4(datagram, 7) != bank::layout::end_address(target, n) {
+            return Plan::Keep(crate::command::declined(Command::WriteStart, 0x05));
+        }
+        Plan::Begin
+    }
+
+    // A command whose parameters have the right length: state, values, worn.
+    fn plan_command(self, command: Command, marks: &[u8], datagram: &[u8]) -> Plan
+        requires { ⌜ length (now marks) ≡ self .n ⌝ }
+        ensures { λ r. ⌜ r ≡ planCommand self command (now (marks .entry)) (now (datagram .entry)) ⌝ }
+    {
+        let n = self.n;
+        let state = self.state;
+        let running = self.running;
+        let major = self.major;
+        let minor = self.minor;
+        let revision = self.revision;
+        if !crate::command::fits_state(state, command) {
+            return Plan::Keep(crate::command::declined(command, 0x15));
+        }
+        match command {
+            Command::ModeStart => Plan::Open,
+            Command::BankInfo => Plan::Keep(Answer::BankIs(bank::layout::other(running))),
+            Command::VersionInfo => Plan::Keep(Answer::VersionIs {
+                major,
+                minor,
+                revision,
+            }),
+            Command::WriteStart => self.plan_start(datagram),
+            Command::WriteEnd => plan_end(marks),
+            Command::ModeEnd => Plan::Close,
+            Command::Packet { sector, length } => plan_packet(n, marks, sector, length),
+        }
+    }
+
+    fn plan_asked(self, asked: Asked, marks: &[u8], datagram: &[u8]) -> Plan
+        requires { ⌜ length (now marks) ≡ self .n ⌝ }
+        ensures { λ r. ⌜ r ≡ planAsked self asked (now (marks .entry)) (now (datagram .entry)) ⌝ }
+    {
+        match asked {
+            Asked::Fault => Plan::Keep(Answer::FrameError),
+            Asked::NoRequest => Plan::Keep(Answer::Response {
+                code: 0xE0,
+                result: 0x05,
+            }),
+            Asked::WrongLength(command) => Plan::Keep(crate::command::declined(command, 0x05)),
+            Asked::Right(command) => self.plan_command(command, marks, datagram),
+        }
+    }
+
+    // Order: 3, 2, 1, frame, code, parameter length, state, values, worn.
+    pub(crate) fn plan(
+        self,
+        bank0: usize,
+        bank1: usize,
+        marks: &[u8],
+        address: usize,
+        buffer: usize,
+        datagram: &[u8],
+    ) -> Plan
+        ensures { λ r. ⌜ r ≡ planOf self bank0 bank1 (now (marks .entry)) address buffer (now (datagram .entry)) ⌝ }
+    {
+        let n = self.n;
+        let state = self.state;
+        if !bank::layout::good_n(n) {
+            return Plan::Keep(Answer::Refused(Refusal::BadN));
+        }
+        if !lent_good(n, bank0, bank1, marks.len(), address, buffer) {
+            return Plan::Keep(Answer::Refused(Refusal::BadLength));
+        }
+        if crate::host::is_closed(state) {
+            return Plan::Keep(Answer::Refused(Refusal::Closed));
+        }
+        self.plan_asked(crate::command::read_command(datagram), marks, datagram)
+    }
+}

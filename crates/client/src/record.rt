@@ -1,0 +1,120 @@
+// The client's record, and every way in which it changes.
+use bank::layout::Bank;
+use bank::layout::MOST;
+ghost use mathlib.Core.Path.{_≡_};
+ghost use Prim.Native.Nat.{_≤_};
+ghost use Rattle.client.specs.Record.{noneReceived, initiated, terminated, opened, closed, begun, marked, ended};
+
+pub enum State {
+    Closed,
+    Idle,
+    Control,
+    Write,
+}
+
+// How the latest write session since Start OTA Mode ended.
+pub enum Latest {
+    Nothing,
+    Good,
+    Otherwise,
+}
+
+pub struct Client {
+    pub n: usize,
+    pub running: Bank,
+    pub next: Bank,
+    pub state: State,
+    pub latest: Latest,
+    pub major: u8,
+    pub minor: u8,
+    pub revision: u32,
+    pub received: [bool; MOST],
+}
+
+pub(crate) fn none_received() -> [bool; MOST]
+    ensures { λ r. ⌜ r ≡ noneReceived ⌝ }
+{
+    [false; MOST]
+}
+
+impl Client {
+    pub(crate) fn initiated(self) -> Client
+        ensures { λ r. ⌜ r ≡ initiated self ⌝ }
+    {
+        Client {
+            state: State::Idle,
+            ..self
+        }
+    }
+
+    pub(crate) fn terminated(self) -> Client
+        ensures { λ r. ⌜ r ≡ terminated self ⌝ }
+    {
+        Client {
+            state: State::Closed,
+            latest: Latest::Nothing,
+            received: none_received(),
+            ..self
+        }
+    }
+
+    // Start OTA Mode.
+    pub(crate) fn opened(self) -> Client
+        ensures { λ r. ⌜ r ≡ opened self ⌝ }
+    {
+        Client {
+            state: State::Control,
+            latest: Latest::Nothing,
+            ..self
+        }
+    }
+
+    // End OTA Mode.
+    pub(crate) fn closed(self) -> Client
+        ensures { λ r. ⌜ r ≡ closed self ⌝ }
+    {
+        Client {
+            state: State::Idle,
+            latest: Latest::Nothing,
+            received: none_received(),
+            ..self
+        }
+    }
+
+    // Start OTA Write.
+    pub(crate) fn begun(self) -> Client
+        ensures { λ r. ⌜ r ≡ begun self ⌝ }
+    {
+        let running = self.running;
+        Client {
+            next: running,
+            state: State::Write,
+            received: none_received(),
+            ..self
+        }
+    }
+
+    // Sector k was received.
+    pub(crate) fn marked(self, k: usize) -> Client
+        requires { ⌜ (1 ≤ k) × (k ≤ 491) ⌝ }
+        ensures { λ r. ⌜ r ≡ marked self k ⌝ }
+    {
+        let at = k - 1;
+        let mut c = self;
+        c.received[at] = true;
+        c
+    }
+
+    // A write session ended so, and this bank starts next.
+    pub(crate) fn ended(self, latest: Latest, next: Bank) -> Client
+        ensures { λ r. ⌜ r ≡ ended self latest next ⌝ }
+    {
+        Client {
+            next,
+            state: State::Control,
+            latest,
+            received: none_received(),
+            ..self
+        }
+    }
+}

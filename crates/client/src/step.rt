@@ -1,0 +1,106 @@
+// One datagram: decided upon, carried out on the target bank, answered.
+use crate::answer::Answer;
+use crate::answer::Kind;
+use crate::answer::Notice;
+use crate::plan::Plan;
+use crate::record::Client;
+use crate::record::Latest;
+use bank::layout::Bank;
+ghost use mathlib.Core.Path.{_≡_};
+ghost use lib.ListN.{length};
+ghost use Rattle.client.specs.Notice.{latestNumber};
+ghost use Rattle.client.specs.Perform.{Fair};
+ghost use Rattle.client.specs.Step.{noticeOf, Addressed, carriedOf, Carried·Is, Step·Is};
+
+pub struct Stepped {
+    pub client: Client,
+    pub answer: Answer,
+    // As many bytes as the answer has.
+    pub length: usize,
+    pub notice: Notice,
+}
+
+fn latest_number(latest: Latest) -> u8
+    ensures { λ r. ⌜ r ≡ latestNumber latest ⌝ }
+{
+    match latest {
+        Latest::Nothing => 0x03,
+        Latest::Good => 0x01,
+        Latest::Otherwise => 0x02,
+    }
+}
+
+// The notice for the host, with the sender's address; the latest session is the one before the plan.
+fn notice_for(plan: Plan, latest: Latest, address: &[u8]) -> Notice
+    requires { ⌜ Addressed plan (length (now address)) ⌝ }
+    ensures { λ r. ⌜ r ≡ noticeOf plan latest (now (address .entry)) ⌝ }
+{
+    match plan {
+        Plan::Keep(_) => crate::answer::no_notice(),
+        Plan::Open => crate::answer::notice_of(Kind::Started, 0, address),
+        Plan::Close => crate::answer::notice_of(Kind::Ended, latest_number(latest), address),
+        Plan::Begin => crate::answer::no_notice(),
+        Plan::Store {
+            sector: _,
+            length: _,
+        } => crate::answer::no_notice(),
+        Plan::Wear => crate::answer::no_notice(),
+        Plan::Finish => crate::answer::no_notice(),
+    }
+}
+
+impl Client {
+    // Do and say, on the target bank alone.
+    fn carry(
+        self,
+        plan: Plan,
+        target: &mut [u8],
+        address: &[u8],
+        buffer: &mut [u8],
+        datagram: &[u8],
+    ) -> Stepped
+        requires { ⌜ Fair plan (length (now target)) (length (now datagram)) ⌝ }
+        requires { ⌜ Addressed plan (length (now address)) ⌝ }
+        ensures { λ r. ⌜ Carried·Is (carriedOf self plan (now (target .entry)) (now (address .entry)) (now (buffer .entry)) (now (datagram .entry))) r (now (target .exit)) (now (buffer .exit)) ⌝ }
+    {
+        let latest = self.latest;
+        let notice = notice_for(plan, latest, address);
+        let served = self.serve(plan, target, datagram);
+        let client = served.client;
+        let answer = served.answer;
+        let length = crate::answer::say(answer, buffer);
+        Stepped {
+            client,
+            answer,
+            length,
+            notice,
+        }
+    }
+
+    // The banks come by their numbers, so that a caller cannot take one for the other; only the target is lent on.
+    pub fn step(
+        self,
+        bank0: &mut [u8],
+        bank1: &mut [u8],
+        marks: &[u8],
+        address: &[u8],
+        buffer: &mut [u8],
+        datagram: &[u8],
+    ) -> Stepped
+        ensures { λ r. ⌜ Step·Is self (now (bank0 .entry)) (now (bank1 .entry)) (now (marks .entry)) (now (address .entry)) (now (buffer .entry)) (now (datagram .entry)) r (now (bank0 .exit)) (now (bank1 .exit)) (now (buffer .exit)) ⌝ }
+    {
+        let running = self.running;
+        let plan = self.plan(
+            bank0.len(),
+            bank1.len(),
+            marks,
+            address.len(),
+            buffer.len(),
+            datagram,
+        );
+        match running {
+            Bank::Zero => self.carry(plan, bank1, address, buffer, datagram),
+            Bank::One => self.carry(plan, bank0, address, buffer, datagram),
+        }
+    }
+}
