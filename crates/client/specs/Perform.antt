@@ -30,7 +30,7 @@ fitBy verdict.Unsound = false
 abbrev pub fitOf : List ℕ → Bool
 fitOf bank = fitBy (verdictOf bank)
 
--- "1D if the data are all 0xFF .. or if all 512 bytes already were what they should become; else 06"
+-- "1D if the data are all 0xFF", or if the sector already was what it should become
 abbrev pub storeResult : Bool → Bool → ℕ
 storeResult blank already = cond (blank || already) 0x1D 0x06
 
@@ -61,7 +61,7 @@ checkedOf c target =
     (done (ended c Good (otherOf (c .running))) (Response 0x75 0x06) target)
     (done (ended c Otherwise (c .next)) (Response 0x75 0x1E) target)
 
--- "each sector not received in this session is erased to 0xFF, then the bank check runs"
+-- the sweep, "then the bank check runs"
 abbrev pub finishOf : Client → List ℕ → Done
 finishOf c target = checkedOf c (sweptOf target (c .n) (c .received))
 
