@@ -1,18 +1,17 @@
 -- Each way out of the view of a body.
 -- Assumes nothing.
-use mathlib.Core.Path.{_≡_, refl, sym, ap, _∙_}
-use mathlib.Core.Bool.{Bool, true, false, _&&_, cond}
+use mathlib.Core.Path.{_≡_}
+use mathlib.Core.Bool.{Bool, true, false}
 use mathlib.Core.List.{List, []}
 use Prim.Native.Nat.{ℕ, _*_}
 use lib.Dec.{eqb}
 use lib.ListN.{length}
 use borrow.Author.Tests.{eq-eqb, ne-eqb}
-use Rattle.bank.specs.declared.layout.Bank.{Bank}
 use Rattle.bank.specs.declared.layout.Bank.the-variants.{Zero, One}
 use Rattle.bank.specs.Layout.{sectorSize, goodN}
 use Rattle.bank.specs.Sound.{bodyOf}
 use Rattle.client.specs.declared.record.Client.{Client}
-use Rattle.client.specs.Body.{banksGood, chosen, nextBody}
+use Rattle.client.specs.Body.{banksGood, nextBody}
 
 module _ (n bank0 bank1 : ℕ) where
   pub banks-bad : goodN n ≡ false → false ≡ banksGood n bank0 bank1

@@ -1,19 +1,18 @@
 -- Each way out of the carrying out.
 -- Assumes nothing.
-use mathlib.Core.Path.{_≡_, refl, sym, ap, ap₂, _∙_}
-use mathlib.Core.Bool.{Bool, true, false, _||_, cond}
+use mathlib.Core.Path.{_≡_, refl, ap, ap₂, _∙_}
+use mathlib.Core.Bool.{Bool, true, false}
 use mathlib.Core.List.{List}
 use Prim.Native.Nat.{ℕ, _+_, _-_}
 use lib.ListN.{take, drop}
 use Rattle.buffer.specs.Compare.{blankOf}
 use Rattle.buffer.proofs.Parts.{part-out}
 use Rattle.frame.specs.Crc.{crcOf}
-use Rattle.flash.specs.Bank.{sectorOf, startOf, writtenAt, alreadyAt, sweptOf, WriteAt·Is}
+use Rattle.flash.specs.Bank.{startOf, sweptOf, WriteAt·Is}
 use Rattle.flash.specs.Sector.{sectorBytes}
 use Rattle.flash.proofs.Sectors.{lent-out}
 use Rattle.bank.specs.declared.layout.Bank.{Bank}
 use Rattle.bank.specs.Layout.{otherOf}
-use Rattle.client.specs.declared.answer.Answer.{Answer}
 use Rattle.client.specs.declared.answer.Answer.the-variants.{Response, Written}
 use Rattle.client.specs.declared.perform.Served.{Served}
 use Rattle.client.specs.declared.record.Client.{Client}

@@ -1,8 +1,8 @@
 -- Each way out of the deciding.
 -- Assumes nothing.
-use mathlib.Core.Path.{_≡_, refl, sym, ap, _∙_}
-use mathlib.Core.Bool.{Bool, true, false, not, _&&_, _||_, cond}
-use mathlib.Core.List.{List, [], _∷_}
+use mathlib.Core.Path.{_≡_, ap}
+use mathlib.Core.Bool.{Bool, true, false, not, _&&_}
+use mathlib.Core.List.{List}
 use Prim.Native.Nat.{ℕ, suc, _+_, _-_, _*_, _%_, _≤_, _<_}
 use native.Mathlib.Omega.{arith}
 use lib.Dec.{eqb, leb}
@@ -14,17 +14,17 @@ use Rattle.buffer.proofs.Bools.{and-left, and-right}
 use Rattle.bank.specs.declared.layout.Bank.{Bank}
 use Rattle.bank.specs.Layout.{sectorSize, goodN, otherOf, startOf, endOf}
 use Rattle.client.specs.declared.answer.Answer.{Answer}
-use Rattle.client.specs.declared.answer.Answer.the-variants.{Refused, FrameError, Response, BankIs, VersionIs, Written}
+use Rattle.client.specs.declared.answer.Answer.the-variants.{Refused, Written}
 use Rattle.client.specs.declared.answer.Refusal.the-variants.{BadN, BadLength, Closed}
 use Rattle.client.specs.declared.command.Asked.{Asked}
 use Rattle.client.specs.declared.command.Command.{Command}
-use Rattle.client.specs.declared.command.Command.the-variants.{ModeStart, BankInfo, VersionInfo, WriteStart, WriteEnd, ModeEnd, Packet}
+use Rattle.client.specs.declared.command.Command.the-variants.{WriteStart, Packet}
 use Rattle.client.specs.declared.plan.Plan.{Plan}
-use Rattle.client.specs.declared.plan.Plan.the-variants.{Keep, Open, Close, Begin, Store, Wear, Finish}
+use Rattle.client.specs.declared.plan.Plan.the-variants.{Keep, Begin, Store, Wear, Finish}
 use Rattle.client.specs.declared.record.Client.{Client}
 use Rattle.client.specs.Host.{isClosed}
 use Rattle.client.specs.Command.{askedOf, fitsState, declinedOf}
-use Rattle.client.specs.Plan.{lentGood, isWorn, anyWorn, parameterFault, valuesGood, addressesGood, planStart, planEnd, planPacket, planGood, planCommand, planAsked, planOf}
+use Rattle.client.specs.Plan.{lentGood, anyWorn, valuesGood, addressesGood, planStart, planEnd, planPacket, planGood, planCommand, planAsked, planOf}
 
 -- ---- the lent lengths
 

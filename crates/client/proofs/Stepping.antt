@@ -1,13 +1,13 @@
 -- What the deciding promises to the doing, and how the three become one step.
 -- Assumes nothing.
-use mathlib.Core.Path.{_≡_, refl, sym, ap, ap₂, subst, _∙_}
-use mathlib.Core.Bool.{Bool, true, false, not, cond}
+use mathlib.Core.Path.{_≡_, sym, ap, subst, _∙_}
+use mathlib.Core.Bool.{true, false, not}
 use mathlib.Core.List.{List}
 use Prim.Native.Nat.{ℕ, _+_, _-_, _*_, _≤_}
 use native.Mathlib.Omega.{arith}
 use lib.Dec.{eqb}
 use lib.ListN.{length, getD}
-use borrow.Author.Tests.{not-true, not-false}
+use borrow.Author.Tests.{not-false}
 use Rattle.buffer.specs.Place.{frontOf}
 use Rattle.buffer.proofs.Bools.{split}
 use Rattle.frame.specs.Read.{readOf}
@@ -30,10 +30,10 @@ use Rattle.client.specs.declared.plan.Plan.the-variants.{Keep, Open, Clo
 use Rattle.client.specs.declared.record.Client.{Client}
 use Rattle.client.specs.declared.step.Stepped.{Stepped}
 use Rattle.client.specs.Answer.{answerBytes, Say}
-use Rattle.client.specs.Command.{wantedOf, counted, byCode, askedBy, askedOf, fitsState}
+use Rattle.client.specs.Command.{byCode, askedBy, askedOf, fitsState}
 use Rattle.client.specs.Host.{isClosed}
 use Rattle.client.specs.Plan.{lentGood, isWorn, anyWorn, valuesGood, addressesGood, planStart, planEnd, planPacket, planGood, planCommand, planAsked, planOf}
-use Rattle.client.specs.Perform.{Done, servedOf, Served·Is, Storable, Fair}
+use Rattle.client.specs.Perform.{servedOf, Served·Is, Fair}
 use Rattle.client.specs.Step.{noticeOf, Addressed, Carried, carriedOf, Carried·Is, targetOf, zeroOf, oneOf, planned, stepOf, Step·Is}
 use Rattle.client.proofs.Planning.{Lent, lent, values-low, values-high}
 

@@ -1,7 +1,7 @@
 -- Decide: what a datagram leads to (01, 'What comes back when it is no', "Order in the client"). The bytes of a bank are never
 -- looked at here, only its length.
 -- Assumes nothing.
-use mathlib.Core.Bool.{Bool, true, false, not, _&&_, _||_, cond}
+use mathlib.Core.Bool.{Bool, false, not, _&&_, _||_, cond}
 use mathlib.Core.List.{List, [], _∷_}
 use Prim.Native.Nat.{ℕ, _-_, _*_, _%_}
 use lib.Dec.{eqb, leb}

@@ -5,11 +5,10 @@ use crate::command::Asked;
 use crate::command::Command;
 use crate::record::Client;
 ghost use mathlib.Core.Path.{_≡_};
-ghost use mathlib.Core.Bool.{true};
-ghost use Prim.Native.Nat.{_+_, _≤_};
+ghost use Prim.Native.Nat.{_≤_};
 ghost use lib.ListN.{length};
-ghost use Rattle.bank.specs.Layout.{goodN};
-ghost use Rattle.client.specs.Plan.{lentGood, anyWorn, isWorn, valuesGood, addressesGood, planStart, planEnd, planPacket, planCommand, planAsked, planOf};
+ghost use Rattle.bank.specs.Layout.{mostSectors};
+ghost use Rattle.client.specs.Plan.{lentGood, anyWorn, valuesGood, planStart, planEnd, planPacket, planCommand, planAsked, planOf};
 
 pub(crate) enum Plan {
     // Nothing changes; this is the answer.
@@ -41,7 +40,7 @@ fn lent_good(
     address: usize,
     buffer: usize,
 ) -> bool
-    requires { ⌜ n ≤ 491 ⌝ }
+    requires { ⌜ n ≤ mostSectors ⌝ }
     ensures { λ r. ⌜ r ≡ lentGood n bank0 bank1 marks address buffer ⌝ }
 {
     if bank0 != n * bank::layout::SECTOR {

@@ -3,6 +3,7 @@ use bank::layout::Bank;
 use bank::layout::MOST;
 ghost use mathlib.Core.Path.{_≡_};
 ghost use Prim.Native.Nat.{_≤_};
+ghost use Rattle.bank.specs.Layout.{mostSectors};
 ghost use Rattle.client.specs.Record.{noneReceived, initiated, terminated, opened, closed, begun, marked, ended};
 
 pub enum State {
@@ -96,7 +97,7 @@ impl Client {
 
     // Sector k was received.
     pub(crate) fn marked(self, k: usize) -> Client
-        requires { ⌜ (1 ≤ k) × (k ≤ 491) ⌝ }
+        requires { ⌜ (1 ≤ k) × (k ≤ mostSectors) ⌝ }
         ensures { λ r. ⌜ r ≡ marked self k ⌝ }
     {
         let at = k - 1;

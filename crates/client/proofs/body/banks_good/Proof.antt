@@ -1,6 +1,6 @@
 -- `client::body::banks_good` meets its contract.
 -- Assumes nothing.
-use mathlib.Core.Path.{_≡_, refl, sym, ap, _∙_}
+use mathlib.Core.Path.{sym, _∙_}
 use borrow.Author.Tests.{not-true, not-false}
 use Rattle.bank.proofs.Layouts.{good-high}
 use Rattle.client.proofs.Bodies.{banks-bad, banks-first, banks-second}

@@ -1,6 +1,6 @@
 -- `client::perform::fit` meets its contract.
 -- Assumes nothing.
-use mathlib.Core.Path.{_≡_, refl, sym, ap, _∙_}
+use mathlib.Core.Path.{sym, ap, _∙_}
 use Rattle.client.specs.Perform.{fitBy}
 use borrow.Author.Needs.{needs}
 use Rattle.client.proofs.perform.fit.Statement.{statement}

@@ -1,6 +1,6 @@
 -- `client::perform::sector_crc` meets its contract.
 -- Assumes nothing.
-use mathlib.Core.Path.{_≡_, refl, sym, ap, _∙_}
+use mathlib.Core.Path.{refl}
 use Rattle.client.proofs.Performing.{crc-part}
 use borrow.Author.Needs.{needs}
 use Rattle.client.proofs.perform.sector_crc.Statement.{statement}

@@ -1,6 +1,5 @@
 -- `client::plan::lent_good` meets its contract.
 -- Assumes nothing.
-use mathlib.Core.Path.{_≡_, refl, sym, ap, _∙_}
 use Rattle.client.proofs.Planning.{lent-bank0, lent-bank1, lent-marks, lent-address, lent-buffer}
 use borrow.Author.Needs.{needs}
 use Rattle.client.proofs.plan.lent_good.Statement.{statement}

@@ -1,6 +1,5 @@
 -- `client::plan::plan_end` meets its contract.
 -- Assumes nothing.
-use mathlib.Core.Path.{_≡_, refl, sym, ap, _∙_}
 use Rattle.client.proofs.Planning.{end-worn, end-whole}
 use borrow.Author.Needs.{needs}
 use Rattle.client.proofs.plan.plan_end.Statement.{statement}

@@ -1,6 +1,6 @@
 -- `client::plan::plan_packet` meets its contract.
 -- Assumes nothing.
-use mathlib.Core.Path.{_≡_, refl, sym, ap, _∙_}
+use mathlib.Core.Path.{sym, _∙_}
 use native.Mathlib.Omega.{arith}
 use borrow.Author.Tests.{not-true, not-false}
 use Rattle.client.proofs.Planning.{values-low, values-high, packet-bad, packet-worn, packet-good}

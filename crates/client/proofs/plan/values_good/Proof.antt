@@ -1,6 +1,5 @@
 -- `client::plan::values_good` meets its contract.
 -- Assumes nothing.
-use mathlib.Core.Path.{_≡_, refl, sym, ap, _∙_}
 use Rattle.client.proofs.Planning.{values-zero, values-above, values-empty, values-long, values-words}
 use Rattle.client.proofs.plan.values_good.Statement.{statement}
 use Rattle.client.proofs.plan.values_good.Tie as tie

@@ -1,6 +1,6 @@
 -- `client::step::notice_for` meets its contract.
 -- Assumes nothing.
-use mathlib.Core.Path.{_≡_, refl, sym, ap, _∙_}
+use mathlib.Core.Path.{ap, _∙_}
 use Prim.Native.Nat.{ℕ}
 use Rattle.client.specs.declared.answer.Kind.the-variants.{Ended}
 use Rattle.client.specs.Notice.{noticeWith}

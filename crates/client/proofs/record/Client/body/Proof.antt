@@ -1,6 +1,5 @@
 -- `client::body::Client::body` meets its contract.
 -- Assumes nothing.
-use mathlib.Core.Path.{_≡_, refl, sym, ap, _∙_}
 use Rattle.client.proofs.Bodies.{body-none, body-zero, body-one}
 use borrow.Author.Needs.{needs}
 use Rattle.client.proofs.record.Client.body.Statement.{statement}

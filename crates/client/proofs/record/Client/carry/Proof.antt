@@ -1,6 +1,5 @@
 -- `client::step::Client::carry` meets its contract.
 -- Assumes nothing.
-use mathlib.Core.Path.{_≡_, refl, sym, ap, _∙_}
 use Rattle.client.proofs.Stepping.{carry-is}
 use borrow.Author.Needs.{needs}
 use Rattle.client.proofs.record.Client.carry.Statement.{statement}

@@ -1,6 +1,5 @@
 -- `client::perform::Client::finish` meets its contract.
 -- Assumes nothing.
-use mathlib.Core.Path.{_≡_, refl, sym, ap, _∙_}
 use Rattle.client.proofs.Performing.{finish-good, finish-bad}
 use borrow.Author.Needs.{needs}
 use Rattle.client.proofs.record.Client.finish.Statement.{statement}

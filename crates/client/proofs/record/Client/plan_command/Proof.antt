@@ -1,6 +1,5 @@
 -- `client::plan::Client::plan_command` meets its contract.
 -- Assumes nothing.
-use mathlib.Core.Path.{_≡_, refl, sym, ap, _∙_}
 use Rattle.client.specs.Plan.{planGood}
 use Rattle.client.proofs.Planning.{command-unfit, command-fit}
 use borrow.Author.Needs.{needs}

@@ -1,6 +1,5 @@
 -- `client::plan::Client::plan_start` meets its contract.
 -- Assumes nothing.
-use mathlib.Core.Path.{_≡_, refl, sym, ap, _∙_}
 use Rattle.client.proofs.Planning.{start-first, start-second, start-good}
 use borrow.Author.Needs.{needs}
 use Rattle.client.proofs.record.Client.plan_start.Statement.{statement}

@@ -1,6 +1,6 @@
 -- `client::perform::Client::serve` meets its contract.
 -- Assumes nothing.
-use mathlib.Core.Path.{_≡_, refl, sym, ap, _∙_}
+use mathlib.Core.Path.{refl}
 use Rattle.client.specs.Perform.{servedOf}
 use Rattle.client.proofs.Performing.{sent-part}
 use borrow.Author.Needs.{needs}

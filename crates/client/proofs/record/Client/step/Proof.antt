@@ -1,6 +1,5 @@
 -- `client::step::Client::step` meets its contract.
 -- Assumes nothing.
-use mathlib.Core.Path.{_≡_, refl, sym, ap, _∙_}
 use Rattle.client.proofs.Stepping.{addressed, fair-zero, fair-one, step-zero, step-one}
 use borrow.Author.Needs.{needs}
 use Rattle.client.proofs.record.Client.step.Statement.{statement}

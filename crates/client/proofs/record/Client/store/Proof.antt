@@ -1,6 +1,5 @@
 -- `client::perform::Client::store` meets its contract.
 -- Assumes nothing.
-use mathlib.Core.Path.{_≡_, refl, sym, ap, _∙_}
 use Rattle.client.proofs.Performing.{store-is}
 use borrow.Author.Needs.{needs}
 use Rattle.client.proofs.record.Client.store.Statement.{statement}
