@@ -9,7 +9,7 @@ use mathlib.Core.List.{List}
 use lib.Dec.{eqb, leb}
 use lib.ListN.{length, take}
 use borrow.Author.Tests.{leb-true, eqb-true, eq-eqb, le-leb}
-use Rattle.frame.specs.Crc.{crcOf}
+use Rattle.crc.specs.Crc.{crcOf}
 use Rattle.bank.specs.Stretch.{laidOut, held}
 use Rattle.bank.specs.Table.{byteAt, idOf, editionOf, countOf, crcPlace, tableEnd, entryAt, restOf, entriesOf, stretchOf, stretchesOf}
 use Rattle.bank.specs.Sound.{mostBodies, headerGood, tableGood, laidOutGood, stretchBytes, bodyGood, allGood, bodiesGood, blankGood, contentsGood, filledGood, soundOf}

@@ -7,7 +7,7 @@ use mathlib.Core.Bool.{true, false, _&&_}
 use mathlib.Core.List.{List, [], _∷_}
 use lib.Dec.{eqb, leb}
 use lib.ListN.{length, take}
-use Rattle.frame.specs.Crc.{crcOf}
+use Rattle.crc.specs.Crc.{crcOf}
 use Rattle.buffer.specs.Compare.{blankOf}
 use Rattle.buffer.specs.Number.{numberAt}
 use Rattle.buffer.proofs.Bools.{and-left, and-right}

@@ -7,7 +7,7 @@ use mathlib.Core.List.{List, [], _∷_}
 use lib.Dec.{eqb, leb, ltb}
 use lib.ListN.{length, take}
 use Rattle.buffer.specs.Number.{numberAt}
-use Rattle.frame.specs.Crc.{crcOf}
+use Rattle.crc.specs.Crc.{crcOf}
 use Rattle.bank.specs.declared.check.Verdict.{Verdict}
 use Rattle.bank.specs.declared.check.Verdict.the-variants.{Refused, Sound, Unsound}
 use Rattle.bank.specs.declared.table.Entry.{Entry}

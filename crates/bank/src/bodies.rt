@@ -48,7 +48,7 @@ fn body_good(bank: &[u8], entry: Entry) -> bool
 {
     let from = entry.offset;
     let to = entry.offset + entry.length;
-    frame::crc::crc32(&bank[from..to]) == entry.crc
+    crc::crc32(&bank[from..to]) == entry.crc
 }
 
 pub(crate) fn bodies_good(bank: &[u8]) -> bool

@@ -87,5 +87,5 @@ pub(crate) fn table_good(bank: &[u8]) -> bool
     if bank.len() < at + 4 {
         return false;
     }
-    frame::crc::crc32(&bank[..at]) == buffer::number::number4(bank, at)
+    crc::crc32(&bank[..at]) == buffer::number::number4(bank, at)
 }
