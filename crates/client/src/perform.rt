@@ -81,7 +81,7 @@ impl Client {
         let running = self.running;
         let next = self.next;
         let received = self.received;
-        flash::bank::sweep(target, n, received);
+        flash::bank::sweep(target, n, &received);
         if fit(target) {
             let client = self.ended(Latest::Good, bank::layout::other(running));
             return Served {
