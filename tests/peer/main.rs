@@ -6,13 +6,19 @@
 //!     peer vectors     the answer to each request line on standard input (lines.rs has the form of both)
 mod bank;
 mod bank_cases;
+mod board;
+mod board_cases;
 mod cases;
+mod client;
 mod crc;
 mod draw;
 mod frame;
 mod hex;
+mod image;
 mod lines;
+mod script;
 mod selftest;
+mod wrong;
 
 use std::io::{self, Read, Write};
 use std::process::exit;
@@ -23,6 +29,9 @@ fn main() {
         ["selftest"] => selftest::run(),
         ["cases"] => write_out(&[cases::all(), bank_cases::all()].concat()),
         ["vectors"] => read_in().and_then(|text| write_out(&lines::answers(&text))),
+        ["board"] => read_in().and_then(|script| write_out(&board::run(&script, None))),
+        ["board-cases"] => write_out(&board_cases::all()),
+        ["board-endings"] => write_out(&board_cases::endings()),
         _ => {
             eprintln!("usage: peer selftest | cases | vectors");
             exit(2)
