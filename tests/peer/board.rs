@@ -63,8 +63,22 @@ pub fn run(script: &[u8], wrong: Option<Wrong>) -> Vec<String> {
     written
 }
 
+/// Those of the wrong boards that write nothing else than the right one does.
+pub fn untold(script: &[u8], wrongs: &[Wrong]) -> Vec<Wrong> {
+    let mut right = Board::new(None);
+    let mut others: Vec<(Wrong, Board)> = wrongs.iter().map(|wrong| (*wrong, Board::new(Some(*wrong)))).collect();
+    for line in script.split(|byte| *byte == b'\n') {
+        let written = right.line(line);
+        others.retain_mut(|(_, other)| other.line(line) == written);
+        if others.is_empty() {
+            break;
+        }
+    }
+    others.into_iter().map(|(wrong, _)| wrong).collect()
+}
+
 impl Board {
-    pub fn new(wrong: Option<Wrong>) -> Board {
+    fn new(wrong: Option<Wrong>) -> Board {
         let version = Version { major: 0, minor: 0, revision: 0 };
         Board {
             client: Client::new(32, 0, version, wrong).0,

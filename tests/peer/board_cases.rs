@@ -1,11 +1,13 @@
 //! The script that `board` is tried with: cases one after another, each with a new client. The same lines at each run.
 use crate::bank::{MOST_SECTORS, SECTOR};
+use crate::board;
 use crate::draw::Draw;
 use crate::frame::{framed, write, CONTINUED, CONTROL, END, WRITE};
 use crate::hex;
 use crate::image::{self, Image};
 use crate::script::{self, packet, pair, request, write_start, Script, STATES};
 use crate::script::{BANK_INFORMATION, MODE_END, MODE_START, VERSION, WRITE_END, WRITE_START};
+use crate::wrong;
 
 const REQUESTS: [u8; 6] = [MODE_START, BANK_INFORMATION, VERSION, WRITE_START, WRITE_END, MODE_END];
 const BAD_N: [usize; 6] = [0, 492, 493, 512, 65_536, 999_999];
@@ -14,23 +16,23 @@ const DATA_LENGTHS: [usize; 16] = [0, 1, 3, 4, 5, 6, 8, 252, 256, 508, 510, 511,
 pub fn all() -> Vec<String> {
     let mut cases = Cases { script: Script::default(), draw: Draw(0x424F_4152_44) };
     cases.no_client_yet();
+    cases.versions();
+    cases.buffers();
+    cases.rooms();
+    cases.address_pairs();
+    cases.worn();
+    cases.sessions();
+    cases.leftovers();
     cases.commands();
     cases.codes();
     cases.damaged();
     cases.drawn_datagrams();
     cases.packets();
-    cases.address_pairs();
-    cases.worn();
     cases.lent_lengths();
     cases.bad_n();
     cases.host_commands();
-    cases.sessions();
     cases.bodies();
     cases.deliveries();
-    cases.leftovers();
-    cases.versions();
-    cases.buffers();
-    cases.rooms();
     cases.walks();
     cases.script.lines
 }
@@ -52,6 +54,14 @@ pub fn endings() -> Vec<String> {
     endings.push(format!("send {} ", "00".repeat(2_045)));
     endings.push(format!("#{}", "#".repeat(4_096)));
     endings
+}
+
+/// Each wrong board writes another line somewhere in the script than the right one does.
+pub fn selftest() -> Result<String, String> {
+    match board::untold(all().join("\n").as_bytes(), &wrong::ALL)[..] {
+        [] => Ok(format!("{} wrong boards are told from the right one by the script", wrong::ALL.len())),
+        ref untold => Err(format!("the script does not tell from a right board: {:?}", untold)),
+    }
 }
 
 struct Cases {

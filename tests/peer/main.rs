@@ -11,10 +11,12 @@ mod board_cases;
 mod cases;
 mod client;
 mod crc;
+mod demands;
 mod draw;
 mod frame;
 mod hex;
 mod image;
+mod judge;
 mod lines;
 mod script;
 mod selftest;
@@ -32,6 +34,9 @@ fn main() {
         ["board"] => read_in().and_then(|script| write_out(&board::run(&script, None))),
         ["board-cases"] => write_out(&board_cases::all()),
         ["board-endings"] => write_out(&board_cases::endings()),
+        ["demands", directory] => write_scripts(directory),
+        ["judge", directory] => judge_outputs(directory),
+        ["wrong-boards"] => wrong_boards(),
         _ => {
             eprintln!("usage: peer selftest | cases | vectors");
             exit(2)
@@ -55,4 +60,33 @@ fn write_out(lines: &[String]) -> Result<(), String> {
         text.push('\n');
     }
     io::stdout().write_all(text.as_bytes()).map_err(|e| e.to_string())
+}
+
+const BOARDS: [&str; 2] = ["first", "second"];
+
+/// FIRST.script and SECOND.script, for two boards.
+fn write_scripts(directory: &str) -> Result<(), String> {
+    for (board, script) in BOARDS.iter().zip(demands::scripts()) {
+        let path = format!("{}/{}.script", directory, board);
+        std::fs::write(&path, script.join("\n") + "\n").map_err(|e| format!("{}: {}", path, e))?;
+    }
+    Ok(())
+}
+
+/// The two scripts, and beside each what a board wrote, as FIRST.output and SECOND.output.
+fn judge_outputs(directory: &str) -> Result<(), String> {
+    let read = |board: &str, kind: &str| {
+        let path = format!("{}/{}.{}", directory, board, kind);
+        std::fs::read_to_string(&path).map_err(|e| format!("{}: {}", path, e))
+    };
+    let scripts = [read(BOARDS[0], "script")?, read(BOARDS[1], "script")?];
+    let outputs = [read(BOARDS[0], "output")?, read(BOARDS[1], "output")?];
+    println!("{}", demands::judged([&scripts[0], &scripts[1]], [&outputs[0], &outputs[1]])?);
+    Ok(())
+}
+
+/// That the script and the judge can fail.
+fn wrong_boards() -> Result<(), String> {
+    println!("{}; {}", board_cases::selftest()?, demands::selftest()?);
+    Ok(())
 }
