@@ -400,21 +400,15 @@ impl Cases {
             for running in 0..2 {
                 self.script.case("bad N", n, running);
                 self.script.look();
-                for line in ["terminate", "initiate", "initiate", "record", "body 0", "send -"] {
-                    self.script.add(line);
-                }
+                self.script.add_all("terminate|initiate|initiate|record|body 0|send -");
                 REQUESTS.iter().for_each(|code| self.script.ask(*code));
                 self.script.send(&write_start(1 - running, 491));
                 self.script.send(&packet(1, &[0; 4]));
-                for line in ["bank 0 512", "bank 1 512", "marks 1", "send -", "initiate", "body 0"] {
-                    self.script.add(line);
-                }
+                self.script.add_all("bank 0 512|bank 1 512|marks 1|send -|initiate|body 0");
                 let image = image::drawn(&mut self.draw, 1, 1);
                 self.script.put(running, 0, &image.bytes);
                 self.script.add("body 0");
-                for line in ["buffer 0 00", "address -", "send 0101619E03", "terminate", "rest"] {
-                    self.script.add(line);
-                }
+                self.script.add_all("buffer 0 00|address -|send 0101619E03|terminate|rest");
                 self.script.look();
             }
         }
@@ -522,11 +516,9 @@ impl Cases {
                 for i in (0..=counts[running] + 1).take(most).chain([29, 30, 31, 255, 256, 999_999]) {
                     self.script.add(format!("body {}", i));
                 }
-                for (bank, length) in [(0, 0), (0, 1), (0, n * SECTOR + 1), (1, n * SECTOR - SECTOR), (1, n * SECTOR + SECTOR)] {
-                    self.script.add(format!("bank {} {}", bank, length));
-                    self.script.add("body 0");
-                    self.script.add(format!("bank {} {}", bank, n * SECTOR));
-                    self.script.add("body 0");
+                let whole = n * SECTOR;
+                for (bank, length) in [(0, 0), (0, 1), (0, whole + 1), (1, whole - SECTOR), (1, whole + SECTOR)] {
+                    self.script.add_all(&format!("bank {bank} {length}|body 0|bank {bank} {whole}|body 0"));
                 }
                 for bank in 0..2 {
                     let at = images[bank].bodies[0].start;
@@ -536,9 +528,7 @@ impl Cases {
                     self.script.add("body 0");
                 }
                 // nothing that is not lent to a view matters to it
-                for line in ["marks 0", "address -", "buffer 0 00", "body 0", "record"] {
-                    self.script.add(line);
-                }
+                self.script.add_all("marks 0|address -|buffer 0 00|body 0|record");
             }
         }
     }
@@ -611,10 +601,10 @@ impl Cases {
     }
 
     fn versions(&mut self) {
-        for (major, minor, revision) in [("0", "0", "0"), ("255", "255", "4294967295"), ("001", "016", "0000000256"), ("3", "200", "16909060")] {
+        for version in ["0 0 0", "255 255 4294967295", "001 016 0000000256", "3 200 16909060"] {
             for running in 0..2 {
                 self.script.add("# version");
-                self.script.add(format!("client 2 {} {} {} {}", running, major, minor, revision));
+                self.script.add(format!("client 2 {} {}", running, version));
                 self.script.on_to("control", running, 2);
                 self.script.ask(VERSION);
                 self.script.look();
@@ -650,18 +640,15 @@ impl Cases {
     fn rooms(&mut self) {
         for running in 0..2 {
             self.script.case("room behind the bank", 1, running);
-            for line in ["fill 0 a5", "fill 1 3C", "put 1 000000 aAbBcC", "put 0 252415 00", "put 1 252416 -", "show 1 252416 0"] {
-                self.script.add(line);
-            }
+            self.script
+                .add_all("fill 0 a5|fill 1 3C|put 1 000000 aAbBcC|put 0 252415 00|put 1 252416 -|show 1 252416 0");
             self.script.on_to("write", running, 1);
             self.script.send(&packet(1, &[9; 16]));
             self.script.ask(WRITE_END);
-            for line in ["show 0 0 520", "show 1 0 520", "show 0 252400 16", "bank 0 252416", "bank 1 000512", "crc 0", "crc 1", "bank 0 0"] {
-                self.script.add(line);
-            }
-            for line in ["crc 0", "mark 512 ff", "mark 001 0a", "address abcdef", "buffer 0014 fF", "rest", "record", "", "#", "# ", "send ff"] {
-                self.script.add(line);
-            }
+            self.script
+                .add_all("show 0 0 520|show 1 0 520|show 0 252400 16|bank 0 252416|bank 1 000512|crc 0|crc 1|bank 0 0");
+            self.script
+                .add_all("crc 0|mark 512 ff|mark 001 0a|address abcdef|buffer 0014 fF|rest|record||#|# |send ff");
         }
     }
 

@@ -19,11 +19,28 @@ const TAKEN_END: &str = "answer 010275068303";
 const WHOLE: [usize; 2] = [240, 500];
 const SHORT: [usize; 2] = [30, 60];
 
-pub fn scripts() -> [Vec<String>; 2] {
-    scripts_of(WHOLE)
+const BOARDS: [&str; 2] = ["first", "second"];
+
+pub fn write(directory: &str) -> Result<(), String> {
+    for (board, script) in BOARDS.iter().zip(scripts(WHOLE)) {
+        let path = format!("{}/{}.script", directory, board);
+        std::fs::write(&path, script.join("\n") + "\n").map_err(|e| format!("{}: {}", path, e))?;
+    }
+    Ok(())
 }
 
-fn scripts_of([deliveries, walks]: [usize; 2]) -> [Vec<String>; 2] {
+/// What there was to judge, in one line; too little of it is a failure too.
+pub fn judge(directory: &str) -> Result<String, String> {
+    let read = |board: &str, kind: &str| {
+        let path = format!("{}/{}.{}", directory, board, kind);
+        std::fs::read_to_string(&path).map_err(|e| format!("{}: {}", path, e))
+    };
+    let scripts = [read(BOARDS[0], "script")?, read(BOARDS[1], "script")?];
+    let outputs = [read(BOARDS[0], "output")?, read(BOARDS[1], "output")?];
+    told(judge::two([&scripts[0], &scripts[1]], [&outputs[0], &outputs[1]])?)
+}
+
+fn scripts([deliveries, walks]: [usize; 2]) -> [Vec<String>; 2] {
     let mut pairs = Pairs { scripts: Default::default(), draw: Draw(0x4445_4D41_4E44), n: 1, running: 0 };
     pairs.statements();
     pairs.deliveries(deliveries);
@@ -31,9 +48,7 @@ fn scripts_of([deliveries, walks]: [usize; 2]) -> [Vec<String>; 2] {
     pairs.scripts.map(|script| script.lines)
 }
 
-/// What was judged, in one line; too little is a failure too.
-pub fn judged(scripts: [&str; 2], outputs: [&str; 2]) -> Result<String, String> {
-    let seen = judge::two(scripts, outputs)?;
+fn told(seen: Seen) -> Result<String, String> {
     let Seen { cases, expected, accepted, good_ends, unsound_ends, worn_ends, banks, omitted_by_one } = seen;
     let enough = cases >= 500
         && expected >= 3_000
@@ -56,7 +71,7 @@ pub fn judged(scripts: [&str; 2], outputs: [&str; 2]) -> Result<String, String> 
 
 /// Shorter scripts on the peer's own right board, and on each wrong one that a demand speaks of.
 pub fn selftest() -> Result<String, String> {
-    let scripts = scripts_of(SHORT).map(|lines| lines.join("\n"));
+    let scripts = scripts(SHORT).map(|lines| lines.join("\n"));
     let scripts = [&scripts[0][..], &scripts[1][..]];
     let on = |wrong: Option<Wrong>| scripts.map(|script| board::run(script.as_bytes(), wrong).join("\n"));
     let judged = |outputs: [String; 2]| judge::two(scripts, [&outputs[0], &outputs[1]]);
@@ -122,9 +137,7 @@ impl Pairs {
     }
 
     fn look(&mut self) {
-        for line in ["record", "crc 0", "crc 1"] {
-            self.add(line);
-        }
+        self.scripts.iter_mut().for_each(|script| script.add_all("record|crc 0|crc 1"));
     }
 
     fn end(&mut self) {

@@ -53,7 +53,9 @@ pub fn two(scripts: [&str; 2], outputs: [&str; 2]) -> Judged<Seen> {
     }
     let mut pair = Pair { other: 1, sent: false, settled: false };
     for (a, b) in first.iter().zip(&second) {
-        let omitted = pair.lines(a, b).map_err(|why| format!("{}\n{:.200}\n{:.200}\n{:.200}", why, a.command, a.written, b.written))?;
+        let omitted = pair
+            .lines(a, b)
+            .map_err(|why| format!("{}\n{:.200}\n{:.200}\n{:.200}", why, a.command, a.written, b.written))?;
         seen.omitted_by_one += omitted as usize;
     }
     Ok(seen)
@@ -83,11 +85,21 @@ fn decimal(text: &str) -> Option<usize> {
     Some(text).filter(|text| !text.is_empty() && text.bytes().all(|b| b.is_ascii_digit()))?.parse().ok()
 }
 
+/// Bytes as a board writes them, in upper case.
+fn bytes(word: &str) -> Option<Vec<u8>> {
+    hex::bytes(word).filter(|bytes| hex::text(bytes) == word)
+}
+
+/// A CRC-32 as a board writes it.
+fn number(word: &str) -> Option<u32> {
+    bytes(word)?.try_into().ok().map(u32::from_be_bytes)
+}
+
 /// The answer in a line of `send`.
 fn answer(written: &str) -> Option<Frame> {
     let mut words = written.split(' ');
     words.next().filter(|word| *word == "answer")?;
-    frame::read(&hex::bytes(words.next()?)?)
+    frame::read(&bytes(words.next()?)?)
 }
 
 /// A write answer's sector, results and CRC-32.
@@ -170,21 +182,23 @@ impl Board {
             (["body", _], ["body", length, crc]) => {
                 let empty = *length == "0" && *crc == "00000000";
                 let some = decimal(length).is_some_and(|length| length > 0 && length <= self.n * SECTOR);
-                holds(hex::number(crc, 8).is_some() && (empty || some), "no such body")
+                holds(number(crc).is_some() && (empty || some), "no such body")
             }
             (["crc", bank], ["crc", again, length, crc]) if bank == again => {
                 let bank = (*bank == "1") as usize;
-                self.crc(bank, line.written, decimal(length).ok_or("no length")?, hex::number(crc, 8).ok_or("no CRC")?)
+                self.crc(bank, line.written, decimal(length).ok_or("no length")?, number(crc).ok_or("no CRC")?)
             }
-            (["show", bank, offset, length], ["show", bytes]) => {
+            (["show", bank, offset, length], ["show", shown]) => {
                 let (offset, length) = (decimal(offset).unwrap_or(0), decimal(length).unwrap_or(0));
                 let target = *bank == (1 - self.running).to_string();
                 holds(target, "only the target is shown here")?;
                 self.unlooked = false;
                 self.seen.banks += 1;
-                holds(self.target.get(offset..offset + length) == hex::bytes(bytes).as_deref(), "other bytes in the target")
+                holds(self.target.get(offset..offset + length) == bytes(shown).as_deref(), "other bytes in the target")
             }
-            (["bank", bank, length], ["bank", again, same]) => holds(bank == again && length == same, "another bank line"),
+            (["bank", bank, length], ["bank", again, same]) => {
+                holds(bank == again && length == same, "another bank line")
+            }
             (["marks", length], ["marks", same]) => holds(length == same, "another number of marks"),
             (["mark", sector, byte], ["mark", again, same]) => holds(sector == again && byte == same, "another mark"),
             (["address", bytes], ["address", count]) => holds(length_of(bytes) == decimal(count), "another address"),
@@ -252,7 +266,8 @@ impl Board {
             "-" => Some(Vec::new()),
             _ => received.split(',').map(decimal).collect(),
         };
-        let sectors: BTreeSet<usize> = sectors.filter(|list| list.windows(2).all(|two| two[0] < two[1])).ok_or("no list")?.into_iter().collect();
+        let sectors: BTreeSet<usize> =
+            sectors.filter(|list| list.windows(2).all(|two| two[0] < two[1])).ok_or("no list")?.into_iter().collect();
         holds(decimal(n) == Some(self.n) && *running == self.running.to_string(), "another N or running bank")?;
         holds(version == self.version, "another version")?;
         holds(*next == self.next.to_string(), "another next-start bank")?;
@@ -283,7 +298,9 @@ impl Board {
         };
         holds(parameters.len() == 1 + added, "an answer of another length")?;
         let documented = match (code, own) {
-            (0x61, 0x71) | (0x62, 0x72) | (0x68, 0x78) | (WRITE_START, 0x70) | (0x64, 0x74) => [0x05, 0x06, 0x15].contains(&result),
+            (0x61, 0x71) | (0x62, 0x72) | (0x68, 0x78) | (WRITE_START, 0x70) | (0x64, 0x74) => {
+                [0x05, 0x06, 0x15].contains(&result)
+            }
             (WRITE_END, 0x75) => [0x05, 0x06, 0x15, 0x1C, 0x1E].contains(&result),
             (0x61 | 0x62 | 0x68 | WRITE_START | WRITE_END | 0x64, _) => false,
             (_, own) => own == 0xE0 && result == 0x05,
@@ -348,7 +365,7 @@ fn is_notice(words: &[&str]) -> bool {
         ["notice", "6033", address] | ["notice", "6034", "01" | "02" | "03", address] => address,
         _ => return false,
     };
-    length_of(address) == Some(16)
+    bytes(address).is_some_and(|address| address.len() == 16)
 }
 
 /// Two boards on the way through the same case.

@@ -1,9 +1,15 @@
 //! The peer: what the proved programs are held to from outside. It is written from the paper and from section 3 of the J11
 //! specification alone, shares no code and no table with the crates, and uses nothing but Rust's standard library.
 //!
-//!     peer selftest    its own CRC-32, frames and bank check against published values and the paper's examples
-//!     peer cases       the request lines that `vectors` is tried with
-//!     peer vectors     the answer to each request line on standard input (lines.rs has the form of both)
+//!     peer selftest        its own CRC-32, frames, bank check and client against published values and the paper's examples
+//!     peer cases           the request lines that `vectors` is tried with
+//!     peer vectors         the answer to each request line on standard input (lines.rs has the form of both)
+//!     peer board-cases     the script that `board` is tried with
+//!     peer board-endings   lines that are none, each of which ends a script
+//!     peer board           what the script on standard input writes, on a board with the peer's own client (docs/BOARD.md)
+//!     peer demands DIR     two scripts, DIR/first.script and DIR/second.script, for the user's demands
+//!     peer judge DIR       whether DIR/first.output and DIR/second.output, as a board wrote them, meet the demands
+//!     peer wrong-boards    that the script tells each wrong board from a right one, and that the judge refuses it
 mod bank;
 mod bank_cases;
 mod board;
@@ -34,11 +40,11 @@ fn main() {
         ["board"] => read_in().and_then(|script| write_out(&board::run(&script, None))),
         ["board-cases"] => write_out(&board_cases::all()),
         ["board-endings"] => write_out(&board_cases::endings()),
-        ["demands", directory] => write_scripts(directory),
-        ["judge", directory] => judge_outputs(directory),
-        ["wrong-boards"] => wrong_boards(),
+        ["demands", directory] => demands::write(directory),
+        ["judge", directory] => demands::judge(directory).map(|said| println!("{}", said)),
+        ["wrong-boards"] => wrong_boards().map(|said| println!("{}", said)),
         _ => {
-            eprintln!("usage: peer selftest | cases | vectors");
+            eprintln!("usage: peer selftest | cases | vectors | board-cases | board-endings | board | demands DIR | judge DIR | wrong-boards");
             exit(2)
         }
     };
@@ -62,31 +68,7 @@ fn write_out(lines: &[String]) -> Result<(), String> {
     io::stdout().write_all(text.as_bytes()).map_err(|e| e.to_string())
 }
 
-const BOARDS: [&str; 2] = ["first", "second"];
-
-/// FIRST.script and SECOND.script, for two boards.
-fn write_scripts(directory: &str) -> Result<(), String> {
-    for (board, script) in BOARDS.iter().zip(demands::scripts()) {
-        let path = format!("{}/{}.script", directory, board);
-        std::fs::write(&path, script.join("\n") + "\n").map_err(|e| format!("{}: {}", path, e))?;
-    }
-    Ok(())
-}
-
-/// The two scripts, and beside each what a board wrote, as FIRST.output and SECOND.output.
-fn judge_outputs(directory: &str) -> Result<(), String> {
-    let read = |board: &str, kind: &str| {
-        let path = format!("{}/{}.{}", directory, board, kind);
-        std::fs::read_to_string(&path).map_err(|e| format!("{}: {}", path, e))
-    };
-    let scripts = [read(BOARDS[0], "script")?, read(BOARDS[1], "script")?];
-    let outputs = [read(BOARDS[0], "output")?, read(BOARDS[1], "output")?];
-    println!("{}", demands::judged([&scripts[0], &scripts[1]], [&outputs[0], &outputs[1]])?);
-    Ok(())
-}
-
-/// That the script and the judge can fail.
-fn wrong_boards() -> Result<(), String> {
-    println!("{}; {}", board_cases::selftest()?, demands::selftest()?);
-    Ok(())
+/// That the checks of a board can fail.
+fn wrong_boards() -> Result<String, String> {
+    Ok(format!("{}; {}", board_cases::selftest()?, demands::selftest()?))
 }

@@ -44,6 +44,11 @@ impl Script {
         self.lines.push(line.into());
     }
 
+    /// Lines that `|` parts.
+    pub fn add_all(&mut self, lines: &str) {
+        lines.split('|').for_each(|line| self.add(line));
+    }
+
     /// A new case: what it is about, and a new client.
     pub fn case(&mut self, about: &str, n: usize, running: usize) {
         self.add(format!("# {}", about));
@@ -80,8 +85,6 @@ impl Script {
 
     /// All that a call can have changed.
     pub fn look(&mut self) {
-        for line in ["record", "crc 0", "crc 1", "rest"] {
-            self.add(line);
-        }
+        self.add_all("record|crc 0|crc 1|rest");
     }
 }
