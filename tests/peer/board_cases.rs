@@ -649,6 +649,11 @@ impl Cases {
                 .add_all("show 0 0 520|show 1 0 520|show 0 252400 16|bank 0 252416|bank 1 000512|crc 0|crc 1|bank 0 0");
             self.script
                 .add_all("crc 0|mark 512 ff|mark 001 0a|address abcdef|buffer 0014 fF|rest|record||#|# |send ff");
+            // lines as long as a line may be
+            self.script.add(format!("#{}", "x".repeat(4_095)));
+            self.script.add(format!("send {}", "5a".repeat(2_045)));
+            self.script.add(format!("put {} 1000 {}", running, "C3".repeat(2_041)));
+            self.script.add(format!("show {} 990 2070", running));
         }
     }
 
