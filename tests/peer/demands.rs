@@ -74,18 +74,29 @@ pub fn selftest() -> Result<String, String> {
     let scripts = scripts(SHORT).map(|lines| lines.join("\n"));
     let scripts = [&scripts[0][..], &scripts[1][..]];
     let on = |wrong: Option<Wrong>| scripts.map(|script| board::run(script.as_bytes(), wrong).join("\n"));
-    let judged = |outputs: [String; 2]| judge::two(scripts, [&outputs[0], &outputs[1]]);
-    judged(on(None)).map_err(|why| format!("the judge refuses a right board: {}", why))?;
-    let mut refused = 0;
+    let right = on(None);
+    judge::two(scripts, [&right[0], &right[1]]).map_err(|why| format!("the judge refuses a right board: {}", why))?;
+    let (mut refused, mut beside) = (0, 0);
     for wrong in wrong::ALL {
-        match (judged(on(Some(wrong))), only_by_comparison(wrong)) {
-            (Err(_), false) => refused += 1,
-            (Ok(_), true) => (),
-            (Ok(_), false) => return Err(format!("the judge takes {:?}", wrong)),
-            (Err(why), true) => return Err(format!("{:?} is refused after all: {}", wrong, why)),
+        let outputs = on(Some(wrong));
+        let outputs = [&outputs[0][..], &outputs[1][..]];
+        let taken = judge::one(scripts[0], outputs[0]).is_ok();
+        if taken != only_by_comparison(wrong) {
+            return Err(format!("the judge {} {:?}", if taken { "takes" } else { "refuses" }, wrong));
         }
+        if brings_leftovers_back(wrong) && judge::beside(scripts, outputs).is_ok() {
+            return Err(format!("the judge sees no leftovers of {:?}", wrong));
+        }
+        refused += !taken as usize;
+        beside += brings_leftovers_back(wrong) as usize;
     }
-    Ok(format!("{} wrong boards are refused by the judge", refused))
+    Ok(format!("{} are refused by the judge, {} of them for two boards that differ", refused, beside))
+}
+
+/// On two boards, the leftovers show in an answer or after the end.
+fn brings_leftovers_back(wrong: Wrong) -> bool {
+    use Wrong::*;
+    matches!(wrong, KeepsTail | ComparesSent | SkipsBlanks | LeavesUnsent | CountsRefused | WornOmitted | StoresNothing)
 }
 
 /// No demand speaks of the order of refusals: the line by line comparison sees these.

@@ -47,18 +47,22 @@ pub fn one(script: &str, output: &str) -> Judged<Seen> {
 pub fn two(scripts: [&str; 2], outputs: [&str; 2]) -> Judged<Seen> {
     let mut seen = one(scripts[0], outputs[0])?;
     one(scripts[1], outputs[1])?;
-    let (first, second) = (paired(scripts[0], outputs[0])?, paired(scripts[1], outputs[1])?);
-    if first.len() != second.len() {
-        return Err("two scripts of different length".to_string());
-    }
-    let mut pair = Pair { other: 1, sent: false, settled: false };
-    for (a, b) in first.iter().zip(&second) {
-        let omitted = pair
-            .lines(a, b)
-            .map_err(|why| format!("{}\n{:.200}\n{:.200}\n{:.200}", why, a.command, a.written, b.written))?;
-        seen.omitted_by_one += omitted as usize;
-    }
+    seen.omitted_by_one = beside(scripts, outputs)?;
     Ok(seen)
+}
+
+/// How often one board says 06 and the other 1D, where they differ in nothing else.
+pub fn beside(scripts: [&str; 2], outputs: [&str; 2]) -> Judged<usize> {
+    let (first, second) = (paired(scripts[0], outputs[0])?, paired(scripts[1], outputs[1])?);
+    holds(first.len() == second.len(), "two scripts of different length")?;
+    let mut pair = Pair { other: 1, sent: false, settled: false };
+    let mut omitted_by_one = 0;
+    for (a, b) in first.iter().zip(&second) {
+        let omitted = pair.lines(a, b);
+        let told = |why| format!("{}\n{:.200}\n{:.200}\n{:.200}", why, a.command, a.written, b.written);
+        omitted_by_one += omitted.map_err(told)? as usize;
+    }
+    Ok(omitted_by_one)
 }
 
 fn paired<'a>(script: &'a str, output: &'a str) -> Judged<Vec<Line<'a>>> {
