@@ -133,7 +133,7 @@ impl Board {
                 Some(format!("fill {} {:02X}", b, value))
             }
             ["put", b, offset, bytes] => {
-                let (b, offset, bytes) = (bank(b)?, decimal(offset, ROOM)?, string(bytes)?);
+                let (b, offset, bytes) = (bank(b)?, decimal(offset, ROOM)?, hex::bytes(bytes)?);
                 self.rooms[b].get_mut(offset..offset + bytes.len())?.copy_from_slice(&bytes);
                 Some(format!("put {} {} {}", b, offset, bytes.len()))
             }
@@ -148,7 +148,7 @@ impl Board {
                 Some(format!("mark {} {:02X}", sector, value))
             }
             ["address", bytes] => {
-                self.address = string(bytes).filter(|bytes| bytes.len() <= LONGEST_ADDRESS)?;
+                self.address = hex::bytes(bytes).filter(|bytes| bytes.len() <= LONGEST_ADDRESS)?;
                 Some(format!("address {}", self.address.len()))
             }
             ["buffer", length, value] => {
@@ -158,7 +158,7 @@ impl Board {
             }
             ["initiate"] => Some(done(self.client.initiate())),
             ["terminate"] => Some(done(self.client.terminate())),
-            ["send", datagram] => Some(self.send(&string(datagram)?)),
+            ["send", datagram] => Some(self.send(&hex::bytes(datagram)?)),
             ["body", i] => {
                 let i = decimal(i, usize::MAX)?;
                 let body = self.client.body([0, 1].map(|b| &self.rooms[b][..self.lent[b]]), i);
@@ -256,11 +256,7 @@ fn bank(text: &str) -> Option<usize> {
 }
 
 fn byte(text: &str) -> Option<u8> {
-    hex::number(&text.to_ascii_uppercase(), 2).map(|number| number as u8)
-}
-
-fn string(text: &str) -> Option<Vec<u8>> {
-    hex::bytes(&text.to_ascii_uppercase())
+    hex::number(text, 2).map(|number| number as u8)
 }
 
 fn decimal(text: &str, most: usize) -> Option<usize> {

@@ -48,7 +48,8 @@ pub fn endings() -> Vec<String> {
         |address 000102030405060708090A0B0C0D0E0F101112131415161718191A1B1C1D1E1F20|buffer 1025 00|buffer 1|buffer 1 0|buffer x 00";
     let calls = "send|send |send 0|send 00 00|send 0g|send  00|body|body x|body 1000000|body 0 0|body -1|crc|crc 2|crc 0 0|show|show 0 0\
         |show 0 252416 1|show 0 252417 0|show 0 0 252417|show 2 0 1|show 0 0 1 1";
-    let groups = [unknown, client, bank, put, marks, calls];
+    let nothing = "initiate 1|initiate |terminate x|record 0|record -|rest 0|rest ";
+    let groups = [unknown, client, bank, put, marks, calls, nothing];
     let mut endings: Vec<String> = groups.iter().flat_map(|group| group.split('|')).map(str::to_string).collect();
     endings.push(format!("send {}", "00".repeat(2_046)));
     endings.push(format!("send {} ", "00".repeat(2_045)));
