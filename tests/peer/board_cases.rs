@@ -5,7 +5,7 @@ use crate::draw::Draw;
 use crate::frame::{framed, write, CONTINUED, CONTROL, END, WRITE};
 use crate::hex;
 use crate::image::{self, Image};
-use crate::script::{self, packet, pair, request, write_start, Script, STATES};
+use crate::script::{packet, pair, request, write_start, Script, STATES};
 use crate::script::{BANK_INFORMATION, MODE_END, MODE_START, VERSION, WRITE_END, WRITE_START};
 use crate::wrong;
 
@@ -35,26 +35,6 @@ pub fn all() -> Vec<String> {
     cases.deliveries();
     cases.walks();
     cases.script.lines
-}
-
-/// Scripts of a few lines, each ended by a line that is none. `|` parts one from the next.
-pub fn endings() -> Vec<String> {
-    let unknown = "x|Record|records|crc\t0| record|client32|CRC 0|\u{e9}|-|\r|record\r|//";
-    let client = "client|client 1|client 1 0 0 0|client 1 2 0 0 0|client 1 0 256 0 0|client 1 0 0 256 0|client 1 0 0 0 4294967296|\
-        client 1000000 0 0 0 0|client 1 0 0 0 00000000000|client 1 0 0 0 0 0|client 1 0 0 0 0 |client  1 0 0 0 0|client -1 0 0 0 0";
-    let bank = "bank|bank 0|bank 2 0|bank 0 252417|bank 0 0000000|bank 0 x|bank 00 0|bank 0 1 1|fill 0|fill 0 0|fill 0 000|fill 2 00|fill 0 0G|fill 0 -";
-    let put = "put 0 0|put 2 0 00|put 0 252416 00|put 0 252415 0000|put 0 252417 -|put 0 0 0|put 0 0 0x|put 0 0 00 00|put 0  00|put 0 x 00|put 0 0 --";
-    let marks = "marks|marks 513|marks x|marks 1 1|mark 0 00|mark 513 00|mark 1|mark 1 0|mark 1 000|mark 1 00 00|address|address 0|address \
-        |address 000102030405060708090A0B0C0D0E0F101112131415161718191A1B1C1D1E1F20|buffer 1025 00|buffer 1|buffer 1 0|buffer x 00";
-    let calls = "send|send |send 0|send 00 00|send 0g|send  00|body|body x|body 1000000|body 0 0|body -1|crc|crc 2|crc 0 0|show|show 0 0\
-        |show 0 252416 1|show 0 252417 0|show 0 0 252417|show 2 0 1|show 0 0 1 1";
-    let nothing = "initiate 1|initiate |terminate x|record 0|record -|rest 0|rest ";
-    let groups = [unknown, client, bank, put, marks, calls, nothing];
-    let mut endings: Vec<String> = groups.iter().flat_map(|group| group.split('|')).map(str::to_string).collect();
-    endings.push(format!("send {}", "00".repeat(2_046)));
-    endings.push(format!("send {} ", "00".repeat(2_045)));
-    endings.push(format!("#{}", "#".repeat(4_096)));
-    endings
 }
 
 /// Each wrong board writes another line somewhere in the script than the right one does.
@@ -702,7 +682,7 @@ impl Cases {
                 self.script.send(&packet(sector, image.sector(sector)));
                 self.script.add(format!("bank {} {}", bank, n * SECTOR));
             }
-            (8, "closed") | (8..=19, "closed") => {
+            (8..=19, "closed") => {
                 self.script.add("initiate");
                 return "idle";
             }
@@ -720,7 +700,7 @@ impl Cases {
             }
             (11 | 12, "control") => self.script.ask(REQUESTS[self.draw.below(3)]),
             (_, "control") => {
-                self.script.send(&script::write_start(target, n));
+                self.script.send(&write_start(target, n));
                 return "write";
             }
             (9, "write") => {

@@ -14,6 +14,7 @@ mod bank;
 mod bank_cases;
 mod board;
 mod board_cases;
+mod board_endings;
 mod cases;
 mod client;
 mod crc;
@@ -39,7 +40,7 @@ fn main() {
         ["vectors"] => read_in().and_then(|text| write_out(&lines::answers(&text))),
         ["board"] => read_in().and_then(|script| write_out(&board::run(&script, None))),
         ["board-cases"] => write_out(&board_cases::all()),
-        ["board-endings"] => write_out(&board_cases::endings()),
+        ["board-endings"] => write_out(&board_endings::all()),
         ["demands", directory] => demands::write(directory),
         ["judge", directory] => demands::judge(directory).map(|said| println!("{}", said)),
         ["wrong-boards"] => wrong_boards().map(|said| println!("{}", said)),
