@@ -1,9 +1,14 @@
 //! The peer: what the proved programs are held to from outside. It is written from the paper and from section 3 of the J11
 //! specification alone, shares no code and no table with the crates, and uses nothing but Rust's standard library.
 //!
-//!     peer selftest    its own CRC-32, frames and bank check against published values and the paper's examples
-//!     peer cases       the request lines that `vectors` is tried with
-//!     peer vectors     the answer to each request line on standard input (lines.rs has the form of both)
+//!     peer selftest          its own CRC-32, frames, bank check and hex text against published values and the paper's examples
+//!     peer cases             the request lines that `vectors` is tried with
+//!     peer vectors           the answer to each request line on standard input (lines.rs has the form of both)
+//!     peer sending-cases [FILE.hex ..]
+//!                            the request lines that `sending` is tried with, on those files too
+//!     peer sending           the answer to each of them (sending.rs has the form of both)
+//!     peer packets           what the paper's program writes for the text on standard input
+//!     peer texts DIRECTORY   the texts that `packets` is tried with, each in a file of its own
 mod bank;
 mod bank_cases;
 mod cases;
@@ -11,8 +16,19 @@ mod crc;
 mod draw;
 mod frame;
 mod hex;
+mod intel;
 mod lines;
+mod packets;
+mod packets_texts;
+mod response;
+mod response_cases;
 mod selftest;
+mod selftest_sending;
+mod sender;
+mod sending;
+mod sending_cases;
+mod text_cases;
+mod texts;
 
 use std::io::{self, Read, Write};
 use std::process::exit;
@@ -23,8 +39,15 @@ fn main() {
         ["selftest"] => selftest::run(),
         ["cases"] => write_out(&[cases::all(), bank_cases::all()].concat()),
         ["vectors"] => read_in().and_then(|text| write_out(&lines::answers(&text))),
+        ["sending-cases", ref files @ ..] => {
+            let texts: Result<Vec<Vec<u8>>, String> = files.iter().map(|file| read_file(file)).collect();
+            texts.and_then(|texts| write_out(&sending_cases::all(&texts)))
+        }
+        ["sending"] => read_in().and_then(|text| write_out(&sending::answers(&text))),
+        ["packets"] => read_in().and_then(|text| write_out(&packets::lines(&text))),
+        ["texts", directory] => packets_texts::write(directory),
         _ => {
-            eprintln!("usage: peer selftest | cases | vectors");
+            eprintln!("usage: peer selftest | cases | vectors | sending-cases [FILE.hex ..] | sending | packets | texts DIRECTORY");
             exit(2)
         }
     };
@@ -38,6 +61,10 @@ fn read_in() -> Result<Vec<u8>, String> {
     let mut text = Vec::new();
     io::stdin().read_to_end(&mut text).map_err(|e| e.to_string())?;
     Ok(text)
+}
+
+fn read_file(name: &str) -> Result<Vec<u8>, String> {
+    std::fs::read(name).map_err(|e| format!("{}: {}", name, e))
 }
 
 fn write_out(lines: &[String]) -> Result<(), String> {
