@@ -50,8 +50,8 @@ fn sectors() -> Vec<Vec<u8>> {
     texts.push(text(&[2, 1]));
     texts.push(text(&(1..=32).collect::<Vec<_>>()));
     texts.push(text(&(1..=33).collect::<Vec<_>>()));
-    texts.push(in_lf(&[&upper(0x1000), &data(0x0A00, &[0xFF; 255]), END]));
-    texts.push(in_lf(&[&upper(0x1400), &data(0x0A00, &[0x00]), END]));
+    texts.push(in_lf(&[upper(0x1000), data(0x0A00, &[0xFF; 255]), END.to_string()]));
+    texts.push(in_lf(&[upper(0x1400), data(0x0A00, &[0x00]), END.to_string()]));
     texts
 }
 
