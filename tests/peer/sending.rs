@@ -1,7 +1,7 @@
 //! The form of the request lines on hex texts, images, packets and responses, for the peer and for the program `sending` alike.
 //!
-//! Lines, NUMBERs and answers have the form of lines.rs, but a request's hex digits may be of either case. There is a text, of at most
-//! 720,896 bytes, and an image, of at most 252,416; at first both are empty. A line works on what the lines before it have left.
+//! Lines, BYTES and NUMBERs have the form of lines.rs. There is a text, of at most 720,896 bytes, and an image, of at most 252,416; at first
+//! both are empty. A line works on what the lines before it have left.
 //!
 //!     request                            answer
 //!     text BYTES                         text LENGTH, once the text is those bytes
@@ -50,11 +50,11 @@ impl Held {
     fn known(&mut self, line: &str) -> Option<String> {
         match line.split(' ').collect::<Vec<_>>()[..] {
             ["text", bytes] => {
-                self.text = either_case(bytes)?;
+                self.text = hex::bytes(bytes)?;
                 Some(format!("text {}", self.text.len()))
             }
             ["more", bytes] => {
-                let bytes = either_case(bytes)?;
+                let bytes = hex::bytes(bytes)?;
                 if self.text.len() + bytes.len() > LONGEST_TEXT {
                     return None;
                 }
@@ -75,7 +75,7 @@ impl Held {
                 Some(format!("image {}", self.image.len()))
             }
             ["put", offset, bytes] => {
-                let (offset, bytes) = (decimal(offset, LONGEST_IMAGE)?, either_case(bytes)?);
+                let (offset, bytes) = (decimal(offset, LONGEST_IMAGE)?, hex::bytes(bytes)?);
                 self.image.get_mut(offset..offset + bytes.len())?.copy_from_slice(&bytes);
                 Some(format!("put {} {}", offset, bytes.len()))
             }
@@ -95,7 +95,7 @@ impl Held {
                 let code = code(word)?;
                 made(room, |buffer| sender::request(code, buffer))
             }
-            ["response", bytes] => Some(reading(response::read(&either_case(bytes)?))),
+            ["response", bytes] => Some(reading(response::read(&hex::bytes(bytes)?))),
             _ => None,
         }
     }
@@ -141,8 +141,4 @@ fn reading(read: Option<Response>) -> String {
             format!("written {:04X} {:02X} {:02X} {:08X}", sector, response, write, crc)
         }
     }
-}
-
-fn either_case(text: &str) -> Option<Vec<u8>> {
-    hex::bytes(&text.to_ascii_uppercase())
 }
