@@ -26,7 +26,7 @@ pub fn all(files: &[Vec<u8>]) -> Vec<String> {
     [cases.lines, response_cases::all()].concat()
 }
 
-/// Bytes in one line: `text `, two digits each, and less than 4,096 in all.
+/// Bytes in one line: `text `, and two digits each, well within the longest.
 const IN_ONE_LINE: usize = 2_000;
 
 const ROOMS: [usize; 12] = [0, 1, 5, 13, 14, 256, 517, 518, 519, 520, 599, 600];
@@ -151,12 +151,14 @@ impl Cases {
         ] {
             self.add(line.to_string());
         }
-        // Both sides of the longest line
-        for count in [2_044, 2_045, 2_046, 2_047] {
+        // Both sides of the longest line: with `put 0` and so many bytes a line has an even length, with the others an odd one.
+        self.image(8);
+        for count in [2_043, 2_044, 2_045, 2_046, 2_047] {
             let bytes = self.draw.bytes(count);
             for word in ["text", "more", "put 0", "response"] {
                 self.add(format!("{} {}", word, hex::text(&bytes)));
             }
+            self.add_packet(8, 0, 519);
         }
         for length in [4_094, 4_095, 4_096, 4_097, 8_192] {
             self.add("0".repeat(length));
