@@ -1,15 +1,20 @@
 //! The peer: what the proved programs are held to from outside. It is written from the paper and from section 3 of the J11
 //! specification alone, shares no code and no table with the crates, and uses nothing but Rust's standard library.
 //!
-//!     peer selftest        its own CRC-32, frames, bank check and client against published values and the paper's examples
-//!     peer cases           the request lines that `vectors` is tried with
-//!     peer vectors         the answer to each request line on standard input (lines.rs has the form of both)
-//!     peer board-cases     the script that `board` is tried with
-//!     peer board-endings   lines that are none, each of which ends a script
-//!     peer board           what the script on standard input writes, on a board with the peer's own client (docs/BOARD.md)
-//!     peer demands DIR     two scripts, DIR/first.script and DIR/second.script, for the user's demands
-//!     peer judge DIR       whether DIR/first.output and DIR/second.output, as a board wrote them, meet the demands
-//!     peer wrong-boards    that the script tells each wrong board from a right one, and that the judge refuses it
+//!     peer selftest          its own CRC-32, frames, bank check, hex text and client against published values and the paper's examples
+//!     peer cases             the request lines that `vectors` is tried with
+//!     peer vectors           the answer to each request line on standard input (lines.rs has the form of both)
+//!     peer sending-cases [FILE.hex ..]
+//!                            the request lines that `sending` is tried with, on those files too
+//!     peer sending           the answer to each of them (sending.rs has the form of both)
+//!     peer packets           what the paper's program writes for the text on standard input
+//!     peer texts DIRECTORY   the texts that `packets` is tried with, each in a file of its own
+//!     peer board-cases       the script that `board` is tried with
+//!     peer board-endings     lines that are none, each of which ends a script
+//!     peer board             what the script on standard input writes, on a board with the peer's own client (docs/BOARD.md)
+//!     peer demands DIR       two scripts, DIR/first.script and DIR/second.script, for the user's demands
+//!     peer judge DIR         whether DIR/first.output and DIR/second.output, as a board wrote them, meet the demands
+//!     peer wrong-boards      that the script tells each wrong board from a right one, and that the judge refuses it
 mod bank;
 mod bank_cases;
 mod board;
@@ -23,10 +28,21 @@ mod draw;
 mod frame;
 mod hex;
 mod image;
+mod intel;
 mod judge;
 mod lines;
+mod packets;
+mod packets_texts;
+mod response;
+mod response_cases;
 mod script;
 mod selftest;
+mod selftest_sending;
+mod sender;
+mod sending;
+mod sending_cases;
+mod text_cases;
+mod texts;
 mod wrong;
 
 use std::io::{self, Read, Write};
@@ -44,8 +60,15 @@ fn main() {
         ["demands", directory] => demands::write(directory),
         ["judge", directory] => demands::judge(directory).map(|said| println!("{}", said)),
         ["wrong-boards"] => wrong_boards().map(|said| println!("{}", said)),
+        ["sending-cases", ref files @ ..] => {
+            let texts: Result<Vec<Vec<u8>>, String> = files.iter().map(|file| read_file(file)).collect();
+            texts.and_then(|texts| write_out(&sending_cases::all(&texts)))
+        }
+        ["sending"] => read_in().and_then(|text| write_out(&sending::answers(&text))),
+        ["packets"] => read_in().and_then(|text| write_out(&packets::lines(&text))),
+        ["texts", directory] => packets_texts::write(directory),
         _ => {
-            eprintln!("usage: peer selftest | cases | vectors | board-cases | board-endings | board | demands DIR | judge DIR | wrong-boards");
+            eprintln!("usage: peer COMMAND [ARGUMENT ..]; the head of main.rs has the commands");
             exit(2)
         }
     };
@@ -59,6 +82,10 @@ fn read_in() -> Result<Vec<u8>, String> {
     let mut text = Vec::new();
     io::stdin().read_to_end(&mut text).map_err(|e| e.to_string())?;
     Ok(text)
+}
+
+fn read_file(name: &str) -> Result<Vec<u8>, String> {
+    std::fs::read(name).map_err(|e| format!("{}: {}", name, e))
 }
 
 fn write_out(lines: &[String]) -> Result<(), String> {

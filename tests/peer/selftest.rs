@@ -1,9 +1,10 @@
 //! The peer held to what others have published, so that an agreement with it means something.
-use crate::{bank, board, crc, frame, hex};
+use crate::{bank, board, crc, frame, hex, selftest_sending};
 
 pub fn run() -> Result<(), String> {
-    let checks =
-        [crcs(), continued(), checksums(), frames(), faults(), addresses(), banks(), clients(), write_results()];
+    let mut checks =
+        vec![crcs(), continued(), checksums(), frames(), faults(), addresses(), banks(), clients(), write_results()];
+    checks.extend(selftest_sending::all());
     let count: usize = checks.iter().map(Vec::len).sum();
     match checks.concat().into_iter().find(|(_, good)| !good) {
         Some((what, _)) => Err(format!("selftest: {}", what)),
@@ -14,7 +15,8 @@ pub fn run() -> Result<(), String> {
     }
 }
 
-type Checks = Vec<(String, bool)>;
+/// What each is, and whether it holds.
+pub type Checks = Vec<(String, bool)>;
 
 /// `123456789` is the check value of the catalogues of CRCs (CRC-32/ISO-HDLC); the others are what zlib's crc32 gives
 /// (python3 -c 'import zlib; print(hex(zlib.crc32(bytes(65536))))' for the longest).
@@ -234,7 +236,7 @@ fn held(about: &str, lines: &[(&str, String, &str)]) -> Checks {
     ended.into_iter().chain(each).collect()
 }
 
-fn bytes(text: &str) -> Vec<u8> {
+pub fn bytes(text: &str) -> Vec<u8> {
     if text.is_empty() {
         Vec::new()
     } else {
