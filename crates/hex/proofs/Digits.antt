@@ -28,7 +28,7 @@ out-of-range : (a b c : ℕ) → (leb a c && leb c b) ≡ false → a ≤ c → 
 out-of-range a b c e h = leb-false c b (sym (ap (λ (t : Bool). t && leb c b) (le-leb a c h)) ∙ e)
 
 -- bit 5 set
-pub folded : (c : ℕ) → bitOr c 0x20 ≡ c / 64 * 64 + 32 + c % 32
+folded : (c : ℕ) → bitOr c 0x20 ≡ c / 64 * 64 + 32 + c % 32
 folded c =
     let low : c / 32 % 2 ≤ 1 = omega arith in
     let whole : c / 32 * 32 + c % 32 ≡ c = omega arith in
