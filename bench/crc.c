@@ -5,12 +5,12 @@
 #include "now.h"
 #include "plain.h"
 
-uint32_t frame_crc32(const uint8_t *bytes, size_t n);
+uint32_t crc_crc32(const uint8_t *bytes, size_t n);
 
 static uint32_t by_zlib(const uint8_t *bytes, size_t n) { return crc32(0, bytes, n); }
 
 enum { WAYS = 5 };
-static crc_of *const ways[WAYS] = {frame_crc32, by_zlib, by_table, by_slices_first, by_slices};
+static crc_of *const ways[WAYS] = {crc_crc32, by_zlib, by_table, by_slices_first, by_slices};
 
 int main(void) {
     static const size_t sizes[] = {16, 64, 128, 256, 512, 1024, 4096, 16384, 65536, 251392};
