@@ -1,7 +1,7 @@
 // The requests for a checksum or a CRC-32.
 ghost use Prim.Native.Nat.{_<_, _≤_};
-use crate::say;
-use crate::text;
+use script::say;
+use script::text;
 
 const LONGEST_RUN: usize = 300_000;
 
@@ -133,9 +133,12 @@ pub fn run(fields: &[u8]) -> bool {
     if byte > 255 {
         return false;
     }
-    long_crc(Pattern::Same(byte as u8), text::decimal(text::rest(fields)))
+    long_crc(
+        Pattern::Same(byte as u8),
+        text::decimal(text::rest(fields), 6),
+    )
 }
 
 pub fn ramp(fields: &[u8]) -> bool {
-    long_crc(Pattern::Ramp, text::decimal(fields))
+    long_crc(Pattern::Ramp, text::decimal(fields, 6))
 }

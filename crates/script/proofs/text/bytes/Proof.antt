@@ -1,11 +1,11 @@
--- `vectors::text::bytes` is safe and ends: the count was tested against both lengths.
+-- `script::text::bytes` is safe and ends: the count was tested against both lengths.
 -- Assumes nothing.
 use Prim.Native.Nat.{_≤_, _-_}
 use mathlib.Core.Path.{_≡_}
 use lib.ListN.{length}
 use borrow.Author.Needs.{needs}
-use Rattle.vectors.proofs.text.bytes.Statement.{statement}
-use Rattle.vectors.proofs.text.bytes.Tie as tie
+use Rattle.script.proofs.text.bytes.Statement.{statement}
+use Rattle.script.proofs.text.bytes.Tie as tie
 
 abbrev Inv-loop : tie.InvT-loop
 Inv-loop text into₀ count i₀ into i = (i ≤ count) × (length into ≡ length into₀)

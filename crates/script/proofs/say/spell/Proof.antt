@@ -1,4 +1,4 @@
--- `vectors::say::spell` is safe and ends: two digits for each byte passed have room.
+-- `script::say::spell` is safe and ends: two digits for each byte passed have room.
 -- Assumes nothing.
 use Prim.Native.Nat.{_≤_, _-_}
 use mathlib.Core.Path.{_≡_, sym}
@@ -6,8 +6,8 @@ use native.Mathlib.Omega.{arith}
 use lib.ListN.{length, length-set}
 use lib.Seq.{length-take-le}
 use borrow.Author.Needs.{needs}
-use Rattle.vectors.proofs.say.spell.Statement.{statement}
-use Rattle.vectors.proofs.say.spell.Tie as tie
+use Rattle.script.proofs.say.spell.Statement.{statement}
+use Rattle.script.proofs.say.spell.Tie as tie
 
 abbrev Inv-loop : tie.InvT-loop
 Inv-loop bytes into₀ i₀ into i = (i ≤ length bytes) × (length into ≡ length into₀)

@@ -1,12 +1,12 @@
--- `vectors::text::blank_at` meets its contract.
+-- `script::text::blank_at` meets its contract.
 -- Assumes nothing.
 use mathlib.Core.Path.{sym}
 use Prim.Native.Nat.{_≤_, _-_}
 use lib.ListN.{length}
 use lib.Seq.{length-take-le}
 use borrow.Author.Needs.{needs}
-use Rattle.vectors.proofs.text.blank_at.Statement.{statement}
-use Rattle.vectors.proofs.text.blank_at.Tie as tie
+use Rattle.script.proofs.text.blank_at.Statement.{statement}
+use Rattle.script.proofs.text.blank_at.Tie as tie
 
 abbrev Inv-loop : tie.InvT-loop
 Inv-loop text i₀ i = i ≤ length text

@@ -1,6 +1,6 @@
 // What is written to standard output.
+ghost use Prim.Native.Nat.{_<_, _≤_};
 ghost use Rattle.io.specs.Counts.{Counts};
-use frame::read::Footer;
 use libc::STDOUT_FILENO;
 
 pub fn text(words: &[u8]) {
@@ -25,6 +25,8 @@ fn digit(number: u8) -> u8 {
     }
 }
 
+const LARGEST_PIECE: usize = 2048;
+
 // The bytes' digits to the front of `into`, and how many they are; none where they have no room.
 fn spell(bytes: &[u8], into: &mut [u8]) -> usize
     ensures { λ r. ⌜ Counts r (now (into .exit)) ⌝ }
@@ -42,10 +44,31 @@ fn spell(bytes: &[u8], into: &mut [u8]) -> usize
     2 * i
 }
 
-pub fn hex(bytes: &[u8]) {
-    let mut digits = [0u8; 4096];
+fn hex_piece(bytes: &[u8]) {
+    let mut digits = [0u8; 2 * LARGEST_PIECE];
     let n = spell(bytes, &mut digits);
     text(&digits[..n]);
+}
+
+// How much of what is left goes into one piece.
+fn piece_of(left: usize) -> usize
+    requires { ⌜ 0 < left ⌝ }
+    ensures { λ r. ⌜ (0 < r) × (r ≤ left) ⌝ }
+{
+    if left < LARGEST_PIECE {
+        left
+    } else {
+        LARGEST_PIECE
+    }
+}
+
+pub fn hex(bytes: &[u8]) {
+    let mut done = 0;
+    while done < bytes.len() {
+        let end = done + piece_of(bytes.len() - done);
+        hex_piece(&bytes[done..end]);
+        done = end;
+    }
 }
 
 pub fn bytes(all: &[u8]) {
@@ -75,9 +98,16 @@ pub fn decimal(value: usize) {
     io::print_decimal(STDOUT_FILENO, value as u64);
 }
 
-pub fn footer(value: Footer) {
-    match value {
-        Footer::End => text(b"03"),
-        Footer::Continued => text(b"17"),
-    }
+// The paper's number of a refusal.
+pub fn refused(number: usize) {
+    text(b"refused ");
+    decimal(number);
+}
+
+// The same of a hex text: its fault, H1 to H6, and the line.
+pub fn refused_line(fault: usize, line: usize) {
+    text(b"refused H");
+    decimal(fault);
+    text(b" line ");
+    decimal(line);
 }

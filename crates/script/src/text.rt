@@ -33,60 +33,60 @@ pub fn rest(text: &[u8]) -> &[u8] {
     }
 }
 
-// An upper-case hex digit's value, and 16 for any other byte.
+// A hex digit's value, in either case, and 16 for any other byte.
 fn digit(byte: u8) -> u8
     ensures { λ r. ⌜ r ≤ 16 ⌝ }
 {
     match byte {
         b'0'..=b'9' => byte - b'0',
         b'A'..=b'F' => byte - b'A' + 10,
+        b'a'..=b'f' => byte - b'a' + 10,
         _ => 16,
     }
 }
 
-// A number of exactly so many hex digits, eight at most.
-pub fn number(text: &[u8], digits: usize) -> u64 {
-    if text.len() != digits {
-        return u64::MAX;
-    }
-    let mut value: u64 = 0;
+const LARGEST_VALUE: usize = 0xFFFF_FFFF;
+
+// The number that the digits spell, if it is no larger than 32 bits hold.
+fn value(digits: &[u8], base: usize) -> usize
+    requires { ⌜ base ≤ 16 ⌝ }
+{
+    let mut value: usize = 0;
     let mut i = 0;
-    while i < text.len() {
-        let d = digit(text[i]);
-        if d > 15 {
-            return u64::MAX;
+    while i < digits.len() {
+        let d = digit(digits[i]) as usize;
+        if d >= base {
+            return usize::MAX;
         }
-        if value > 0x0FFF_FFFF {
-            return u64::MAX;
+        if value > LARGEST_VALUE {
+            return usize::MAX;
         }
-        value = value * 16 + d as u64;
+        value = value * base + d;
         i += 1;
+    }
+    if value > LARGEST_VALUE {
+        return usize::MAX;
     }
     value
 }
 
-// A decimal number of one to six digits.
-pub fn decimal(text: &[u8]) -> usize {
+// A number of exactly so many hex digits.
+pub fn number(text: &[u8], digits: usize) -> usize {
+    if text.len() != digits {
+        return usize::MAX;
+    }
+    value(text, 16)
+}
+
+// A decimal number of one to so many digits.
+pub fn decimal(text: &[u8], most: usize) -> usize {
     if text.len() == 0 {
         return usize::MAX;
     }
-    if text.len() > 6 {
+    if text.len() > most {
         return usize::MAX;
     }
-    let mut value: usize = 0;
-    let mut i = 0;
-    while i < text.len() {
-        let d = digit(text[i]);
-        if d > 9 {
-            return usize::MAX;
-        }
-        if value > 99_999 {
-            return usize::MAX;
-        }
-        value = value * 10 + d as usize;
-        i += 1;
-    }
-    value
+    value(text, 10)
 }
 
 fn is_none(text: &[u8]) -> bool {
