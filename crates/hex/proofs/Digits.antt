@@ -1,17 +1,16 @@
 -- Digits, the bytes that two of them spell, and sums of such bytes, by their positions in a text.
 -- Assumes nothing.
-use mathlib.Core.Path.{_≡_, refl, sym, ap, _∙_}
+use mathlib.Core.Path.{_≡_, refl, sym, _∙_}
 use mathlib.Core.List.{List, _∷_}
 use mathlib.Core.Bool.{Bool, true, false, _&&_, cond}
-use Prim.Native.Nat.{ℕ, zero, suc, _+_, _-_, _*_, _/_, _%_, _<_, _≤_, max}
-use native.Mathlib.Nat.{add-assoc, add-zero, max-eq-right}
+use Prim.Native.Nat.{ℕ, zero, suc, _+_, _-_, _*_, _%_, _<_, _≤_}
+use native.Mathlib.Nat.{add-assoc, add-zero}
 use native.Mathlib.Numerals.{add-one}
 use native.Mathlib.Omega.{arith}
 use lib.Dec.{leb, ltb}
 use lib.ListN.{getD, set}
 use lib.Seq.{sets}
-use lib.Bits.{bitOr, or-step, or-block, or-zero-r}
-use borrow.Author.Tests.{lt-ltb, le-ltb, le-leb, ltb-true, leb-true, leb-false}
+use borrow.Author.Tests.{lt-ltb, le-ltb, ltb-true, leb-true}
 use Rattle.buffer.proofs.Bools.{and-left, and-right}
 use Rattle.hex.specs.Digit.{digitOf, isDigit, byteOf}
 use Rattle.hex.specs.Record.{total}
@@ -19,46 +18,14 @@ use Rattle.hex.specs.Places.{pairAt, byteAt, bytesAt, allBytes, checkFro
 
 -- ---- a digit, by the range in which it lies
 
+-- a number is counted from 0 on
+pub digit-is : (c : ℕ) → cond (leb 0x30 c && leb c 0x39) (c - 0x30 + 0) (cond (leb 0x41 c && leb c 0x46) (c - 0x41 + 10) (cond (leb 0x61 c && leb c 0x66) (c - 0x61 + 10) 16)) ≡ digitOf c
+unfolding digitOf
+digit-is c = rw (add-zero (c - 0x30))
+
 -- a number between two others, by the joined test
 pub in-range : (a b c : ℕ) → (leb a c && leb c b) ≡ true → (a ≤ c) × (c ≤ b)
 in-range a b c e = (leb-true a c (and-left (leb a c) (leb c b) e), leb-true c b (and-right (leb a c) (leb c b) e))
-
--- and one that is not
-out-of-range : (a b c : ℕ) → (leb a c && leb c b) ≡ false → a ≤ c → b < c
-out-of-range a b c e h = leb-false c b (sym (ap (λ (t : Bool). t && leb c b) (le-leb a c h)) ∙ e)
-
--- bit 5 set
-folded : (c : ℕ) → bitOr c 0x20 ≡ c / 64 * 64 + 32 + c % 32
-folded c =
-    let low : c / 32 % 2 ≤ 1 = omega arith in
-    let whole : c / 32 * 32 + c % 32 ≡ c = omega arith in
-    let odd : bitOr (c / 32) 1 ≡ c / 32 / 2 * 2 + 1 =
-    or-step (c / 32) 1
-    ∙ ap (λ (x : ℕ). x * 2 + max (c / 32 % 2) 1) (or-zero-r (c / 32 / 2))
-    ∙ ap (λ (x : ℕ). c / 32 / 2 * 2 + x) (max-eq-right low) in
-    let split : bitOr c 0x20 ≡ bitOr (c / 32) 1 * 32 + bitOr (c % 32) 0 =
-    ap (λ (x : ℕ). bitOr x 0x20) (sym whole) ∙ or-block 5 (c / 32) 1 (c % 32) 0 (omega arith) (omega arith) in
-    let rest = or-zero-r (c % 32) in
-    split ∙ omega arith
-
--- a letter in either case is one in lower case with that bit set
-either-case : (c f : ℕ) → f ≡ c / 64 * 64 + 32 + c % 32
-    → cond (leb 0x61 f && leb f 0x66) (f - 0x61 + 10) 16
-    ≡ cond (leb 0x41 c && leb c 0x46) (c - 0x41 + 10) (cond (leb 0x61 c && leb c 0x66) (c - 0x61 + 10) 16)
-either-case c f s = by _ _ _ refl refl refl
-  where
-    by : (t u l : Bool) → (leb 0x61 f && leb f 0x66) ≡ t → (leb 0x41 c && leb c 0x46) ≡ u → (leb 0x61 c && leb c 0x66) ≡ l
-        → cond t (f - 0x61 + 10) 16 ≡ cond u (c - 0x41 + 10) (cond l (c - 0x61 + 10) 16)
-    by true true l p q r = let h = in-range 0x61 0x66 f p in let k = in-range 0x41 0x46 c q in omega arith
-    by true false true p q r = let h = in-range 0x61 0x66 f p in let k = in-range 0x61 0x66 c r in omega arith
-    by true false false p q r = let h = in-range 0x61 0x66 f p in let k = out-of-range 0x41 0x46 c q (omega arith) in absurd (let m = out-of-range 0x61 0x66 c r (omega arith) in omega arith)
-    by false true l p q r = let h = in-range 0x41 0x46 c q in absurd (let k = out-of-range 0x61 0x66 f p (omega arith) in omega arith)
-    by false false true p q r = let h = in-range 0x61 0x66 c r in absurd (let k = out-of-range 0x61 0x66 f p (omega arith) in omega arith)
-    by false false false p q r = refl
-
-pub digit-is : (c : ℕ) → cond (leb 0x30 c && leb c 0x39) (c - 0x30 + 0) (cond (leb 0x61 (bitOr c 0x20) && leb (bitOr c 0x20) 0x66) (bitOr c 0x20 - 0x61 + 10) 16) ≡ digitOf c
-unfolding digitOf
-digit-is c = rw (add-zero (c - 0x30)) (ap (cond (leb 0x30 c && leb c 0x39) (c - 0x30)) (either-case c (bitOr c 0x20) (folded c)))
 
 -- ---- two digits
 

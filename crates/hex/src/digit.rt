@@ -29,12 +29,13 @@ fn within(x: u8, first: u8, last: u8, value: u8, other: u8) -> u8
     other
 }
 
-// The value of a digit. Upper case is made lower case first.
+// The value of a digit.
 fn digit(x: u8) -> u8
     ensures { λ r. ⌜ r ≡ digitOf x ⌝ }
 {
-    let letter = within(x | 0x20, b'a', b'f', 10, NONE);
-    within(x, b'0', b'9', 0, letter)
+    let lower = within(x, b'a', b'f', 10, NONE);
+    let upper = within(x, b'A', b'F', 10, lower);
+    within(x, b'0', b'9', 0, upper)
 }
 
 // Whether two digits stand at `at`.
