@@ -62,7 +62,7 @@ fn say_read(answer: Answer, image: &[u8]) {
         Answer::Accepted => say::text(b"accepted"),
     }
     say::text(b" ");
-    say::quad(frame::crc::crc32(image));
+    say::quad(crc::crc32(image));
     say::end();
 }
 
