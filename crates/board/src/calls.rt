@@ -1,7 +1,7 @@
 // The commands that call the client.
 use crate::state;
 use crate::state::Board;
-use crate::state::Ran;
+use crate::word::Call;
 use bank::layout::Bank;
 use client::answer::Answer;
 use client::answer::Kind;
@@ -9,6 +9,7 @@ use client::answer::Notice;
 use client::answer::Refusal;
 use client::host::Hosted;
 use client::host::Told;
+use client::record::Client;
 use script::say;
 use script::text;
 
@@ -38,10 +39,11 @@ fn renew(
 ) -> Board {
     buffer::fill::fill(bank0, 0xFF);
     buffer::fill::fill(bank1, 0xFF);
-    let made = state::fresh(n, running, major, minor, revision);
-    let told = made.told;
+    let hosted = Client::new(n, running, major, minor, revision);
+    let told = hosted.told;
+    let client = hosted.client;
     say_told(told);
-    made.board
+    state::fresh(client)
 }
 
 // The version's three fields, behind those on the banks.
@@ -52,7 +54,7 @@ fn versioned(
     n: usize,
     running: Bank,
     fields: &[u8],
-) -> Ran {
+) -> Board {
     let later = text::rest(fields);
     let major = text::decimal(text::first(fields), 6);
     let minor = text::decimal(text::first(later), 6);
@@ -66,7 +68,7 @@ fn versioned(
     if revision > 0xFFFF_FFFF {
         return state::unknown(board);
     }
-    state::carried_out(renew(
+    renew(
         bank0,
         bank1,
         n,
@@ -74,10 +76,10 @@ fn versioned(
         major as u8,
         minor as u8,
         revision as u32,
-    ))
+    )
 }
 
-pub fn client(board: Board, bank0: &mut [u8], bank1: &mut [u8], fields: &[u8]) -> Ran {
+fn client(board: Board, bank0: &mut [u8], bank1: &mut [u8], fields: &[u8]) -> Board {
     let later = text::rest(fields);
     let n = text::decimal(text::first(fields), 6);
     let bank = text::decimal(text::first(later), 1);
@@ -90,14 +92,16 @@ pub fn client(board: Board, bank0: &mut [u8], bank1: &mut [u8], fields: &[u8]) -
     versioned(board, bank0, bank1, n, bank_of(bank), text::rest(later))
 }
 
-fn hosted(board: Board, hosted: Hosted) -> Ran {
+fn hosted(board: Board, hosted: Hosted) -> Board {
     let client = hosted.client;
     let told = hosted.told;
     say_told(told);
-    state::carried_out(Board { client, ..board })
+    let mut b = board;
+    b.client = client;
+    b
 }
 
-pub fn initiate(board: Board, fields: &[u8]) -> Ran {
+fn initiate(board: Board, fields: &[u8]) -> Board {
     if fields.len() > 0 {
         return state::unknown(board);
     }
@@ -105,7 +109,7 @@ pub fn initiate(board: Board, fields: &[u8]) -> Ran {
     hosted(board, client.initiate())
 }
 
-pub fn terminate(board: Board, fields: &[u8]) -> Ran {
+fn terminate(board: Board, fields: &[u8]) -> Board {
     if fields.len() > 0 {
         return state::unknown(board);
     }
@@ -186,11 +190,10 @@ fn step(
     let answer = stepped.answer;
     let notice = stepped.notice;
     say_answer(answer, state::front(room, stepped.length), notice);
-    Board {
-        client,
-        answered: latest(answer, stepped.length, board.answered),
-        ..board
-    }
+    let mut b = board;
+    b.client = client;
+    b.answered = latest(answer, stepped.length, board.answered);
+    b
 }
 
 fn with_buffer(
@@ -202,8 +205,9 @@ fn with_buffer(
     datagram: &[u8],
 ) -> Board {
     let mut buffer = board.buffer;
-    let stepped = step(board, bank0, bank1, marks, address, &mut buffer, datagram);
-    Board { buffer, ..stepped }
+    let mut b = step(board, bank0, bank1, marks, address, &mut buffer, datagram);
+    b.buffer = buffer;
+    b
 }
 
 fn with_address(
@@ -227,7 +231,7 @@ fn with_marks(board: Board, bank0: &mut [u8], bank1: &mut [u8], datagram: &[u8])
 }
 
 // What a setting lends of the board's own rooms is found for one room after another.
-pub fn send(board: Board, bank0: &mut [u8], bank1: &mut [u8], fields: &[u8]) -> Ran {
+fn send(board: Board, bank0: &mut [u8], bank1: &mut [u8], fields: &[u8]) -> Board {
     let mut datagram = [0u8; 2048];
     let got = text::bytes(fields, &mut datagram);
     if got < 0 {
@@ -236,30 +240,19 @@ pub fn send(board: Board, bank0: &mut [u8], bank1: &mut [u8], fields: &[u8]) -> 
     let count = io::count(got, &datagram);
     let lent0 = io::count(board.bank0 as isize, bank0);
     let lent1 = io::count(board.bank1 as isize, bank1);
-    state::carried_out(with_marks(
+    with_marks(
         board,
         &mut bank0[..lent0],
         &mut bank1[..lent1],
         &datagram[..count],
-    ))
+    )
 }
 
-fn say_body(body: &[u8]) {
-    say::text(b"body ");
-    say::decimal(body.len());
-    say::text(b" ");
-    say::quad(crc::crc32(body));
-    say::end();
-}
-
-pub fn body<'a>(board: Board, bank0: &'a [u8], bank1: &'a [u8], fields: &[u8]) -> bool {
-    let i = text::decimal(fields, 6);
-    if i > LARGEST_NUMBER {
-        return false;
+pub fn run(board: Board, bank0: &mut [u8], bank1: &mut [u8], call: Call, fields: &[u8]) -> Board {
+    match call {
+        Call::Client => client(board, bank0, bank1, fields),
+        Call::Initiate => initiate(board, fields),
+        Call::Terminate => terminate(board, fields),
+        Call::Send => send(board, bank0, bank1, fields),
     }
-    let client = board.client;
-    let lent0 = state::front(bank0, board.bank0 as usize);
-    let lent1 = state::front(bank1, board.bank1 as usize);
-    say_body(client.body(lent0, lent1, i));
-    true
 }

@@ -1,7 +1,8 @@
 // The commands that set what the board holds, and how much of it is lent.
+ghost use Prim.Native.Nat.{_≤_};
 use crate::state;
 use crate::state::Board;
-use crate::state::Ran;
+use crate::word::Setting;
 use script::say;
 use script::text;
 
@@ -14,20 +15,16 @@ fn say_bank(bank: usize, number: usize) {
 }
 
 fn lend_bank(board: Board, bank: usize, count: u32) -> Board {
+    let mut b = board;
     if bank == 0 {
-        Board {
-            bank0: count,
-            ..board
-        }
-    } else {
-        Board {
-            bank1: count,
-            ..board
-        }
+        b.bank0 = count;
+        return b;
     }
+    b.bank1 = count;
+    b
 }
 
-pub fn bank(board: Board, fields: &[u8]) -> Ran {
+fn bank(board: Board, fields: &[u8]) -> Board {
     let bank = text::decimal(text::first(fields), 1);
     let count = text::decimal(text::rest(fields), 6);
     if bank > 1 {
@@ -38,10 +35,10 @@ pub fn bank(board: Board, fields: &[u8]) -> Ran {
     }
     say::text(b"bank ");
     say_bank(bank, count);
-    state::carried_out(lend_bank(board, bank, count as u32))
+    lend_bank(board, bank, count as u32)
 }
 
-pub fn fill(bank0: &mut [u8], bank1: &mut [u8], fields: &[u8]) -> bool {
+fn fill(bank0: &mut [u8], bank1: &mut [u8], fields: &[u8]) -> bool {
     let bank = text::decimal(text::first(fields), 1);
     let byte = text::number(text::rest(fields), 2);
     if bank > 1 {
@@ -82,7 +79,7 @@ fn put_in(room: &mut [u8], bank: usize, offset: usize, digits: &[u8]) -> bool {
     true
 }
 
-pub fn put(bank0: &mut [u8], bank1: &mut [u8], fields: &[u8]) -> bool {
+fn put(bank0: &mut [u8], bank1: &mut [u8], fields: &[u8]) -> bool {
     let bank = text::decimal(text::first(fields), 1);
     let later = text::rest(fields);
     let offset = text::decimal(text::first(later), 6);
@@ -95,7 +92,7 @@ pub fn put(bank0: &mut [u8], bank1: &mut [u8], fields: &[u8]) -> bool {
     false
 }
 
-pub fn marks(board: Board, fields: &[u8]) -> Ran {
+fn marks(board: Board, fields: &[u8]) -> Board {
     let count = text::decimal(fields, 6);
     if count > state::MARKS_ROOM {
         return state::unknown(board);
@@ -103,26 +100,22 @@ pub fn marks(board: Board, fields: &[u8]) -> Ran {
     say::text(b"marks ");
     say::decimal(count);
     say::end();
-    state::carried_out(Board {
-        marks: [0u8; state::MARKS_ROOM],
-        marks_lent: count as u32,
-        ..board
-    })
+    let mut b = board;
+    b.marks = [0u8; state::MARKS_ROOM];
+    b.marks_lent = count as u32;
+    b
 }
 
-fn set_mark(board: Board, sector: usize, byte: u8) -> Board {
-    let mut marks = board.marks;
-    if sector < 1 {
-        return board;
-    }
-    if sector > state::MARKS_ROOM {
-        return board;
-    }
-    marks[sector - 1] = byte;
-    Board { marks, ..board }
+fn set_mark(board: Board, sector: usize, byte: u8) -> Board
+    requires { ⌜ (1 ≤ sector) × (sector ≤ 512) ⌝ }
+{
+    let at = sector - 1;
+    let mut b = board;
+    b.marks[at] = byte;
+    b
 }
 
-pub fn mark(board: Board, fields: &[u8]) -> Ran {
+fn mark(board: Board, fields: &[u8]) -> Board {
     let sector = text::decimal(text::first(fields), 6);
     let byte = text::number(text::rest(fields), 2);
     if sector < 1 {
@@ -139,10 +132,10 @@ pub fn mark(board: Board, fields: &[u8]) -> Ran {
     say::text(b" ");
     say::byte(byte as u8);
     say::end();
-    state::carried_out(set_mark(board, sector, byte as u8))
+    set_mark(board, sector, byte as u8)
 }
 
-pub fn address(board: Board, fields: &[u8]) -> Ran {
+fn address(board: Board, fields: &[u8]) -> Board {
     let mut address = board.address;
     let got = text::bytes(fields, &mut address);
     if got < 0 {
@@ -152,14 +145,13 @@ pub fn address(board: Board, fields: &[u8]) -> Ran {
     say::text(b"address ");
     say::decimal(count);
     say::end();
-    state::carried_out(Board {
-        address,
-        address_lent: count as u32,
-        ..board
-    })
+    let mut b = board;
+    b.address = address;
+    b.address_lent = count as u32;
+    b
 }
 
-pub fn buffer(board: Board, fields: &[u8]) -> Ran {
+fn buffer(board: Board, fields: &[u8]) -> Board {
     let count = text::decimal(text::first(fields), 6);
     let byte = text::number(text::rest(fields), 2);
     if count > state::BUFFER_ROOM {
@@ -171,10 +163,31 @@ pub fn buffer(board: Board, fields: &[u8]) -> Ran {
     say::text(b"buffer ");
     say::decimal(count);
     say::end();
-    state::carried_out(Board {
-        buffer: [byte as u8; state::BUFFER_ROOM],
-        buffer_lent: count as u32,
-        answered: 0,
-        ..board
-    })
+    let mut b = board;
+    b.buffer = [byte as u8; state::BUFFER_ROOM];
+    b.buffer_lent = count as u32;
+    b.answered = 0;
+    b
+}
+
+fn filled(board: Board, known: bool) -> Board {
+    if known { board } else { state::unknown(board) }
+}
+
+pub fn run(
+    board: Board,
+    bank0: &mut [u8],
+    bank1: &mut [u8],
+    setting: Setting,
+    fields: &[u8],
+) -> Board {
+    match setting {
+        Setting::Bank => bank(board, fields),
+        Setting::Fill => filled(board, fill(bank0, bank1, fields)),
+        Setting::Put => filled(board, put(bank0, bank1, fields)),
+        Setting::Marks => marks(board, fields),
+        Setting::Mark => mark(board, fields),
+        Setting::Address => address(board, fields),
+        Setting::Buffer => buffer(board, fields),
+    }
 }

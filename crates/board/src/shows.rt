@@ -1,6 +1,7 @@
 // The commands that show what the board holds.
 use crate::state;
 use crate::state::Board;
+use crate::word::Show;
 use bank::layout::Bank;
 use bank::layout::MOST;
 use client::record::Client;
@@ -8,6 +9,28 @@ use client::record::Latest;
 use client::record::State;
 use script::say;
 use script::text;
+
+const LARGEST_NUMBER: usize = 999_999;
+
+fn say_body(body: &[u8]) {
+    say::text(b"body ");
+    say::decimal(body.len());
+    say::text(b" ");
+    say::quad(crc::crc32(body));
+    say::end();
+}
+
+fn body<'a>(board: Board, bank0: &'a [u8], bank1: &'a [u8], fields: &[u8]) -> bool {
+    let i = text::decimal(fields, 6);
+    if i > LARGEST_NUMBER {
+        return false;
+    }
+    let client = board.client;
+    let lent0 = state::front(bank0, board.bank0 as usize);
+    let lent1 = state::front(bank1, board.bank1 as usize);
+    say_body(client.body(lent0, lent1, i));
+    true
+}
 
 fn say_state(state: State) {
     match state {
@@ -81,7 +104,7 @@ fn say_record(client: Client) {
     say_received(received);
 }
 
-pub fn record(board: Board, fields: &[u8]) -> bool {
+fn record(board: Board, fields: &[u8]) -> bool {
     if fields.len() > 0 {
         return false;
     }
@@ -100,7 +123,7 @@ fn say_crc(bank: usize, bytes: &[u8]) {
     say::end();
 }
 
-pub fn crc(board: Board, bank0: &[u8], bank1: &[u8], fields: &[u8]) -> bool {
+fn crc(board: Board, bank0: &[u8], bank1: &[u8], fields: &[u8]) -> bool {
     let bank = text::decimal(fields, 1);
     if bank == 0 {
         say_crc(bank, state::front(bank0, board.bank0 as usize));
@@ -127,7 +150,7 @@ fn show_of(room: &[u8], offset: usize, count: usize) -> bool {
     true
 }
 
-pub fn show(bank0: &[u8], bank1: &[u8], fields: &[u8]) -> bool {
+fn show(bank0: &[u8], bank1: &[u8], fields: &[u8]) -> bool {
     let bank = text::decimal(text::first(fields), 1);
     let later = text::rest(fields);
     let offset = text::decimal(text::first(later), 6);
@@ -150,7 +173,7 @@ fn behind(lent: &[u8], answered: usize) -> &[u8] {
     }
 }
 
-pub fn rest(board: Board, fields: &[u8]) -> bool {
+fn rest(board: Board, fields: &[u8]) -> bool {
     if fields.len() > 0 {
         return false;
     }
@@ -162,4 +185,14 @@ pub fn rest(board: Board, fields: &[u8]) -> bool {
     ));
     say::end();
     true
+}
+
+pub fn run<'a>(board: Board, bank0: &'a [u8], bank1: &'a [u8], asked: Show, fields: &[u8]) -> bool {
+    match asked {
+        Show::Body => body(board, bank0, bank1, fields),
+        Show::Record => record(board, fields),
+        Show::Crc => crc(board, bank0, bank1, fields),
+        Show::Show => show(bank0, bank1, fields),
+        Show::Rest => rest(board, fields),
+    }
 }

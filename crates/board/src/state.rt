@@ -1,9 +1,7 @@
 // The board between two lines of its script. The rooms of its banks are large, so they are lent beside it.
 ghost use Prim.Native.Nat.{_≤_};
-use bank::layout::Bank;
 use bank::layout::MOST;
 use bank::layout::SECTOR;
-use client::host::Told;
 use client::record::Client;
 
 // Room for a bank: two sectors more than the largest has.
@@ -28,29 +26,8 @@ pub struct Board {
     pub buffer_lent: u32,
     // As many bytes as the latest answer in the buffer has.
     pub answered: usize,
-}
-
-// The board after a command, and whether the line was one.
-pub struct Ran {
-    pub board: Board,
+    // Whether the latest line was a line of the script; the first that is none ends it.
     pub known: bool,
-}
-
-pub fn carried_out(board: Board) -> Ran {
-    Ran { board, known: true }
-}
-
-// The line is no command: nothing is carried out.
-pub fn unknown(board: Board) -> Ran {
-    Ran {
-        board,
-        known: false,
-    }
-}
-
-pub struct Made {
-    pub board: Board,
-    pub told: Told,
 }
 
 // As many sectors as are lent to a client of n: a bank has no more than 491.
@@ -60,13 +37,10 @@ fn sectors(n: usize) -> u32
     if n < MOST { n as u32 } else { MOST as u32 }
 }
 
-// A new board but for its banks, which the caller fills.
-pub fn fresh(n: usize, running: Bank, major: u8, minor: u8, revision: u32) -> Made {
-    let hosted = Client::new(n, running, major, minor, revision);
-    let client = hosted.client;
-    let told = hosted.told;
-    let lent = sectors(n);
-    let board = Board {
+// A new client's board but for its banks, which the caller fills.
+pub fn fresh(client: Client) -> Board {
+    let lent = sectors(client.n);
+    Board {
         client,
         bank0: lent * SECTOR as u32,
         bank1: lent * SECTOR as u32,
@@ -77,8 +51,15 @@ pub fn fresh(n: usize, running: Bank, major: u8, minor: u8, revision: u32) -> Ma
         buffer: [0xA5u8; BUFFER_ROOM],
         buffer_lent: 14,
         answered: 0,
-    };
-    Made { board, told }
+        known: true,
+    }
+}
+
+// After a line that is none.
+pub fn unknown(board: Board) -> Board {
+    let mut b = board;
+    b.known = false;
+    b
 }
 
 // The first bytes of a room; none, should it have fewer.

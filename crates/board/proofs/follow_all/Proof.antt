@@ -1,20 +1,24 @@
 -- `board::follow_all` is safe and ends: the lines are counted up to a bound.
 -- Assumes nothing.
 use Prim.Native.Nat.{_-_}
-use mathlib.Core.Path.{_≡_}
+use mathlib.Core.Path.{_≡_, _∙_}
+use native.Mathlib.Omega.{arith}
 use lib.ListN.{length}
 use borrow.Author.Needs.{needs}
 use Rattle.board.proofs.follow_all.Statement.{statement}
 use Rattle.board.proofs.follow_all.Tie as tie
 
 abbrev Inv-loop : tie.InvT-loop
-Inv-loop bank0₀ bank1₀ chunk₀ text₀ place₀ number₀ bank0 bank1 chunk text place number =
+Inv-loop bank0₀ bank1₀ chunk₀ text₀ board₀ turn₀ number₀ bank0 bank1 chunk text board turn number =
     (length bank0 ≡ length bank0₀) × (length bank1 ≡ length bank1₀) × (length chunk ≡ length chunk₀) ×
     (length text ≡ length text₀)
 
 abbrev μ-loop : tie.MeasureT-loop
-μ-loop bank0₀ bank1₀ chunk₀ text₀ place₀ number₀ bank0 bank1 chunk text place number =
+μ-loop bank0₀ bank1₀ chunk₀ text₀ board₀ turn₀ number₀ bank0 bank1 chunk text board turn number =
     18446744073709551615 - number
+
+before-requires : tie.Need-before-requires Inv-loop μ-loop
+before-requires c κs = search needs
 
 loop-holds : tie.Need-loop-holds Inv-loop μ-loop
 loop-holds c = search needs
@@ -22,29 +26,32 @@ loop-holds c = search needs
 add-number : tie.Need-add-number Inv-loop μ-loop
 add-number c = search needs
 
-follow-next-requires : tie.Need-follow-next-requires Inv-loop μ-loop
-follow-next-requires c κs = search needs
+next-requires : tie.Need-next-requires Inv-loop μ-loop
+next-requires c κs = search needs
+
+follow-requires : tie.Need-follow-requires Inv-loop μ-loop
+follow-requires c κs = search needs
 
 same-length : tie.Need-same-length Inv-loop μ-loop
-same-length c = search needs
+same-length c = (c .before .before .before .before .before .before .follow .kept .1 .0) ∙ (c .before .before .before .before .before .before .before .before .before .before .before .before .before .before .before .before .before .before .loop .inv .0)
 
 same-length-2 : tie.Need-same-length-2 Inv-loop μ-loop
-same-length-2 c = search needs
+same-length-2 c = (c .before .before .before .before .before .before .follow .kept .1 .1 .0) ∙ (c .before .before .before .before .before .before .before .before .before .before .before .before .before .before .before .before .before .before .loop .inv .1)
 
 same-length-3 : tie.Need-same-length-3 Inv-loop μ-loop
-same-length-3 c = search needs
+same-length-3 c = (c .before .before .before .before .before .before .before .before .before .before .before .before .before .before .next .kept .0) ∙ (c .before .before .before .before .before .before .before .before .before .before .before .before .before .before .before .before .before .before .loop .inv .2)
 
 same-length-4 : tie.Need-same-length-4 Inv-loop μ-loop
-same-length-4 c = search needs
+same-length-4 c = (c .before .before .before .before .before .before .before .before .before .before .before .before .before .before .next .kept .1 .0) ∙ (c .before .before .before .before .before .before .before .before .before .before .before .before .before .before .before .before .before .before .loop .inv .3)
 
 returns : tie.Need-returns Inv-loop μ-loop
 returns c = search needs
 
 loop-less : tie.Need-loop-less Inv-loop μ-loop
-loop-less c = search needs
+loop-less c = omega (arith, (c .before .before .before .before .before .before .before .before .before .before .before .before .before .before .before .before .before .loop-test .taken))
 
 loop-again : tie.Need-loop-again Inv-loop μ-loop
-loop-again c = search needs
+loop-again c = ((c .before .before .before .before .before .before .follow .kept .1 .0) ∙ (c .before .before .before .before .before .before .before .before .before .before .before .before .before .before .before .before .before .before .loop .inv .0), (c .before .before .before .before .before .before .follow .kept .1 .1 .0) ∙ (c .before .before .before .before .before .before .before .before .before .before .before .before .before .before .before .before .before .before .loop .inv .1), (c .before .before .before .before .before .before .before .before .before .before .before .before .before .before .next .kept .0) ∙ (c .before .before .before .before .before .before .before .before .before .before .before .before .before .before .before .before .before .before .loop .inv .2), (c .before .before .before .before .before .before .before .before .before .before .before .before .before .before .next .kept .1 .0) ∙ (c .before .before .before .before .before .before .before .before .before .before .before .before .before .before .before .before .before .before .loop .inv .3))
 
 same-length-5 : tie.Need-same-length-5 Inv-loop μ-loop
 same-length-5 c = search needs
@@ -67,9 +74,11 @@ follow-all-spec =
     (tie.spec
     Inv-loop
     μ-loop
+    before-requires
     loop-holds
     add-number
-    follow-next-requires
+    next-requires
+    follow-requires
     same-length
     same-length-2
     same-length-3
