@@ -10,19 +10,17 @@ use client::record::State;
 use script::say;
 use script::text;
 
-const LARGEST_NUMBER: usize = 999_999;
-
 fn say_body(body: &[u8]) {
     say::text(b"body ");
     say::decimal(body.len());
     say::text(b" ");
-    say::quad(frame::crc::crc32(body));
+    say::quad(crc::crc32(body));
     say::end();
 }
 
 fn body<'a>(board: Board, bank0: &'a [u8], bank1: &'a [u8], fields: &[u8]) -> bool {
     let i = text::decimal(fields, 6);
-    if i > LARGEST_NUMBER {
+    if i > state::LARGEST_NUMBER {
         return false;
     }
     let client = board.client;
@@ -119,7 +117,7 @@ fn say_crc(bank: usize, bytes: &[u8]) {
     say::text(b" ");
     say::decimal(bytes.len());
     say::text(b" ");
-    say::quad(frame::crc::crc32(bytes));
+    say::quad(crc::crc32(bytes));
     say::end();
 }
 

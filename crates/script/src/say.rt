@@ -97,3 +97,17 @@ pub fn quad(value: u32) {
 pub fn decimal(value: usize) {
     io::print_decimal(STDOUT_FILENO, value as u64);
 }
+
+// The paper's number of a refusal.
+pub fn refused(number: usize) {
+    text(b"refused ");
+    decimal(number);
+}
+
+// The same of a hex text: its fault, H1 to H6, and the line.
+pub fn refused_line(fault: usize, line: usize) {
+    text(b"refused H");
+    decimal(fault);
+    text(b" line ");
+    decimal(line);
+}

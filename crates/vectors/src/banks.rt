@@ -155,7 +155,7 @@ fn say_body(body: &[u8]) {
     } else {
         say::decimal(body.len());
         say::text(b" ");
-        say::quad(frame::crc::crc32(body));
+        say::quad(crc::crc32(body));
     }
     say::end();
 }
