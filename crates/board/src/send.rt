@@ -141,6 +141,12 @@ fn with_marks(board: Board, bank0: &mut [u8], bank1: &mut [u8], datagram: &[u8])
     with_address(board, bank0, bank1, &marks[..count], datagram)
 }
 
+fn with_banks(board: Board, bank0: &mut [u8], bank1: &mut [u8], datagram: &[u8]) -> Board {
+    let lent0 = io::count(board.bank0 as isize, bank0);
+    let lent1 = io::count(board.bank1 as isize, bank1);
+    with_marks(board, &mut bank0[..lent0], &mut bank1[..lent1], datagram)
+}
+
 pub fn send(board: Board, bank0: &mut [u8], bank1: &mut [u8], fields: &[u8]) -> Board {
     let mut datagram = [0u8; 2048];
     let got = text::bytes(fields, &mut datagram);
@@ -148,12 +154,5 @@ pub fn send(board: Board, bank0: &mut [u8], bank1: &mut [u8], fields: &[u8]) -> 
         return state::unknown(board);
     }
     let count = io::count(got, &datagram);
-    let lent0 = io::count(board.bank0 as isize, bank0);
-    let lent1 = io::count(board.bank1 as isize, bank1);
-    with_marks(
-        board,
-        &mut bank0[..lent0],
-        &mut bank1[..lent1],
-        &datagram[..count],
-    )
+    with_banks(board, bank0, bank1, &datagram[..count])
 }
