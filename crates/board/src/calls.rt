@@ -1,25 +1,20 @@
 // The commands that call the client.
+use crate::send;
 use crate::state;
 use crate::state::Board;
 use crate::word::Call;
 use bank::layout::Bank;
-use client::answer::Answer;
-use client::answer::Kind;
-use client::answer::Notice;
-use client::answer::Refusal;
 use client::host::Hosted;
 use client::host::Told;
 use client::record::Client;
 use script::say;
 use script::text;
 
-const LARGEST_NUMBER: usize = 999_999;
-
 fn say_told(told: Told) {
     match told {
         Told::Done => say::text(b"done\n"),
-        Told::BadN => say::text(b"refused 3\n"),
-        Told::InVain => say::text(b"refused 4\n"),
+        Told::BadN => send::say_refused(3),
+        Told::InVain => send::say_refused(4),
     }
 }
 
@@ -83,7 +78,7 @@ fn client(board: Board, bank0: &mut [u8], bank1: &mut [u8], fields: &[u8]) -> Bo
     let later = text::rest(fields);
     let n = text::decimal(text::first(fields), 6);
     let bank = text::decimal(text::first(later), 1);
-    if n > LARGEST_NUMBER {
+    if n > state::LARGEST_NUMBER {
         return state::unknown(board);
     }
     if bank > 1 {
@@ -117,142 +112,11 @@ fn terminate(board: Board, fields: &[u8]) -> Board {
     hosted(board, client.terminate())
 }
 
-fn say_started(address: [u8; 16]) {
-    say::text(b" notice 6033 ");
-    say::bytes(&address);
-    say::end();
-}
-
-fn say_ended(result: u8, address: [u8; 16]) {
-    say::text(b" notice 6034 ");
-    say::byte(result);
-    say::text(b" ");
-    say::bytes(&address);
-    say::end();
-}
-
-fn say_notice(notice: Notice) {
-    let kind = notice.kind;
-    let address = notice.address;
-    match kind {
-        Kind::Nothing => say::end(),
-        Kind::Started => say_started(address),
-        Kind::Ended => say_ended(notice.result, address),
-    }
-}
-
-fn say_refusal(refusal: Refusal) {
-    match refusal {
-        Refusal::BadN => say::text(b"refused 3\n"),
-        Refusal::BadLength => say::text(b"refused 2\n"),
-        Refusal::Closed => say::text(b"refused 1\n"),
-    }
-}
-
-// The answer is shown as it stands in the buffer.
-fn say_answered(bytes: &[u8], notice: Notice) {
-    say::text(b"answer ");
-    say::bytes(bytes);
-    say_notice(notice);
-}
-
-fn say_answer(answer: Answer, bytes: &[u8], notice: Notice) {
-    if let Answer::Refused(refusal) = answer {
-        say_refusal(refusal);
-    } else {
-        say_answered(bytes, notice);
-    }
-}
-
-// How long the latest answer is: a datagram that is refused has none.
-fn latest(answer: Answer, count: usize, former: usize) -> usize {
-    if let Answer::Refused(_) = answer {
-        former
-    } else {
-        count
-    }
-}
-
-// The client is lent the front of the buffer's room.
-fn step(
-    board: Board,
-    bank0: &mut [u8],
-    bank1: &mut [u8],
-    marks: &[u8],
-    address: &[u8],
-    room: &mut [u8],
-    datagram: &[u8],
-) -> Board {
-    let client = board.client;
-    let count = io::count(board.buffer_lent as isize, room);
-    let stepped = client.step(bank0, bank1, marks, address, &mut room[..count], datagram);
-    let client = stepped.client;
-    let answer = stepped.answer;
-    let notice = stepped.notice;
-    say_answer(answer, state::front(room, stepped.length), notice);
-    let mut b = board;
-    b.client = client;
-    b.answered = latest(answer, stepped.length, board.answered);
-    b
-}
-
-fn with_buffer(
-    board: Board,
-    bank0: &mut [u8],
-    bank1: &mut [u8],
-    marks: &[u8],
-    address: &[u8],
-    datagram: &[u8],
-) -> Board {
-    let mut buffer = board.buffer;
-    let mut b = step(board, bank0, bank1, marks, address, &mut buffer, datagram);
-    b.buffer = buffer;
-    b
-}
-
-fn with_address(
-    board: Board,
-    bank0: &mut [u8],
-    bank1: &mut [u8],
-    marks: &[u8],
-    datagram: &[u8],
-) -> Board {
-    let lent = board.address_lent;
-    let address = board.address;
-    let count = io::count(lent as isize, &address);
-    with_buffer(board, bank0, bank1, marks, &address[..count], datagram)
-}
-
-fn with_marks(board: Board, bank0: &mut [u8], bank1: &mut [u8], datagram: &[u8]) -> Board {
-    let lent = board.marks_lent;
-    let marks = board.marks;
-    let count = io::count(lent as isize, &marks);
-    with_address(board, bank0, bank1, &marks[..count], datagram)
-}
-
-// What a setting lends of the board's own rooms is found for one room after another.
-fn send(board: Board, bank0: &mut [u8], bank1: &mut [u8], fields: &[u8]) -> Board {
-    let mut datagram = [0u8; 2048];
-    let got = text::bytes(fields, &mut datagram);
-    if got < 0 {
-        return state::unknown(board);
-    }
-    let count = io::count(got, &datagram);
-    let lent0 = io::count(board.bank0 as isize, bank0);
-    let lent1 = io::count(board.bank1 as isize, bank1);
-    with_marks(
-        board,
-        &mut bank0[..lent0],
-        &mut bank1[..lent1],
-        &datagram[..count],
-    )
-}
-
 pub fn run(board: Board, bank0: &mut [u8], bank1: &mut [u8], call: Call, fields: &[u8]) -> Board {
     match call {
         Call::Client => client(board, bank0, bank1, fields),
         Call::Initiate => initiate(board, fields),
         Call::Terminate => terminate(board, fields),
-        Call::Send => send(board, bank0, bank1, fields),
+        Call::Send => send::send(board, bank0, bank1, fields),
     }
 }

@@ -10,7 +10,7 @@ use crate::word::Word;
 use script::say;
 use script::text;
 
-fn shown<'a>(board: Board, bank0: &'a [u8], bank1: &'a [u8], show: Show, fields: &[u8]) -> Board {
+fn shown(board: Board, bank0: &mut [u8], bank1: &mut [u8], show: Show, fields: &[u8]) -> Board {
     if shows::run(board, bank0, bank1, show, fields) {
         board
     } else {

@@ -1,6 +1,7 @@
 // A board on the bench, driven by a script on standard input. docs/BOARD.md has the script's form.
 mod calls;
 mod command;
+mod send;
 mod settings;
 mod shows;
 mod state;

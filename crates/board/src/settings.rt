@@ -6,14 +6,6 @@ use crate::word::Setting;
 use script::say;
 use script::text;
 
-// The numbers behind a command's word.
-fn say_bank(bank: usize, number: usize) {
-    say::decimal(bank);
-    say::text(b" ");
-    say::decimal(number);
-    say::end();
-}
-
 fn lend_bank(board: Board, bank: usize, count: u32) -> Board {
     let mut b = board;
     if bank == 0 {
@@ -33,8 +25,10 @@ fn bank(board: Board, fields: &[u8]) -> Board {
     if count > state::BANK_ROOM {
         return state::unknown(board);
     }
-    say::text(b"bank ");
-    say_bank(bank, count);
+    say::text(b"bank");
+    say::field(bank);
+    say::field(count);
+    say::end();
     lend_bank(board, bank, count as u32)
 }
 
@@ -47,8 +41,8 @@ fn fill(bank0: &mut [u8], bank1: &mut [u8], fields: &[u8]) -> bool {
     if byte > 255 {
         return false;
     }
-    say::text(b"fill ");
-    say::decimal(bank);
+    say::text(b"fill");
+    say::field(bank);
     say::text(b" ");
     say::byte(byte as u8);
     say::end();
@@ -69,12 +63,10 @@ fn put_in(room: &mut [u8], bank: usize, offset: usize, digits: &[u8]) -> bool {
     if got < 0 {
         return false;
     }
-    say::text(b"put ");
-    say::decimal(bank);
-    say::text(b" ");
-    say::decimal(offset);
-    say::text(b" ");
-    say::decimal(io::count(got, room));
+    say::text(b"put");
+    say::field(bank);
+    say::field(offset);
+    say::field(io::count(got, room));
     say::end();
     true
 }
@@ -97,8 +89,8 @@ fn marks(board: Board, fields: &[u8]) -> Board {
     if count > state::MARKS_ROOM {
         return state::unknown(board);
     }
-    say::text(b"marks ");
-    say::decimal(count);
+    say::text(b"marks");
+    say::field(count);
     say::end();
     let mut b = board;
     b.marks = [0u8; state::MARKS_ROOM];
@@ -127,8 +119,8 @@ fn mark(board: Board, fields: &[u8]) -> Board {
     if byte > 255 {
         return state::unknown(board);
     }
-    say::text(b"mark ");
-    say::decimal(sector);
+    say::text(b"mark");
+    say::field(sector);
     say::text(b" ");
     say::byte(byte as u8);
     say::end();
@@ -142,8 +134,8 @@ fn address(board: Board, fields: &[u8]) -> Board {
         return state::unknown(board);
     }
     let count = io::count(got, &address);
-    say::text(b"address ");
-    say::decimal(count);
+    say::text(b"address");
+    say::field(count);
     say::end();
     let mut b = board;
     b.address = address;
@@ -160,8 +152,8 @@ fn buffer(board: Board, fields: &[u8]) -> Board {
     if byte > 255 {
         return state::unknown(board);
     }
-    say::text(b"buffer ");
-    say::decimal(count);
+    say::text(b"buffer");
+    say::field(count);
     say::end();
     let mut b = board;
     b.buffer = [byte as u8; state::BUFFER_ROOM];

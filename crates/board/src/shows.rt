@@ -10,25 +10,24 @@ use client::record::State;
 use script::say;
 use script::text;
 
-const LARGEST_NUMBER: usize = 999_999;
-
-fn say_body(body: &[u8]) {
-    say::text(b"body ");
-    say::decimal(body.len());
+// How many bytes these are, and their CRC-32.
+fn say_sum(bytes: &[u8]) {
+    say::field(bytes.len());
     say::text(b" ");
-    say::quad(crc::crc32(body));
+    say::quad(crc::crc32(bytes));
     say::end();
 }
 
 fn body<'a>(board: Board, bank0: &'a [u8], bank1: &'a [u8], fields: &[u8]) -> bool {
     let i = text::decimal(fields, 6);
-    if i > LARGEST_NUMBER {
+    if i > state::LARGEST_NUMBER {
         return false;
     }
     let client = board.client;
     let lent0 = state::front(bank0, board.bank0 as usize);
     let lent1 = state::front(bank1, board.bank1 as usize);
-    say_body(client.body(lent0, lent1, i));
+    say::text(b"body");
+    say_sum(client.body(lent0, lent1, i));
     true
 }
 
@@ -43,24 +42,20 @@ fn say_state(state: State) {
 
 fn say_latest(latest: Latest) {
     match latest {
-        Latest::Nothing => say::text(b" nothing "),
-        Latest::Good => say::text(b" good "),
-        Latest::Otherwise => say::text(b" otherwise "),
+        Latest::Nothing => say::text(b" nothing"),
+        Latest::Good => say::text(b" good"),
+        Latest::Otherwise => say::text(b" otherwise"),
     }
 }
 
 fn say_bank(bank: Bank) {
-    say::text(b" ");
-    say::decimal(bank::layout::bank_number(bank) as usize);
+    say::field(bank::layout::bank_number(bank) as usize);
 }
 
 fn say_version(major: u8, minor: u8, revision: u32) {
-    say::decimal(major as usize);
-    say::text(b" ");
-    say::decimal(minor as usize);
-    say::text(b" ");
-    say::decimal(revision as usize);
-    say::text(b" ");
+    say::field(major as usize);
+    say::field(minor as usize);
+    say::field(revision as usize);
 }
 
 // One sector more of the list, where it was received; whether the list now has one.
@@ -94,13 +89,14 @@ fn say_record(client: Client) {
     let state = client.state;
     let latest = client.latest;
     let received = client.received;
-    say::text(b"record ");
-    say::decimal(client.n);
+    say::text(b"record");
+    say::field(client.n);
     say_bank(running);
     say_bank(next);
     say_state(state);
     say_latest(latest);
     say_version(client.major, client.minor, client.revision);
+    say::text(b" ");
     say_received(received);
 }
 
@@ -114,13 +110,9 @@ fn record(board: Board, fields: &[u8]) -> bool {
 }
 
 fn say_crc(bank: usize, bytes: &[u8]) {
-    say::text(b"crc ");
-    say::decimal(bank);
-    say::text(b" ");
-    say::decimal(bytes.len());
-    say::text(b" ");
-    say::quad(crc::crc32(bytes));
-    say::end();
+    say::text(b"crc");
+    say::field(bank);
+    say_sum(bytes);
 }
 
 fn crc(board: Board, bank0: &[u8], bank1: &[u8], fields: &[u8]) -> bool {

@@ -98,6 +98,12 @@ pub fn decimal(value: usize) {
     io::print_decimal(STDOUT_FILENO, value as u64);
 }
 
+// One field more.
+pub fn field(number: usize) {
+    text(b" ");
+    decimal(number);
+}
+
 // The paper's number of a refusal.
 pub fn refused(number: usize) {
     text(b"refused ");
