@@ -1,0 +1,5 @@
+pub mod Bytes
+pub mod Demand3
+pub mod Lending
+pub mod Sessions
+pub mod Steps

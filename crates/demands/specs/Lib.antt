@@ -1,0 +1,3 @@
+pub mod Board
+pub mod Demand3
+pub mod Session
