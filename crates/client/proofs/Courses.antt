@@ -38,7 +38,7 @@ use Rattle.client.specs.Command.{askedOf}
 use Rattle.client.specs.Plan.{lentGood, valuesGood, planAsked, planOf}
 use Rattle.client.specs.Perform.{fitOf, Accepted, storeResult, sectorCrc, Done, done, storeOf, checkedOf, finishOf, servedOf}
 use Rattle.client.specs.Host.{isClosed}
-use Rattle.client.specs.Record.{noneReceived, opened, closed, begun, marked, ended}
+use Rattle.client.specs.Record.{Stays, noneReceived, opened, closed, begun, marked, ended}
 use Rattle.client.specs.Step.{noticeOf, Carried, carriedOf, saidOf, targetOf, planned, stepOf}
 use Rattle.client.proofs.Planning.{values-low, values-high}
 use Rattle.client.proofs.Saying.{say-refused, say-error, say-response, say-bank, say-version, say-written}
@@ -154,13 +154,6 @@ module _ (c : Client) (target address buffer datagram : List ℕ) where
       (λ _. length-sweep target (c .n) (c .received))
 
 -- ---- what no step changes
-
-pub record Stays (before after : Client) : Type 0 where
-  pub sectors : after .n ≡ before .n
-  pub runs : after .running ≡ before .running
-  pub major : after .major ≡ before .major
-  pub minor : after .minor ≡ before .minor
-  pub revision : after .revision ≡ before .revision
 
 pub stays-same : (c : Client) → Stays c c
 stays-same c = record { sectors = refl; runs = refl; major = refl; minor = refl; revision = refl }
@@ -278,7 +271,7 @@ module _ (c : Client) (a0 a1 b0 b1 marks address buffer datagram : List ℕ) (ze
   same-plan : planned c a0 a1 marks address buffer datagram ≡ planned c b0 b1 marks address buffer datagram
   same-plan = ap₂ (λ (x y : ℕ). planOf c x y marks (length address) (length buffer) datagram) zero one
 
-  same-length : length (targetOf (c .running) a0 a1) ≡ length (targetOf (c .running) b0 b1)
+  pub same-length : length (targetOf (c .running) a0 a1) ≡ length (targetOf (c .running) b0 b1)
   same-length = by (c .running)
     where
       by : (running : Bank) → length (targetOf running a0 a1) ≡ length (targetOf running b0 b1)

@@ -26,13 +26,13 @@ use Rattle.client.specs.Step.{Carried, targetOf, stepOf}
 use Rattle.client.proofs.Courses.{Match, same, either, written-long, step-alike, step-told, step-said, step-fits}
 use Rattle.client.proofs.Courses.{Alike as AlikeSteps}
 use Rattle.client.proofs.Leading.{Finishing}
-use Rattle.demands.specs.Board.{Board, board, Call, Input, Initiate, Terminate, Datagram, Outcome, said, after, outcomes, runningBank, targetBank, sectorsIn, answerNumber, hostOutcome, callOutcome, called, stepMachine}
+use Rattle.demands.specs.Board.{Board, board, Call, Input, Initiate, Terminate, Datagram, Outcome, said, after, outcomes, runningBank, targetBank, sectorsIn, lentTarget, answerNumber, hostOutcome, callOutcome, called, stepMachine}
 use Rattle.demands.specs.Session.{isEnd, isStored, allBlank, exchanged, noted, shown}
 use Rattle.demands.specs.Demand3.{AlikeBytes, same as same-bytes, either as either-bytes, Alike, AllAlike, none, more, imageOf, Ended, Same, Pair, Meets3}
 use Rattle.demands.proofs.Bytes.{written-begin, written-end, written-stored}
 use Rattle.demands.proofs.Lending.{front-alike, lent-alike}
-use Rattle.demands.proofs.Sessions.{Session, Shows, lentOf, said-is, lent-shows, step-shows, step-closes}
-use Rattle.demands.proofs.Steps.{machine-stays, running-kept, zero-kept, one-kept}
+use Rattle.demands.proofs.Sessions.{Shows, said-is, lent-shows, step-shows, step-closes}
+use Rattle.demands.proofs.Steps.{machine-stays, zero-kept, one-kept, run-stays, run-running}
 
 -- ---- two answers that match
 
@@ -112,7 +112,7 @@ module _ (c : Client) (a0 a1 b0 b1 image : List ℕ) where
   abbrev b : Board
   b = board c b0 b1
 
-  other : (call : Call) → Twins a b image → Finishing c (length (lentOf a call)) → Finishing c (length (lentOf b call))
+  other : (call : Call) → Twins a b image → Finishing c (length (lentTarget a call)) → Finishing c (length (lentTarget b call))
   other call t f =
       record { writing = f .writing; good = f .good; whole = sym (lent-alike (c .running) a0 a1 b0 b1 call (t .zero) (t .one)) ∙ f .whole }
 
@@ -169,14 +169,6 @@ run-alike : (is : List Input) (a b : Board) (image : List ℕ) → Twins a b ima
 run-alike [] a b image t = none
 run-alike (i ∷ is) a b image t = more (twins-step a b image i t .alike) (run-alike is _ _ _ (twins-next a b image i t))
 
-pub run-kept : (is : List Input) (b : Board) → runningBank (after stepMachine b is) ≡ runningBank b
-run-kept [] b = refl
-run-kept (i ∷ is) b = run-kept is (stepMachine b i .board) ∙ running-kept b i
-
-pub run-sectors : (is : List Input) (b : Board) → after stepMachine b is .client .n ≡ b .client .n
-run-sectors [] b = refl
-run-sectors (i ∷ is) b = run-sectors is (stepMachine b i .board) ∙ machine-stays b i .sectors
-
 run-twins : (n : ℕ) (is : List Input) (a b : Board) (image : List ℕ) → a .client .n ≡ n → Twins a b image
     → Twins (after stepMachine a is) (after stepMachine b is) (shown n image is (outcomes stepMachine a is))
 run-twins n [] a b image e t = t
@@ -198,11 +190,11 @@ demand3 a b p is =
     let u = run-twins n is a b (allBlank n) refl t in
     record {
       alike = run-alike is a b (allBlank n) t;
-      first-kept = run-kept is a;
-      second-kept = run-kept is b;
+      first-kept = run-running is a;
+      second-kept = run-running is b;
       ended = λ i e.
           let f = sym (twins-step _ _ _ i u .end-alike) ∙ e in
-          let na : after stepMachine a is .client .n ≡ n = run-sectors is a in
+          let na : after stepMachine a is .client .n ≡ n = run-stays is a .sectors in
           let nb : after stepMachine b is .client .n ≡ n = ap (λ (c : Client). c .n) (sym (u .client)) ∙ na in
           record {
             other = f;

@@ -36,7 +36,7 @@ use Rattle.client.specs.Step.{Carried, targetOf, stepOf}
 use Rattle.client.proofs.Courses.{Course, still, begins, stores, ends, not-write, fits-stored, step-course, step-length, step-stays, step-told, step-said, step-fits}
 use Rattle.client.proofs.Leading.{Finishing}
 use Rattle.client.proofs.Planning.{values-low, values-high}
-use Rattle.demands.specs.Board.{Board, board, Call, Input, Initiate, Terminate, Datagram, Outcome, said, targetBank, sectorsIn, hostOutcome, callOutcome, called, stepMachine}
+use Rattle.demands.specs.Board.{Board, board, Call, Input, Initiate, Terminate, Datagram, Outcome, said, targetBank, sectorsIn, lentTarget, hostOutcome, callOutcome, called, stepMachine}
 use Rattle.demands.specs.Session.{isBegin, isEnd, isStored, packetIn, allBlank, exchanged, noted}
 use Rattle.demands.proofs.Bytes.{quiet-begin, quiet-end, quiet-stored, response-begin, response-start-end, ended-begin, ended-stored, written-begin, written-end, written-stored}
 use Rattle.demands.proofs.Lending.{lentTo, front-of, front-short, target-lent, target-back}
@@ -53,7 +53,7 @@ Shows b image = b .client .state ≡ state.Write → Session b image
 -- ---- the laws of flash, as a session uses them
 
 -- a bank whose sector becomes the bytes and 0xFF behind them
-written-with : (bank : List ℕ) (k : ℕ) (bytes : List ℕ) → FitsAt bank k bytes → writtenAt bank k bytes ≡ withSector bank k (paddedOf bytes)
+pub written-with : (bank : List ℕ) (k : ℕ) (bytes : List ℕ) → FitsAt bank k bytes → writtenAt bank k bytes ≡ withSector bank k (paddedOf bytes)
 written-with bank k bytes f =
     at-has (λ (sector : List ℕ). written sector bytes) k bank (has (length bank) k (f .inside))
     ∙ ap (withSector bank k)
@@ -85,10 +85,7 @@ make b n received part rest image en er et l good marked shows =
 -- ---- a datagram
 
 module _ (b : Board) (call : Call) where
-  -- what is lent of the target, what lies behind it, what came of the call
-  abbrev pub lentOf : List ℕ
-  lentOf = targetOf (b .client .running) (take (call .lent0) (b .bank0)) (take (call .lent1) (b .bank1))
-
+  -- what lies behind what is lent of the target, what came of the call
   abbrev behind : List ℕ
   behind = drop (lentTo (b .client .running) call) (targetBank b)
 
@@ -112,14 +109,14 @@ module _ (b : Board) (call : Call) where
       target-back (b .client .running) (b .bank0) (b .bank1) call (r .target) (next .client .running)
       (step-stays (b .client) _ _ (call .marks) (call .address) (call .buffer) (call .datagram) .runs)
 
-  target-kept : r .target ≡ lentOf → targetBank next ≡ targetBank b
+  target-kept : r .target ≡ (lentTarget b call) → targetBank next ≡ targetBank b
   target-kept e =
       target-next
       ∙ ap (λ (l : List ℕ). l ++ behind) (e ∙ target-lent (b .client .running) (b .bank0) (b .bank1) call)
       ∙ take-append-drop (lentTo (b .client .running) call) (targetBank b)
 
   -- a target lent whole is its n sectors
-  lent-whole : length lentOf ≡ b .client .n * sectorSize → lentOf ≡ sectorsIn (b .client .n) b
+  lent-whole : length (lentTarget b call) ≡ b .client .n * sectorSize → (lentTarget b call) ≡ sectorsIn (b .client .n) b
   lent-whole e =
       let t = target-lent (b .client .running) (b .bank0) (b .bank1) call in
       t
@@ -127,7 +124,7 @@ module _ (b : Board) (call : Call) where
       ∙ ap (λ (i : ℕ). take i (targetBank b)) (sym (ap length t) ∙ e)
 
   -- what the end would make of what is lent
-  pub lent-shows : (image : List ℕ) → Shows b image → Finishing (b .client) (length lentOf) → sweptOf lentOf (b .client .n) (b .client .received) ≡ image
+  pub lent-shows : (image : List ℕ) → Shows b image → Finishing (b .client) (length (lentTarget b call)) → sweptOf (lentTarget b call) (b .client .n) (b .client .received) ≡ image
   lent-shows image shows h =
       ap (λ (l : List ℕ). sweptOf l (b .client .n) (b .client .received)) (lent-whole (h .whole)) ∙ shows (h .writing) .shows
 
@@ -139,7 +136,7 @@ module _ (b : Board) (call : Call) where
     now = exchanged (b .client .n) image (call .datagram) (answerBytes (r .answer))
 
     -- the bank as it was, the record's marks as they were
-    quietly : exchanged (b .client .n) image (call .datagram) (answerBytes (r .answer)) ≡ image → r .target ≡ lentOf
+    quietly : exchanged (b .client .n) image (call .datagram) (answerBytes (r .answer)) ≡ image → r .target ≡ (lentTarget b call)
         → (r .client .state ≡ state.Write → (b .client .state ≡ state.Write) × (r .client .received ≡ b .client .received))
         → Shows next now
     quietly e t w s =
@@ -150,41 +147,41 @@ module _ (b : Board) (call : Call) where
         (length-take-le (n * sectorSize) (targetBank b) (v .room))
         (v .good) (v .marked) (v .shows ∙ sym e)
 
-    keeps : Course (b .client) lentOf (call .datagram) r → Shows next now
+    keeps : Course (b .client) (lentTarget b call) (call .datagram) r → Shows next now
     keeps (still q t w) s = quietly (rw (quiet-begin (r .answer) q, quiet-stored (r .answer) q)) t w s
     keeps (begins a t m h) s =
         let n : ℕ = b .client .n in
         let e : now ≡ allBlank n = rw (a, response-begin) in
-        make next n noneReceived lentOf behind now stays-n m (target-next ∙ ap (λ (l : List ℕ). l ++ behind) t) (h .whole) (h .good) length-none
-        (swept-blank lentOf n noneReceived (h .whole) (good-high n (h .good)) none-received ∙ sym e)
+        make next n noneReceived (lentTarget b call) behind now stays-n m (target-next ∙ ap (λ (l : List ℕ). l ++ behind) t) (h .whole) (h .good) length-none
+        (swept-blank (lentTarget b call) n noneReceived (h .whole) (good-high n (h .good)) none-received ∙ sym e)
     keeps (stores sector m write h v a t k) s =
         let n : ℕ = b .client .n in
         let bytes : List ℕ = writtenOf (call .datagram) m in
         let o : Session b image = shows (h .writing) in
-        let f : FitsAt lentOf sector bytes = fits-stored (b .client) lentOf (call .datagram) sector m h in
-        let p : sweptOf lentOf n (b .client .received) ≡ image =
+        let f : FitsAt (lentTarget b call) sector bytes = fits-stored (b .client) (lentTarget b call) (call .datagram) sector m h in
+        let p : sweptOf (lentTarget b call) n (b .client .received) ≡ image =
         lent-shows image shows (record { writing = h .writing; good = h .good; whole = h .whole }) in
         let g : FitsAt image sector bytes =
-        record { inside = has-still (sym (ap length p) ∙ length-sweep lentOf n (b .client .received)) (f .inside); short = f .short; words = f .words } in
+        record { inside = has-still (sym (ap length p) ∙ length-sweep (lentTarget b call) n (b .client .received)) (f .inside); short = f .short; words = f .words } in
         let low = values-low n sector m (h .values) in
         let high = values-high n sector m (h .values) in
         let most = good-high n (h .good) in
         let marked = o .marked in
         let e : now ≡ withSector image sector (paddedOf bytes) =
         rw (a, written-begin sector 0x06 write (crcOf (paddedOf bytes)), written-stored sector write (crcOf (paddedOf bytes)) v, h .reads) in
-        make next n (set (b .client .received) (sector - 1) true) (writtenAt lentOf sector bytes) behind now stays-n (ap (λ (x : Client). x .received) k)
+        make next n (set (b .client .received) (sector - 1) true) (writtenAt (lentTarget b call) sector bytes) behind now stays-n (ap (λ (x : Client). x .received) k)
         (target-next ∙ ap (λ (l : List ℕ). l ++ behind) t)
-        (length-written lentOf sector bytes ∙ h .whole)
+        (length-written (lentTarget b call) sector bytes ∙ h .whole)
         (h .good)
         (length-set (b .client .received) (sector - 1) true ∙ marked)
-        (swept-written lentOf n sector bytes (b .client .received) (h .whole) most f (omega arith)
+        (swept-written (lentTarget b call) n sector bytes (b .client .received) (h .whole) most f (omega arith)
         ∙ ap (λ (l : List ℕ). writtenAt l sector bytes) p
         ∙ written-with image sector bytes g
         ∙ sym e)
     keeps (ends result u a t x h) s = absurd (not-write state.Control refl (sym x ∙ s))
 
     -- the end leaves what the session showed
-    closes : Course (b .client) lentOf (call .datagram) r → isEnd (answerBytes (r .answer)) ≡ true → sectorsIn (b .client .n) next ≡ image
+    closes : Course (b .client) (lentTarget b call) (call .datagram) r → isEnd (answerBytes (r .answer)) ≡ true → sectorsIn (b .client .n) next ≡ image
     closes (still q t w) e = absurd (false≢true (sym (quiet-end (r .answer) q) ∙ e))
     closes (begins a t m h) e = absurd (false≢true (sym (ap (λ (x : Answer). isEnd (answerBytes x)) a ∙ response-start-end) ∙ e))
     closes (stores sector m write h v a t k) e =
@@ -192,7 +189,7 @@ module _ (b : Board) (call : Call) where
     closes (ends result u a t x h) e =
         let n : ℕ = b .client .n in
         let p : r .target ≡ image = t ∙ lent-shows image shows h in
-        let l : length (r .target) ≡ n * sectorSize = ap length t ∙ length-sweep lentOf n (b .client .received) ∙ h .whole in
+        let l : length (r .target) ≡ n * sectorSize = ap length t ∙ length-sweep (lentTarget b call) n (b .client .received) ∙ h .whole in
         ap (take (n * sectorSize)) target-next ∙ take-at (r .target) behind (n * sectorSize) l ∙ p
 
 -- ---- each input

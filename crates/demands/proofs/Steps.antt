@@ -2,7 +2,7 @@
 -- Assumes nothing.
 use mathlib.Core.Path.{_≡_, refl, sym, ap, ap₂, _∙_}
 use mathlib.Core.Bool.{Bool, not}
-use mathlib.Core.List.{List}
+use mathlib.Core.List.{List, [], _∷_}
 use Prim.Native.Nat.{ℕ}
 use lib.ListN.{length, take}
 use Rattle.buffer.proofs.Bools.{split}
@@ -12,8 +12,9 @@ use Rattle.client.specs.declared.host.Hosted.{Hosted}
 use Rattle.client.specs.declared.record.Client.{Client}
 use Rattle.client.specs.Body.{chosen}
 use Rattle.client.specs.Host.{isClosed, initiateOf, terminateOf}
-use Rattle.client.proofs.Courses.{Stays, stays-same, step-stays, step-length}
-use Rattle.demands.specs.Board.{Board, board, Call, Input, Initiate, Terminate, Datagram, Outcome, runningBank, called, stepMachine}
+use Rattle.client.specs.Record.{Stays}
+use Rattle.client.proofs.Courses.{stays-same, step-stays, step-length}
+use Rattle.demands.specs.Board.{Board, board, Call, Input, Initiate, Terminate, Datagram, Outcome, after, runningBank, called, stepMachine}
 use Rattle.demands.proofs.Lending.{running-back, zero-long, one-long}
 
 initiate-stays : (c : Client) → Stays c (initiateOf c .client)
@@ -35,7 +36,7 @@ machine-stays b Initiate = initiate-stays (b .client)
 machine-stays b Terminate = terminate-stays (b .client)
 machine-stays b (Datagram call) = step-stays (b .client) _ _ (call .marks) (call .address) (call .buffer) (call .datagram)
 
-pub running-kept : (b : Board) (i : Input) → runningBank (stepMachine b i .board) ≡ runningBank b
+running-kept : (b : Board) (i : Input) → runningBank (stepMachine b i .board) ≡ runningBank b
 running-kept b Initiate = ap (λ (x : Bank). chosen x (b .bank0) (b .bank1)) (machine-stays b Initiate .runs)
 running-kept b Terminate = ap (λ (x : Bank). chosen x (b .bank0) (b .bank1)) (machine-stays b Terminate .runs)
 running-kept b (Datagram call) =
@@ -54,3 +55,23 @@ one-kept b Terminate = refl
 one-kept b (Datagram call) =
     one-long (b .client .running) (b .bank0) (b .bank1) call (called b call .target)
     (step-length (b .client) _ _ (call .marks) (call .address) (call .buffer) (call .datagram))
+
+-- ---- over any list of inputs
+
+stays-on : (a b c : Client) → Stays a b → Stays b c → Stays a c
+stays-on a b c s t =
+    record {
+      sectors = t .sectors ∙ s .sectors;
+      runs = t .runs ∙ s .runs;
+      major = t .major ∙ s .major;
+      minor = t .minor ∙ s .minor;
+      revision = t .revision ∙ s .revision;
+    }
+
+pub run-stays : (is : List Input) (b : Board) → Stays (b .client) (after stepMachine b is .client)
+run-stays [] b = stays-same (b .client)
+run-stays (i ∷ is) b = stays-on _ _ _ (machine-stays b i) (run-stays is (stepMachine b i .board))
+
+pub run-running : (is : List Input) (b : Board) → runningBank (after stepMachine b is) ≡ runningBank b
+run-running [] b = refl
+run-running (i ∷ is) b = run-running is (stepMachine b i .board) ∙ running-kept b i

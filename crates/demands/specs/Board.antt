@@ -96,6 +96,10 @@ abbrev pub hostOutcome : Board → Hosted → Outcome
 hostOutcome b h =
     record { board = board (h .client) (b .bank0) (b .bank1); number = toldNumber (h .told); told = 0; buffer = []; notice = noNotice }
 
+-- what is lent of the target
+abbrev pub lentTarget : Board → Call → List ℕ
+lentTarget b call = targetOf (b .client .running) (take (call .lent0) (b .bank0)) (take (call .lent1) (b .bank1))
+
 abbrev pub callOutcome : Board → Call → Carried → Outcome
 callOutcome b call r =
     record {
