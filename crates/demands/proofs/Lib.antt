@@ -1,6 +1,9 @@
+pub mod Asking
 pub mod Bytes
 pub mod Demand1
+pub mod Demand2
 pub mod Demand3
 pub mod Lending
+pub mod Rows
 pub mod Sessions
 pub mod Steps
