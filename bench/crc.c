@@ -5,7 +5,7 @@
 #include <zlib.h>
 #include "now.h"
 
-uint32_t frame_crc32(const uint8_t *bytes, size_t n);
+uint32_t crc_crc32(const uint8_t *bytes, size_t n);
 
 static uint32_t table[256];
 
@@ -26,7 +26,7 @@ static uint32_t by_table(const uint8_t *bytes, size_t n) {
 static uint32_t by_zlib(const uint8_t *bytes, size_t n) { return crc32(0, bytes, n); }
 
 typedef uint32_t crc_of(const uint8_t *, size_t);
-static crc_of *const ways[3] = {frame_crc32, by_zlib, by_table};
+static crc_of *const ways[3] = {crc_crc32, by_zlib, by_table};
 
 int main(void) {
     static const size_t sizes[] = {16, 64, 128, 256, 512, 1024, 4096, 16384, 65536, 251392};

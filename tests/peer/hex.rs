@@ -1,4 +1,4 @@
-//! Bytes as text: two upper-case digits each, and `-` for none.
+//! Bytes as text: two digits each, and `-` for none. They are read in either case and written in upper case.
 
 pub fn text(bytes: &[u8]) -> String {
     if bytes.is_empty() {
@@ -19,8 +19,7 @@ pub fn bytes(text: &str) -> Option<Vec<u8>> {
 
 /// A number of exactly so many digits.
 pub fn number(text: &str, digits: usize) -> Option<u32> {
-    let is_digit = |c: char| c.is_ascii_digit() || ('A'..='F').contains(&c);
-    if text.len() != digits || !text.chars().all(is_digit) {
+    if text.len() != digits || !text.bytes().all(|b| b.is_ascii_hexdigit()) {
         return None;
     }
     u32::from_str_radix(text, 16).ok()

@@ -1,7 +1,7 @@
 //! The form of the request lines and of their answers, for the peer and for the program `vectors` alike.
 //!
-//! A line is a word and its fields, with one blank between two, and ends in LF. Hex digits are upper case; a string of bytes
-//! is two digits for each byte, or `-` for none. NUMBER is decimal, one to six digits.
+//! A line is a word and its fields, with one blank between two, and ends in LF. Hex digits are read in either case and
+//! written in upper case; a string of bytes is two digits for each byte, or `-` for none. NUMBER is decimal, one to six digits.
 //!
 //!     request                            answer
 //!     crc BYTES                          crc XXXXXXXX
@@ -27,11 +27,11 @@
 //! A bank has LENGTH bytes, 0xFF but where a later piece says another: OFFSET:BYTES, or OFFSET~NUMBER for so many bytes 0, 1, .. 250,
 //! 0, 1, .. from a decimal offset on. No piece goes past the bank's end; there may be none.
 //!
-//! A run has at most 300,000 bytes, a buffer at most 600, a bank at most 252,416. Any other line, and one of more than 4,095 characters, is
+//! A run has at most 300,000 bytes, a buffer at most 600, a bank at most 252,416. Any other line, and one of more than 4,096 characters, is
 //! answered by `?`.
 use crate::{bank, crc, frame, hex};
 
-const LONGEST_LINE: usize = 4_095;
+const LONGEST_LINE: usize = 4_096;
 const LONGEST_RUN: usize = 300_000;
 const LARGEST_BUFFER: usize = 600;
 const LONGEST_BANK: usize = 252_416;

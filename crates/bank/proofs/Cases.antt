@@ -3,7 +3,7 @@
 use Prim.Native.Nat.{ℕ, _/_, _≤_, _<_}
 use native.Mathlib.Omega.{arith}
 use mathlib.Core.Path.{_≡_, refl, sym, ap, _∙_}
-use mathlib.Core.Bool.{Bool, true, false, _&&_, cond}
+use mathlib.Core.Bool.{Bool, true, false, cond}
 use mathlib.Core.List.{List, []}
 use lib.ListN.{length}
 use borrow.Author.Tests.{lt-ltb, le-ltb}
@@ -13,47 +13,38 @@ use Rattle.bank.specs.declared.check.Verdict.the-variants.{Refused, Soun
 use Rattle.bank.specs.Said.{number, result, verdictSaid}
 use Rattle.bank.specs.Table.{countOf, entryAt}
 use Rattle.bank.specs.Layout.{wholeLength}
-use Rattle.bank.specs.Sound.{headerGood, tableGood, laidOutGood, contentsGood, bodiesGood, blankGood, filledGood, soundOf, verdictOf, stretchBytes, bodyOf}
-use Rattle.buffer.proofs.Bools.{and-left, and-false}
+use Rattle.bank.specs.Sound.{headerGood, tableGood, listedGood, soundOf, verdictOf, stretchBytes, bodyOf}
+use Rattle.buffer.proofs.Bools.{and-false}
 use Rattle.bank.proofs.Layouts.{whole-good, good-low}
+use Rattle.bank.proofs.Tables.{Parts, parts}
 
 -- a bank has at least one sector
 pub long : (n : ℕ) → wholeLength n ≡ true → 512 ≤ n
 long n e = let h : 1 ≤ n / 512 = good-low (n / 512) (whole-good n e) in omega arith
 
 module _ (b : List ℕ) where
-  pub contents-header : headerGood b ≡ false → false ≡ contentsGood b
-  unfolding contentsGood
-  contents-header h = simp h
-
-  pub contents-table : headerGood b ≡ true → tableGood b ≡ false → false ≡ contentsGood b
-  unfolding contentsGood
-  contents-table h t = simp (h, t)
-
-  pub contents-laid : headerGood b ≡ true → tableGood b ≡ true → laidOutGood b ≡ contentsGood b
-  unfolding contentsGood
-  contents-laid h t = simp (h, t)
-
   pub check-refused : wholeLength (length b) ≡ false → Refused ≡ verdictOf b
   unfolding verdictOf
   check-refused l = simp l
 
   module _ (l : wholeLength (length b) ≡ true) where
-    pub check-contents : contentsGood b ≡ false → Unsound ≡ verdictOf b
-    unfolding verdictOf soundOf filledGood
-    check-contents p = simp (l, p)
+    pub check-header : headerGood b ≡ false → Unsound ≡ verdictOf b
+    unfolding verdictOf soundOf
+    check-header p = simp (l, p)
 
-    pub check-bodies : contentsGood b ≡ true → bodiesGood b ≡ false → Unsound ≡ verdictOf b
-    unfolding verdictOf soundOf filledGood
-    check-bodies p q = simp (l, p, q)
+    module _ (p : headerGood b ≡ true) where
+      pub check-table : tableGood b ≡ false → Unsound ≡ verdictOf b
+      unfolding verdictOf soundOf
+      check-table q = simp (l, p, q)
 
-    pub check-blank : contentsGood b ≡ true → bodiesGood b ≡ true → blankGood b ≡ false → Unsound ≡ verdictOf b
-    unfolding verdictOf soundOf filledGood
-    check-blank p q r = simp (l, p, q, r)
+      module _ (q : tableGood b ≡ true) where
+        pub check-listed : listedGood b ≡ false → Unsound ≡ verdictOf b
+        unfolding verdictOf soundOf
+        check-listed r = simp (l, p, q, r)
 
-    pub check-sound : contentsGood b ≡ true → bodiesGood b ≡ true → blankGood b ≡ true → Sound ≡ verdictOf b
-    unfolding verdictOf soundOf filledGood
-    check-sound p q r = simp (l, p, q, r)
+        pub check-sound : listedGood b ≡ true → Sound ≡ verdictOf b
+        unfolding verdictOf soundOf
+        check-sound r = simp (l, p, q, r)
 
 by-sound : (l s : Bool) → Sound ≡ cond l (cond s Sound Unsound) Refused → (l ≡ true) × (s ≡ true)
 by-sound true true e = (refl, refl)
@@ -76,9 +67,8 @@ module _ (b : List ℕ) (v : Verdict) (is : v ≡ verdictOf b) where
   unfolding verdictOf
   sound-is e = by-sound (wholeLength (length b)) (soundOf b) (sym e ∙ is)
 
-  pub sound-contents : v ≡ Sound → contentsGood b ≡ true
-  unfolding soundOf filledGood
-  sound-contents e = and-left (contentsGood b) (bodiesGood b) (and-left (contentsGood b && bodiesGood b) (blankGood b) (sound-is e .1))
+  pub sound-parts : v ≡ Sound → Parts b
+  sound-parts e = parts b (sound-is e .1)
 
   module _ (i : ℕ) where
     pub body-refused : v ≡ Refused → [] ≡ bodyOf b i

@@ -7,7 +7,7 @@ use Prim.Native.Nat.{ℕ, _+_, _-_}
 use lib.ListN.{length, replicate}
 use Rattle.buffer.specs.Compare.{blankOf}
 use Rattle.buffer.specs.Number.{numberAt, numberOf}
-use Rattle.frame.specs.Crc.{feed, crcBit, crcBits, crcByte, crcMore, crcOf}
+use Rattle.crc.specs.Crc.{feed, crcBit, crcBits, crcByte, crcMore, crcOf}
 use Rattle.bank.specs.Stretch.{fitsAt, laidOut, blankOutside}
 use Rattle.bank.specs.Table.{entryAt, entriesFrom, restOf, stretchesOf}
 use Rattle.bank.specs.Sound.{headerGood, tableGood, laidOutGood, bodyGood, allGood, bodiesGood, blankGood}

@@ -9,40 +9,15 @@ use mathlib.Core.List.{List}
 use lib.Dec.{eqb, leb}
 use lib.ListN.{length, take}
 use borrow.Author.Tests.{leb-true, eqb-true, eq-eqb, le-leb}
-use Rattle.frame.specs.Crc.{crcOf}
+use Rattle.crc.specs.Crc.{crcOf}
 use Rattle.bank.specs.Stretch.{laidOut, held}
 use Rattle.bank.specs.Table.{byteAt, idOf, editionOf, countOf, crcPlace, tableEnd, entryAt, restOf, entriesOf, stretchOf, stretchesOf}
-use Rattle.bank.specs.Sound.{mostBodies, headerGood, tableGood, laidOutGood, stretchBytes, bodyGood, allGood, bodiesGood, blankGood, contentsGood, filledGood, soundOf}
+use Rattle.bank.specs.Sound.{mostBodies, headerGood, tableGood, laidOutGood, stretchBytes, bodyGood, allGood, bodiesGood, blankGood, soundOf}
 use Rattle.bank.specs.Meaning.{bodyStart, bodyEnd, Kept, Place, in-table, in-body, outside}
 use Rattle.buffer.specs.Number.{numberAt}
 use Rattle.buffer.proofs.Bools.{and-left, and-right, and-both}
 use Rattle.bank.proofs.Stretches.{fits-back, held-once, outside-blank, blank-outside}
-use Rattle.bank.proofs.Tables.{ahead, contents, entry-fits, laid-nth, laid-rest, laid-more, laid-done, body-more, body-done, rest-more}
-
--- the parts of `soundOf`
-pub record Parts (b : List ℕ) : Type 0 where
-  pub header : headerGood b ≡ true
-  pub table : tableGood b ≡ true
-  pub laid : laidOutGood b ≡ true
-  pub bodies : bodiesGood b ≡ true
-  pub blank : blankGood b ≡ true
-
-pub parts : (b : List ℕ) → soundOf b ≡ true → Parts b
-unfolding soundOf filledGood
-parts b e =
-    let p = and-left (contentsGood b && bodiesGood b) (blankGood b) e in
-    let c = contents b (and-left (contentsGood b) (bodiesGood b) p) in
-    record {
-      header = c .header;
-      table = c .table;
-      laid = c .laid;
-      bodies = and-right (contentsGood b) (bodiesGood b) p;
-      blank = and-right (contentsGood b && bodiesGood b) (blankGood b) e;
-    }
-
-pub parts-back : (b : List ℕ) → Parts b → soundOf b ≡ true
-unfolding soundOf filledGood contentsGood
-parts-back b p = and-both _ _ (and-both _ _ (and-both _ _ (p .header) (and-both _ _ (p .table) (p .laid))) (p .bodies)) (p .blank)
+use Rattle.bank.proofs.Tables.{ahead, parts, parts-back, entry-fits, laid-nth, laid-rest, laid-more, laid-done, body-more, body-done, rest-more}
 
 module _ (b : List ℕ) where
   -- the order of two bodies

@@ -5,7 +5,7 @@ use mathlib.Core.Path.{_≡_}
 use mathlib.Core.List.{List}
 use lib.ListN.{length, take}
 use Rattle.buffer.specs.Number.{numberAt}
-use Rattle.frame.specs.Crc.{crcOf}
+use Rattle.crc.specs.Crc.{crcOf}
 use Rattle.bank.specs.Stretch.{held}
 use Rattle.bank.specs.Table.{byteAt, idOf, editionOf, countOf, crcPlace, tableEnd, entryAt, entriesOf, stretchesOf}
 use Rattle.bank.specs.Sound.{mostBodies, stretchBytes}

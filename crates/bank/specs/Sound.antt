@@ -1,13 +1,13 @@
 -- What it is for a bank to be sound, and what its bodies are (01, 'The bank check').
 -- Assumes nothing.
-use Prim.Native.Nat.{ℕ, _+_}
+use Prim.Native.Nat.{ℕ, _+_, _≤_}
 use mathlib.Core.Path.{_≡_}
 use mathlib.Core.Bool.{Bool, true, _&&_, cond}
 use mathlib.Core.List.{List, [], _∷_}
 use lib.Dec.{eqb, leb, ltb}
 use lib.ListN.{length, take}
 use Rattle.buffer.specs.Number.{numberAt}
-use Rattle.frame.specs.Crc.{crcOf}
+use Rattle.crc.specs.Crc.{crcOf}
 use Rattle.bank.specs.declared.check.Verdict.{Verdict}
 use Rattle.bank.specs.declared.check.Verdict.the-variants.{Refused, Sound, Unsound}
 use Rattle.bank.specs.declared.table.Entry.{Entry}
@@ -23,6 +23,10 @@ mostBodies = 30
 unfoldable pub headerGood : List ℕ → Bool
 headerGood b = eqb (idOf b) 0x0400 && (eqb (editionOf b) 1 && (leb 1 (countOf b) && leb (countOf b) mostBodies))
 
+-- how many bodies a good header lists; none otherwise
+unfoldable pub listedOf : List ℕ → ℕ
+listedOf b = cond (headerGood b) (countOf b) 0
+
 -- "the table fits in the bank", and its CRC is that "of all table bytes before it"
 unfoldable pub tableGood : List ℕ → Bool
 tableGood b = leb (tableEnd b) (length b) && eqb (crcOf (take (crcPlace b) b)) (numberAt 4 b (crcPlace b))
@@ -30,10 +34,6 @@ tableGood b = leb (tableEnd b) (length b) && eqb (crcOf (take (crcPlace b) b)) (
 -- order and bounds of the bodies, "table first"
 unfoldable pub laidOutGood : List ℕ → Bool
 laidOutGood b = laidOut (length b) (tableEnd b) (stretchesOf (entriesOf b))
-
--- all that has to hold before the bodies are looked at
-unfoldable pub contentsGood : List ℕ → Bool
-contentsGood b = headerGood b && (tableGood b && laidOutGood b)
 
 -- "that stretch of the bank itself"
 abbrev pub stretchBytes : List ℕ → Entry → List ℕ
@@ -53,12 +53,12 @@ bodiesGood b = allGood b (entriesOf b)
 unfoldable pub blankGood : List ℕ → Bool
 blankGood b = blankOutside b (tableEnd b) (stretchesOf (entriesOf b))
 
--- all but the gaps, and all
-unfoldable pub filledGood : List ℕ → Bool
-filledGood b = contentsGood b && bodiesGood b
+-- all that the table lists
+unfoldable pub listedGood : List ℕ → Bool
+listedGood b = laidOutGood b && (bodiesGood b && blankGood b)
 
 unfoldable pub soundOf : List ℕ → Bool
-soundOf b = filledGood b && blankGood b
+soundOf b = headerGood b && (tableGood b && listedGood b)
 
 unfoldable pub verdictOf : List ℕ → Verdict
 verdictOf b = cond (wholeLength (length b)) (cond (soundOf b) Sound Unsound) Refused
@@ -66,6 +66,10 @@ verdictOf b = cond (wholeLength (length b)) (cond (soundOf b) Sound Unsound) Ref
 -- body i: "that stretch, or an empty stretch"
 unfoldable pub bodyOf : List ℕ → ℕ → List ℕ
 bodyOf b i = cond (wholeLength (length b) && (soundOf b && ltb i (countOf b))) (stretchBytes b (entryAt b i)) []
+
+pub record IsListed (b : List ℕ) (n : ℕ) : Type 0 where
+  pub is : n ≡ listedOf b
+  pub small : n ≤ mostBodies
 
 abbrev pub Check·Is : List ℕ → Verdict → Type 0
 Check·Is b r = r ≡ verdictOf b

@@ -64,10 +64,6 @@ pub record IsCount (b : List ℕ) (n : ℕ) : Type 0 where
   pub is : n ≡ countOf b
   pub small : n < 256
 
-pub record IsPlace (b : List ℕ) (n : ℕ) : Type 0 where
-  pub is : n ≡ crcPlace b
-  pub small : n < 65536
-
 pub record IsEntry (b : List ℕ) (i : ℕ) (e : Entry) : Type 0 where
   pub is : e ≡ entryAt b i
   pub offset-small : e .offset < 4294967296

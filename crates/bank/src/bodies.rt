@@ -1,12 +1,11 @@
 // The bodies that the table lists: laid out, each with its CRC, and nothing but 0xFF around them.
 use crate::table::Entry;
 ghost use mathlib.Core.Path.{_≡_};
-ghost use mathlib.Core.Bool.{true};
 ghost use Prim.Native.Nat.{_+_, _<_, _≤_};
 ghost use lib.ListN.{length};
 ghost use Rattle.bank.specs.Stretch.{fitsAt};
-ghost use Rattle.bank.specs.Table.{tableEnd, stretchOf};
-ghost use Rattle.bank.specs.Sound.{laidOutGood, bodyGood, bodiesGood, contentsGood, blankGood};
+ghost use Rattle.bank.specs.Table.{tableEnd, stretchOf, IsCount};
+ghost use Rattle.bank.specs.Sound.{bodyGood, listedGood};
 
 // At least one byte, from `at` on or later, and within the first `size` bytes.
 fn fits_at(size: usize, at: usize, entry: Entry) -> bool
@@ -22,25 +21,6 @@ fn fits_at(size: usize, at: usize, entry: Entry) -> bool
     entry.offset + entry.length <= size
 }
 
-// Each body at or after the end of what precedes it, and within the bank.
-pub(crate) fn laid_out(bank: &[u8]) -> bool
-    requires { ⌜ tableEnd (now bank) ≤ length (now bank) ⌝ }
-    ensures { λ r. ⌜ r ≡ laidOutGood (now (bank .entry)) ⌝ }
-{
-    let n = crate::table::count(bank);
-    let mut at = crate::table::crc_place(bank) + 4;
-    let mut i = 0;
-    while i < n {
-        let entry = crate::table::entry_at(bank, i);
-        if !fits_at(bank.len(), at, entry) {
-            return false;
-        }
-        at = entry.offset + entry.length;
-        i += 1;
-    }
-    true
-}
-
 // The CRC of a body, made on that stretch of the bank itself.
 fn body_good(bank: &[u8], entry: Entry) -> bool
     requires { ⌜ entry .offset + entry .length ≤ length (now bank) ⌝ }
@@ -48,37 +28,28 @@ fn body_good(bank: &[u8], entry: Entry) -> bool
 {
     let from = entry.offset;
     let to = entry.offset + entry.length;
-    frame::crc::crc32(&bank[from..to]) == entry.crc
+    crc::crc32(&bank[from..to]) == entry.crc
 }
 
-pub(crate) fn bodies_good(bank: &[u8]) -> bool
-    requires { ⌜ contentsGood (now bank) ≡ true ⌝ }
-    ensures { λ r. ⌜ r ≡ bodiesGood (now (bank .entry)) ⌝ }
+// Each of n bodies at or after the end of what precedes it and within the bank, 0xFF before it, its CRC right; and 0xFF after
+// the last. An entry is read once.
+pub(crate) fn listed_good(bank: &[u8], n: usize) -> bool
+    requires { ⌜ IsCount (now bank) n ⌝ }
+    requires { ⌜ tableEnd (now bank) ≤ length (now bank) ⌝ }
+    ensures { λ r. ⌜ r ≡ listedGood (now (bank .entry)) ⌝ }
 {
-    let n = crate::table::count(bank);
+    let mut at = crate::table::crc_place(n) + 4;
     let mut i = 0;
     while i < n {
         let entry = crate::table::entry_at(bank, i);
-        if !body_good(bank, entry) {
+        if !fits_at(bank.len(), at, entry) {
             return false;
         }
-        i += 1;
-    }
-    true
-}
-
-// Every byte outside table and bodies is 0xFF.
-pub(crate) fn blank_outside(bank: &[u8]) -> bool
-    requires { ⌜ contentsGood (now bank) ≡ true ⌝ }
-    ensures { λ r. ⌜ r ≡ blankGood (now (bank .entry)) ⌝ }
-{
-    let n = crate::table::count(bank);
-    let mut at = crate::table::crc_place(bank) + 4;
-    let mut i = 0;
-    while i < n {
-        let entry = crate::table::entry_at(bank, i);
         let from = entry.offset;
         if !buffer::compare::blank(&bank[at..from]) {
+            return false;
+        }
+        if !body_good(bank, entry) {
             return false;
         }
         at = entry.offset + entry.length;

@@ -1,8 +1,5 @@
 // The check of a whole bank: contents first, then bodies.
-ghost use mathlib.Core.Path.{_≡_};
-ghost use Prim.Native.Nat.{_≤_};
-ghost use lib.ListN.{length};
-ghost use Rattle.bank.specs.Sound.{contentsGood, Check·Is};
+ghost use Rattle.bank.specs.Sound.{Check·Is};
 
 pub enum Verdict {
     // The length is no bank's.
@@ -11,34 +8,21 @@ pub enum Verdict {
     Unsound,
 }
 
-// All that has to hold before the bodies are looked at.
-fn contents_good(bank: &[u8]) -> bool
-    requires { ⌜ 4 ≤ length (now bank) ⌝ }
-    ensures { λ r. ⌜ r ≡ contentsGood (now (bank .entry)) ⌝ }
-{
-    if !crate::table::header_good(bank) {
-        return false;
-    }
-    if !crate::table::table_good(bank) {
-        return false;
-    }
-    crate::bodies::laid_out(bank)
-}
-
-// A byte outside the table is read once; the table's are read at the check of its CRC and entry by entry.
+// No byte is read more than twice: the table's for its CRC and for what they say, any other once.
 pub fn check(bank: &[u8]) -> Verdict
     ensures { λ r. ⌜ Check·Is (now (bank .entry)) r ⌝ }
 {
     let crate::layout::Counted::Sectors(_) = crate::layout::sectors(bank.len()) else {
         return Verdict::Refused;
     };
-    if !contents_good(bank) {
+    let n = crate::table::listed(bank);
+    if n == 0 {
         return Verdict::Unsound;
     }
-    if !crate::bodies::bodies_good(bank) {
+    if !crate::table::table_good(bank, n) {
         return Verdict::Unsound;
     }
-    if !crate::bodies::blank_outside(bank) {
+    if !crate::bodies::listed_good(bank, n) {
         return Verdict::Unsound;
     }
     Verdict::Sound

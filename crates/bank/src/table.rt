@@ -1,12 +1,12 @@
 // The contents table at a bank's start: its header and its entries, read where they lie.
 ghost use mathlib.Core.Path.{_≡_};
-ghost use Prim.Native.Nat.{_+_, _<_, _≤_};
+ghost use Prim.Native.Nat.{_+_, _*_, _<_, _≤_};
 ghost use lib.ListN.{length};
-ghost use Rattle.bank.specs.Table.{IsCount, IsPlace, IsEntry};
-ghost use Rattle.bank.specs.Sound.{headerGood, tableGood};
+ghost use Rattle.bank.specs.Table.{entrySize, IsCount, IsEntry};
+ghost use Rattle.bank.specs.Sound.{tableGood, IsListed};
 
 // The most bodies that a table lists.
-const MOST_BODIES: u8 = 30;
+const MOST_BODIES: usize = 30;
 
 // The bytes of an entry.
 const ENTRY: usize = 12;
@@ -37,12 +37,12 @@ pub(crate) fn count(bank: &[u8]) -> usize
     wide(bank[3])
 }
 
-// Where the table's CRC stands.
-pub(crate) fn crc_place(bank: &[u8]) -> usize
-    requires { ⌜ 4 ≤ length (now bank) ⌝ }
-    ensures { λ r. ⌜ IsPlace (now (bank .entry)) r ⌝ }
+// Where the CRC of a table of n entries stands.
+pub(crate) fn crc_place(n: usize) -> usize
+    requires { ⌜ n < 256 ⌝ }
+    ensures { λ r. ⌜ r ≡ 4 + entrySize * n ⌝ }
 {
-    4 + ENTRY * count(bank)
+    4 + ENTRY * n
 }
 
 // Entry i of the table.
@@ -61,31 +61,32 @@ pub(crate) fn entry_at(bank: &[u8], i: usize) -> Entry
     }
 }
 
-// ID, edition and count.
-pub(crate) fn header_good(bank: &[u8]) -> bool
+// How many bodies the table lists; none where ID, edition or count is wrong.
+pub(crate) fn listed(bank: &[u8]) -> usize
     requires { ⌜ 4 ≤ length (now bank) ⌝ }
-    ensures { λ r. ⌜ r ≡ headerGood (now (bank .entry)) ⌝ }
+    ensures { λ r. ⌜ IsListed (now (bank .entry)) r ⌝ }
 {
     if buffer::number::number2(bank, 0) != 0x0400 {
-        return false;
+        return 0;
     }
     if bank[2] != 1 {
-        return false;
+        return 0;
     }
-    if bank[3] < 1 {
-        return false;
+    let n = count(bank);
+    if n > MOST_BODIES {
+        return 0;
     }
-    bank[3] <= MOST_BODIES
+    n
 }
 
-// The table fits in the bank, and its CRC is that of the bytes before it.
-pub(crate) fn table_good(bank: &[u8]) -> bool
-    requires { ⌜ 4 ≤ length (now bank) ⌝ }
+// The table of n entries fits in the bank, and its CRC is that of the bytes before it.
+pub(crate) fn table_good(bank: &[u8], n: usize) -> bool
+    requires { ⌜ IsCount (now bank) n ⌝ }
     ensures { λ r. ⌜ r ≡ tableGood (now (bank .entry)) ⌝ }
 {
-    let at = crc_place(bank);
+    let at = crc_place(n);
     if bank.len() < at + 4 {
         return false;
     }
-    frame::crc::crc32(&bank[..at]) == buffer::number::number4(bank, at)
+    crc::crc32(&bank[..at]) == buffer::number::number4(bank, at)
 }

@@ -11,7 +11,7 @@ use lib.ListN.{length}
 use borrow.Author.Tests.{leb-true, eqb-true, not-false}
 use Rattle.buffer.specs.Compare.{blankOf}
 use Rattle.buffer.proofs.Bools.{split, and-left, and-right}
-use Rattle.frame.specs.Crc.{crcOf}
+use Rattle.crc.specs.Crc.{crcOf}
 use Rattle.frame.specs.Read.{writtenOf}
 use Rattle.frame.specs.Write.{putControl, putWrite}
 use Rattle.frame.specs.Frame.{frameError}
@@ -92,7 +92,7 @@ written-long sector result write crc =
 
 -- ---- one target
 
-accepted : (blank already : Bool) → Accepted (storeResult blank already)
+pub accepted : (blank already : Bool) → Accepted (storeResult blank already)
 accepted blank already = split Accepted (blank || already) (λ _. inr refl) (λ _. inl refl)
 
 pub data Course (c : Client) (target datagram : List ℕ) (r : Carried) : Type 0 where

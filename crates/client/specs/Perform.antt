@@ -6,7 +6,7 @@ use mathlib.Core.Bool.{Bool, true, false, _||_, cond}
 use mathlib.Core.List.{List}
 use Prim.Native.Nat.{ℕ, _+_, _*_, _≤_}
 use Rattle.buffer.specs.Compare.{blankOf}
-use Rattle.frame.specs.Crc.{crcOf}
+use Rattle.crc.specs.Crc.{crcOf}
 use Rattle.frame.specs.Read.{writtenOf}
 use Rattle.flash.specs.Bank.{sectorOf, writtenAt, alreadyAt, sweptOf}
 use Rattle.bank.specs.declared.check.Verdict.{Verdict}

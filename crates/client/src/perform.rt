@@ -46,7 +46,7 @@ fn sector_crc(bank: &[u8], k: usize) -> u32
     ensures { λ r. ⌜ r ≡ sectorCrc (now (bank .entry)) k ⌝ }
 {
     let from = (k - 1) * bank::layout::SECTOR;
-    frame::crc::crc32(&bank[from..from + bank::layout::SECTOR])
+    crc::crc32(&bank[from..from + bank::layout::SECTOR])
 }
 
 impl Client {
@@ -81,7 +81,7 @@ impl Client {
         let running = self.running;
         let next = self.next;
         let received = self.received;
-        flash::bank::sweep(target, n, received);
+        flash::bank::sweep(target, n, &received);
         if fit(target) {
             let client = self.ended(Latest::Good, bank::layout::other(running));
             return Served {

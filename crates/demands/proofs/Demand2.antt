@@ -2,7 +2,7 @@
 -- Assumes nothing.
 use mathlib.Core.Path.{_≡_, refl, sym, ap, ap₂, subst, _∙_}
 use mathlib.Core.Logic.{_⊎_, inl, inr}
-use mathlib.Core.Bool.{Bool, true, false, _||_}
+use mathlib.Core.Bool.{Bool, true, false}
 use mathlib.Core.List.{List, [], _∷_, _++_, append-nil, List·Memᴰ, List·Memᴰ·not-nil, List·Memᴰ·cases-cons}
 use Prim.Native.Nat.{ℕ, zero, suc, _+_, _-_, _*_, _≤_, _<_}
 use native.Mathlib.Decide.{ℕ-discrete}
@@ -12,10 +12,9 @@ use lib.Seq.{length-take-le, take-all}
 use borrow.Author.Tests.{le-leb}
 use Rattle.buffer.specs.Compare.{sameOf, blankOf}
 use Rattle.buffer.specs.Place.{frontOf}
-use Rattle.buffer.proofs.Bools.{split}
 use Rattle.buffer.proofs.Places.{front-take}
 use Rattle.frame.specs.Checksum.{checksumOf}
-use Rattle.frame.specs.Crc.{crcOf}
+use Rattle.crc.specs.Crc.{crcOf}
 use Rattle.frame.specs.Frame.{framed, controlFrame, writeFrame}
 use Rattle.frame.specs.Read.{readOf, writtenOf}
 use Rattle.frame.specs.declared.read.Footer.{Footer}
@@ -48,7 +47,7 @@ use Rattle.client.specs.Perform.{Accepted, fitOf, storeResult}
 use Rattle.client.specs.Plan.{lentGood, isWorn, anyWorn, valuesGood, addressesGood}
 use Rattle.client.specs.Record.{begun, marked, ended}
 use Rattle.client.specs.Step.{targetOf}
-use Rattle.client.proofs.Courses.{not-write, answer-short}
+use Rattle.client.proofs.Courses.{accepted, not-write, answer-short}
 use Rattle.client.proofs.Leading.{Finishing}
 use Rattle.client.proofs.Planning.{lent-buffer, values-words}
 use Rattle.demands.specs.Board.{Board, board, Call, Input, Datagram, Outcome, said, after, outcomes, targetBank, sectorsIn, lentTarget, stepMachine}
@@ -223,8 +222,8 @@ module _ (n : ℕ) (running : Bank) (good : goodN n ≡ true) (image : List ℕ)
     abbrev result : ℕ
     result = storeResult (blankOf (writtenOf (call .datagram) 512)) (sameOf (sectorOf (lentTarget b call) k) (paddedOf (writtenOf (call .datagram) 512)))
 
-    accepted : Accepted result
-    accepted = split Accepted (blankOf (writtenOf (call .datagram) 512) || sameOf (sectorOf (lentTarget b call) k) (paddedOf (writtenOf (call .datagram) 512))) (λ _. inr refl) (λ _. inl refl)
+    is-accepted : Accepted result
+    is-accepted = accepted (blankOf (writtenOf (call .datagram) 512)) (sameOf (sectorOf (lentTarget b call) k) (paddedOf (writtenOf (call .datagram) 512)))
 
     stored-said : said (stepMachine b (Datagram call)) ≡ writeFrame k (writtenBytes 0x06 result (crcOf (imageSector image k))) End
     stored-said =
@@ -234,12 +233,12 @@ module _ (n : ℕ) (running : Bank) (good : goodN n ≡ true) (image : List ℕ)
         ∙ ap (λ (s : List ℕ). writeFrame k (writtenBytes 0x06 result (crcOf s)) End) padded-are
 
     pub taken : Taken image n p (stepMachine b (Datagram call))
-    taken = record { write = result; accepted = accepted; answer = stored-said }
+    taken = record { write = result; accepted = is-accepted; answer = stored-said }
 
     shown-next : exchanged (b .client .n) g (call .datagram) (writeFrame k (writtenBytes 0x06 result (crcOf (imageSector image k))) End) ≡ withSector g k (imageSector image k)
     unfolding answerBytes
     shown-next =
-        rw (written-begin k 0x06 result (crcOf (imageSector image k)), written-stored k result (crcOf (imageSector image k)) accepted, reads)
+        rw (written-begin k 0x06 result (crcOf (imageSector image k)), written-stored k result (crcOf (imageSector image k)) is-accepted, reads)
         (ap (withSector g k) padded-are)
 
     pub next-busy : Busy n running (stepMachine b (Datagram call) .board) (withSector g k (imageSector image k))

@@ -23,14 +23,14 @@ use Rattle.client.specs.Answer.{writtenBytes, answerBytes}
 use Rattle.client.specs.Host.{initiateOf, terminateOf}
 use Rattle.client.specs.Perform.{Accepted}
 use Rattle.client.specs.Step.{Carried, targetOf, stepOf}
-use Rattle.client.proofs.Courses.{Match, same, either, written-long, step-alike, step-told, step-said, step-fits}
+use Rattle.client.proofs.Courses.{Match, same, either, written-long, same-length, step-alike, step-told, step-said, step-fits}
 use Rattle.client.proofs.Courses.{Alike as AlikeSteps}
 use Rattle.client.proofs.Leading.{Finishing}
 use Rattle.demands.specs.Board.{Board, board, Call, Input, Initiate, Terminate, Datagram, Outcome, said, after, outcomes, runningBank, targetBank, sectorsIn, lentTarget, answerNumber, hostOutcome, callOutcome, called, stepMachine}
 use Rattle.demands.specs.Session.{isEnd, isStored, allBlank, exchanged, noted, shown}
 use Rattle.demands.specs.Demand3.{AlikeBytes, same as same-bytes, either as either-bytes, Alike, AllAlike, none, more, imageOf, Ended, Same, Pair, Meets3}
 use Rattle.demands.proofs.Bytes.{written-begin, written-end, written-stored}
-use Rattle.demands.proofs.Lending.{front-alike, lent-alike}
+use Rattle.demands.proofs.Lending.{front-alike}
 use Rattle.demands.proofs.Sessions.{Shows, said-is, lent-shows, step-shows, step-closes}
 use Rattle.demands.proofs.Steps.{machine-stays, zero-kept, one-kept, run-stays, run-running}
 
@@ -112,9 +112,14 @@ module _ (c : Client) (a0 a1 b0 b1 image : List ℕ) where
   abbrev b : Board
   b = board c b0 b1
 
+  lent-length : (call : Call) → Twins a b image → length (lentTarget a call) ≡ length (lentTarget b call)
+  lent-length call t =
+      same-length c _ _ _ _ (call .marks) (call .address) (call .buffer) (call .datagram)
+      (front-alike (call .lent0) a0 b0 (t .zero)) (front-alike (call .lent1) a1 b1 (t .one))
+
   other : (call : Call) → Twins a b image → Finishing c (length (lentTarget a call)) → Finishing c (length (lentTarget b call))
   other call t f =
-      record { writing = f .writing; good = f .good; whole = sym (lent-alike (c .running) a0 a1 b0 b1 call (t .zero) (t .one)) ∙ f .whole }
+      record { writing = f .writing; good = f .good; whole = sym (lent-length call t) ∙ f .whole }
 
   stepped : Twins a b image → (i : Input) → Stepped a b image i
   stepped t Initiate =

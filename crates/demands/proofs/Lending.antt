@@ -34,12 +34,6 @@ front-short l bank = omega (arith, length-take l bank)
 pub front-alike : (l : ℕ) (a b : List ℕ) → length a ≡ length b → length (take l a) ≡ length (take l b)
 front-alike l a b e = length-take l a ∙ ap (min l) e ∙ sym (length-take l b)
 
--- banks as long, lent alike, lend targets as long
-pub lent-alike : (running : Bank) (a0 a1 b0 b1 : List ℕ) (call : Call) → length a0 ≡ length b0 → length a1 ≡ length b1
-    → length (targetOf running (take (call .lent0) a0) (take (call .lent1) a1)) ≡ length (targetOf running (take (call .lent0) b0) (take (call .lent1) b1))
-lent-alike Zero a0 a1 b0 b1 call zero one = front-alike (call .lent1) a1 b1 one
-lent-alike One a0 a1 b0 b1 call zero one = front-alike (call .lent0) a0 b0 zero
-
 module _ (running : Bank) (bank0 bank1 : List ℕ) (call : Call) where
   pub target-lent : targetOf running (take (call .lent0) bank0) (take (call .lent1) bank1) ≡ take (lentTo running call) (targetOf running bank0 bank1)
   target-lent = by running

@@ -10,7 +10,7 @@ use lib.ListN.{length, getD, take, drop, set, length-append, length-set, length-
 use lib.Seq.{take-at, length-take-le}
 use Rattle.buffer.proofs.Bools.{split}
 use Rattle.buffer.proofs.Places.{front-take}
-use Rattle.frame.specs.Crc.{crcOf}
+use Rattle.crc.specs.Crc.{crcOf}
 use Rattle.frame.specs.Read.{readOf, writtenOf}
 use Rattle.frame.specs.declared.read.Read.{Read}
 use Rattle.frame.specs.declared.read.Read.the-variants as read
@@ -153,7 +153,7 @@ module _ (b : Board) (call : Call) where
         let n : ℕ = b .client .n in
         let e : now ≡ allBlank n = rw (a, response-begin) in
         make next n noneReceived (lentTarget b call) behind now stays-n m (target-next ∙ ap (λ (l : List ℕ). l ++ behind) t) (h .whole) (h .good) length-none
-        (swept-blank (lentTarget b call) n noneReceived (h .whole) (good-high n (h .good)) none-received ∙ sym e)
+        (swept-blank (lentTarget b call) n noneReceived (h .whole) (λ i l. let most = good-high n (h .good) in none-received i (omega arith)) ∙ sym e)
     keeps (stores sector m write h v a t k) s =
         let n : ℕ = b .client .n in
         let bytes : List ℕ = writtenOf (call .datagram) m in
@@ -174,7 +174,7 @@ module _ (b : Board) (call : Call) where
         (length-written (lentTarget b call) sector bytes ∙ h .whole)
         (h .good)
         (length-set (b .client .received) (sector - 1) true ∙ marked)
-        (swept-written (lentTarget b call) n sector bytes (b .client .received) (h .whole) most f (omega arith)
+        (swept-written (lentTarget b call) n sector bytes (b .client .received) (h .whole) f (omega arith)
         ∙ ap (λ (l : List ℕ). writtenAt l sector bytes) p
         ∙ written-with image sector bytes g
         ∙ sym e)

@@ -11,7 +11,7 @@ use lib.Dec.{eqb}
 use lib.ListN.{length, getD, take}
 use Rattle.buffer.specs.Compare.{sameOf, blankOf}
 use Rattle.buffer.specs.Place.{frontOf}
-use Rattle.frame.specs.Crc.{crcOf}
+use Rattle.crc.specs.Crc.{crcOf}
 use Rattle.frame.specs.Frame.{controlFrame, writeFrame, frameError}
 use Rattle.frame.specs.Read.{readOf, writtenOf}
 use Rattle.frame.specs.declared.read.Footer.the-variants.{End}

@@ -10,12 +10,12 @@ use lib.ListN.{length, getD, set}
 use lib.Seq.{getD-set-same, getD-set-other}
 use borrow.Author.Tests.{eqb-true, eqb-false}
 use Rattle.flash.specs.Sector.{sectorBytes}
-use Rattle.flash.specs.Bank.{sectorOf, blankSector, marks, writtenAt, sweptOf}
+use Rattle.flash.specs.Bank.{sectorOf, blankSector, writtenAt, sweptOf}
 use Rattle.flash.proofs.Sectors.{Has, has-still, ext-sector}
 use Rattle.flash.proofs.Sweeps.{length-sweep, swept-sector, swept-received}
 use Rattle.flash.proofs.Writes.{FitsAt, length-written, written-here, written-other}
 
-module _ (bank : List ℕ) (n k : ℕ) (bytes : List ℕ) (received : List Bool) (w : length bank ≡ n * sectorBytes) (m : n ≤ marks) (f : FitsAt bank k bytes) (i : k - 1 < length received) where
+module _ (bank : List ℕ) (n k : ℕ) (bytes : List ℕ) (received : List Bool) (w : length bank ≡ n * sectorBytes) (f : FitsAt bank k bytes) (i : k - 1 < length received) where
   marked : List Bool
   marked = set received (k - 1) true
 
@@ -36,10 +36,10 @@ module _ (bank : List ℕ) (n k : ℕ) (bytes : List ℕ) (received : List Bool)
   swept-else j h l d =
       let first : 1 ≤ k = f .inside .first in
       let e : getD marked (j - 1) false ≡ getD received (j - 1) false = getD-set-other received (k - 1) (j - 1) true false (λ q. d (omega arith)) in
-      swept-sector (writtenAt bank k bytes) n marked j (has-still (length-written bank k bytes) h) l (omega arith)
+      swept-sector (writtenAt bank k bytes) n marked j (has-still (length-written bank k bytes) h) l
       ∙ ap (λ (t : Bool). cond t (sectorOf (writtenAt bank k bytes) j) blankSector) e
       ∙ ap (λ (sector : List ℕ). cond (getD received (j - 1) false) sector blankSector) (written-other bank k bytes j h d)
-      ∙ sym (swept-sector bank n received j h l (omega arith))
+      ∙ sym (swept-sector bank n received j h l)
       ∙ sym (written-other (sweptOf bank n received) k bytes j (has-still (length-sweep bank n received) h) d)
 
   pub swept-written : sweptOf (writtenAt bank k bytes) n (set received (k - 1) true) ≡ writtenAt (sweptOf bank n received) k bytes

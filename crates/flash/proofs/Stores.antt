@@ -9,7 +9,7 @@ use Rattle.buffer.specs.Compare.{sameOf}
 use Rattle.buffer.proofs.Places.{length-place}
 use Rattle.buffer.proofs.Bools.{and-left, and-right}
 use Rattle.flash.specs.Sector.{erasedOf, paddedOf, fitsSector, writtenOf, alreadyOf}
-use Rattle.flash.specs.Bank.{hasSector, sectorOf, atSector, writtenAt, alreadyAt, sweptOne, swept, sweptOf, markedOf}
+use Rattle.flash.specs.Bank.{hasSector, sectorOf, atSector, writtenAt, alreadyAt, sweptOne, swept, sweptOf}
 use Rattle.flash.specs.Store.{Store, Erase, Word, made, allMade, storesOf, allMadeIn, storesAt, sweepStore, sweepStores, storesOfSweep}
 use Rattle.flash.proofs.Changes.{Keeps, at-none, at-same, at-alike, at-then}
 use Rattle.flash.proofs.Sweeps.{keeps-erased, length-swept}
@@ -79,4 +79,4 @@ sweep-leaves-first received (suc j) bank =
 
 -- what the stores of a sweep leave is what the sweep leaves
 pub sweep-leaves : (bank : List ℕ) (n : ℕ) (received : List Bool) → allMadeIn (storesOfSweep bank n received) bank ≡ sweptOf bank n received
-sweep-leaves bank n received = sweep-leaves-first received (markedOf n) bank
+sweep-leaves bank n received = sweep-leaves-first received n bank

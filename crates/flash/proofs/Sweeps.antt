@@ -3,15 +3,16 @@
 use mathlib.Core.Path.{_≡_, refl, sym, ap, _∙_}
 use mathlib.Core.Bool.{Bool, true, false, not, cond}
 use mathlib.Core.List.{List}
-use Prim.Native.Nat.{ℕ, zero, suc, _+_, _-_, _*_, _≤_, _<_}
+use Prim.Native.Nat.{ℕ, zero, suc, _+_, _-_, _*_, _/_, _≤_, _<_, min}
 use native.Mathlib.Numerals.{add-one}
 use native.Mathlib.Omega.{arith}
 use lib.Dec.{eqb, leb}
 use lib.ListN.{length, getD, take, drop, length-replicate}
-use borrow.Author.Tests.{eqb-true, eqb-false, leb-true, leb-false, not-true}
+use borrow.Author.Tests.{eqb-true, eqb-false, leb-true, leb-false, lt-leb, not-true}
 use borrow.Rule.Slice.PartMut.{putMid}
+use Rattle.buffer.proofs.Bools.{and-false}
 use Rattle.flash.specs.Sector.{sectorBytes, blanks, erasedOf}
-use Rattle.flash.specs.Bank.{startOf, hasSector, sectorOf, withSector, blankSector, sweptOne, swept, marks, markedOf, sweptOf}
+use Rattle.flash.specs.Bank.{startOf, hasSector, sectorOf, withSector, blankSector, sweptOne, swept, sweptOf}
 use Rattle.flash.proofs.Blanks.{erased-blank, sector-blanks}
 use Rattle.flash.proofs.Changes.{Keeps, at-has, at-none, length-at, at-here, at-other}
 use Rattle.flash.proofs.Sectors.{Has, has, has-still, length-sector, ext-sector, lent-out, lent-back}
@@ -82,37 +83,37 @@ module _ (received : List Bool) (bank : List ℕ) (k : ℕ) (h : Has (length ban
 
 module _ (bank : List ℕ) (n : ℕ) (received : List Bool) where
   pub length-sweep : length (sweptOf bank n received) ≡ length bank
-  length-sweep = length-swept received (markedOf n) bank
+  length-sweep = length-swept received n bank
 
-  -- each sector that has a mark
-  pub swept-sector : (k : ℕ) → Has (length bank) k → k ≤ n → k ≤ marks → sectorOf (sweptOf bank n received) k ≡ cond (getD received (k - 1) false) (sectorOf bank k) blankSector
-  swept-sector k h l m = first-swept received bank k h (markedOf n) (omega arith)
+  -- each of the first n
+  pub swept-sector : (k : ℕ) → Has (length bank) k → k ≤ n → sectorOf (sweptOf bank n received) k ≡ cond (getD received (k - 1) false) (sectorOf bank k) blankSector
+  swept-sector k h l = first-swept received bank k h n l
 
   -- past the last
   pub swept-past : (k : ℕ) → Has (length bank) k → n < k → sectorOf (sweptOf bank n received) k ≡ sectorOf bank k
-  swept-past k h l = first-past received bank k h (markedOf n) (omega arith)
+  swept-past k h l = first-past received bank k h n l
 
   -- received
   pub swept-received : (k : ℕ) → Has (length bank) k → getD received (k - 1) false ≡ true → sectorOf (sweptOf bank n received) k ≡ sectorOf bank k
-  swept-received k h r = by (leb k (markedOf n)) refl
+  swept-received k h r = by (leb k n) refl
     where
-      by : (t : Bool) → leb k (markedOf n) ≡ t → sectorOf (sweptOf bank n received) k ≡ sectorOf bank k
+      by : (t : Bool) → leb k n ≡ t → sectorOf (sweptOf bank n received) k ≡ sectorOf bank k
       by true e =
-          first-swept received bank k h (markedOf n) (leb-true k (markedOf n) e) ∙ ap (λ (t : Bool). cond t (sectorOf bank k) blankSector) r
-      by false e = first-past received bank k h (markedOf n) (leb-false k (markedOf n) e)
+          first-swept received bank k h n (leb-true k n e) ∙ ap (λ (t : Bool). cond t (sectorOf bank k) blankSector) r
+      by false e = first-past received bank k h n (leb-false k n e)
 
   -- not received
-  pub swept-missed : (k : ℕ) → Has (length bank) k → k ≤ n → k ≤ marks → getD received (k - 1) false ≡ false → sectorOf (sweptOf bank n received) k ≡ blankSector
-  swept-missed k h l m r =
-      swept-sector k h l m ∙ ap (λ (t : Bool). cond t (sectorOf bank k) blankSector) r
+  pub swept-missed : (k : ℕ) → Has (length bank) k → k ≤ n → getD received (k - 1) false ≡ false → sectorOf (sweptOf bank n received) k ≡ blankSector
+  swept-missed k h l r =
+      swept-sector k h l ∙ ap (λ (t : Bool). cond t (sectorOf bank k) blankSector) r
 
 -- nothing received: every byte of the bank is 0xFF then
-pub swept-blank : (bank : List ℕ) (n : ℕ) (received : List Bool) → length bank ≡ n * sectorBytes → n ≤ marks
-    → ((i : ℕ) → i < marks → getD received i false ≡ false) → sweptOf bank n received ≡ blanks (n * sectorBytes)
-swept-blank bank n received w m none =
+pub swept-blank : (bank : List ℕ) (n : ℕ) (received : List Bool) → length bank ≡ n * sectorBytes
+    → ((i : ℕ) → i < n → getD received i false ≡ false) → sweptOf bank n received ≡ blanks (n * sectorBytes)
+swept-blank bank n received w none =
     ext-sector (sweptOf bank n received) (blanks (n * sectorBytes)) n (length-sweep bank n received ∙ w) (length-replicate (n * sectorBytes) 0xFF)
     (λ k a l.
-    swept-missed bank n received k (record { first = a; last = omega arith }) l (omega arith) (none (k - 1) (omega arith))
+    swept-missed bank n received k (record { first = a; last = omega arith }) l (none (k - 1) (omega arith))
     ∙ sym (sector-blanks n k a l))
 
 -- ---- each way out of a turn, and the turns as the loop has them
@@ -143,5 +144,33 @@ unfolding swept
 swept-next received j bank begun after b a =
     a ∙ ap (λ (l : List ℕ). sweptOne l (j + 1) (getD received j false)) b ∙ rw add-one
 
-pub swept-all : (received : List Bool) (j m : ℕ) (bank after : List ℕ) → after ≡ swept received j bank → j ≡ m → after ≡ swept received m bank
-swept-all received j m bank after a e = a ∙ ap (λ (i : ℕ). swept received i bank) e
+-- a sector that the bank does not have changes nothing
+swept-beyond : (received : List Bool) (bank : List ℕ) (j : ℕ) → length bank / sectorBytes ≤ j → swept received (suc j) bank ≡ swept received j bank
+unfolding swept hasSector
+swept-beyond received bank j h = by (getD received j false)
+  where
+    by : (t : Bool) → sweptOne (swept received j bank) (suc j) t ≡ swept received j bank
+    by true = refl
+    by false =
+        let n : length (swept received j bank) < suc j * sectorBytes = omega (arith, length-swept received j bank) in
+        at-none erasedOf (suc j) (swept received j bank) (rw (lt-leb (suc j * sectorBytes) (length (swept received j bank)) n) (and-false (not (eqb (suc j) 0))))
+
+all-beyond : (received : List Bool) (bank : List ℕ) (q d : ℕ) → length bank / sectorBytes ≤ q → swept received (q + d) bank ≡ swept received q bank
+all-beyond received bank q zero h = let e : q + 0 ≡ q = omega arith in rw e
+all-beyond received bank q (suc d) h =
+    let e : q + suc d ≡ suc (q + d) = omega arith in
+    rw e (swept-beyond received bank (q + d) (omega arith) ∙ all-beyond received bank q d h)
+
+-- the turns end at the last sector that the bank has
+pub swept-all : (received : List Bool) (j n : ℕ) (bank after : List ℕ) → after ≡ swept received j bank → j ≡ min n (length bank / sectorBytes) → after ≡ swept received n bank
+swept-all received j n bank after a e = a ∙ by (leb n (length bank / sectorBytes)) refl
+  where
+    by : (t : Bool) → leb n (length bank / sectorBytes) ≡ t → swept received j bank ≡ swept received n bank
+    by true t =
+        let l : n ≤ length bank / sectorBytes = leb-true n (length bank / sectorBytes) t in
+        let q : j ≡ n = omega arith in
+        ap (λ (i : ℕ). swept received i bank) q
+    by false t =
+        let l : length bank / sectorBytes < n = leb-false n (length bank / sectorBytes) t in
+        let q : j + (n - j) ≡ n = omega arith in
+        sym (all-beyond received bank j (n - j) (omega arith)) ∙ ap (λ (i : ℕ). swept received i bank) q

@@ -3,7 +3,7 @@
 use mathlib.Core.Path.{_≡_}
 use mathlib.Core.Bool.{Bool, true, false, not, _&&_, cond}
 use mathlib.Core.List.{List, _++_}
-use Prim.Native.Nat.{ℕ, zero, suc, _-_, _*_, min}
+use Prim.Native.Nat.{ℕ, zero, suc, _-_, _*_}
 use lib.Dec.{eqb, leb}
 use lib.ListN.{length, getD, take, drop}
 use Rattle.buffer.specs.Compare.{blankOf}
@@ -49,21 +49,13 @@ blankAt bank k = cond (hasSector (length bank) k) (blankOf (sectorOf bank k)) tr
 abbrev pub sweptOne : List ℕ → ℕ → Bool → List ℕ
 sweptOne bank k received = cond received bank (atSector erasedOf k bank)
 
--- after the first n sectors were; the mark at index j is that of sector j + 1
+-- after the first n sectors were; what stands at index j is said of sector j + 1, and a sector of which nothing is said was not received
 unfoldable pub swept : List Bool → ℕ → List ℕ → List ℕ
 swept received zero bank = bank
 swept received (suc j) bank = sweptOne (swept received j bank) (suc j) (getD received j false)
 
--- as many marks as there are sectors at most ("N from 1 to 491")
-abbrev pub marks : ℕ
-marks = 491
-
--- how many of the first n sectors have a mark
-abbrev pub markedOf : ℕ → ℕ
-markedOf n = min n marks
-
 abbrev pub sweptOf : List ℕ → ℕ → List Bool → List ℕ
-sweptOf bank n received = swept received (markedOf n) bank
+sweptOf bank n received = swept received n bank
 
 pub record WriteAt·Is (before : List ℕ) (k : ℕ) (bytes after : List ℕ) (r : Bool) : Type 0 where
   pub written : after ≡ writtenAt before k bytes

@@ -7,7 +7,7 @@ use lib.ListN.{length, getD, take, drop}
 use Rattle.buffer.specs.Compare.{sameOf, blankOf}
 use Rattle.buffer.specs.Place.{placeOf}
 use Rattle.flash.specs.Sector.{wordBytes, erasedOf, paddedOf, fitsSector}
-use Rattle.flash.specs.Bank.{hasSector, sectorOf, atSector, markedOf}
+use Rattle.flash.specs.Bank.{hasSector, sectorOf, atSector}
 
 -- the two ways in which a sector's bytes change: all of them erased, a word stored from an index on
 pub data Store : Type 0 where
@@ -71,4 +71,4 @@ sweepStores received bytes (suc j) = sweepStores received bytes j ++ sweepStore 
 
 -- those of a whole sweep
 abbrev pub storesOfSweep : List ℕ → ℕ → List Bool → List (ℕ × Store)
-storesOfSweep bank n received = sweepStores received (length bank) (markedOf n)
+storesOfSweep bank n received = sweepStores received (length bank) n

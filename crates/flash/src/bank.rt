@@ -1,12 +1,11 @@
 // A bank of sectors, numbered from 1. Only the bytes of one sector are lent on to what changes them.
 use crate::sector::SECTOR;
 ghost use mathlib.Core.Path.{_≡_};
-ghost use Prim.Native.Nat.{_*_, _^_, _≤_, _<_};
+ghost use mathlib.Core.Bool.{false};
+ghost use Prim.Native.Nat.{_*_, _/_, _^_, _≤_, _<_, min};
+ghost use lib.ListN.{getD};
 ghost use Rattle.flash.specs.Sector.{sectorBytes};
-ghost use Rattle.flash.specs.Bank.{startOf, hasSector, markedOf, sweptOne, WriteAt·Is, SectorBlank·Is, Sweep·Is};
-
-// As many marks as a session has: one for each sector of the largest bank.
-pub const MARKS: usize = 491;
+ghost use Rattle.flash.specs.Bank.{startOf, hasSector, sweptOne, WriteAt·Is, SectorBlank·Is, Sweep·Is};
 
 // Whether sector `k` lies within a bank of so many bytes.
 fn has_sector(bytes: usize, k: usize) -> bool
@@ -62,24 +61,34 @@ fn sweep_one(bank: &mut [u8], k: usize, received: bool)
     crate::sector::erase(&mut bank[from..from + SECTOR]);
 }
 
-// How many of the first `n` sectors have a mark.
-fn marked(n: usize) -> usize
-    ensures { λ r. ⌜ r ≡ markedOf n ⌝ }
+// How many of the first `n` sectors a bank of so many bytes has.
+fn had(bytes: usize, n: usize) -> usize
+    ensures { λ r. ⌜ r ≡ min n (bytes / sectorBytes) ⌝ }
 {
-    if n < MARKS {
+    if n < bytes / SECTOR {
         return n;
     }
-    MARKS
+    bytes / SECTOR
+}
+
+// What is said of sector `j + 1`; one of which nothing is said was not received.
+fn was_received(received: &[bool], j: usize) -> bool
+    ensures { λ r. ⌜ r ≡ getD (now (received .entry)) j false ⌝ }
+{
+    if j < received.len() {
+        return received[j];
+    }
+    false
 }
 
 // Each of sectors 1 to `n` that was not received is erased, blank or not.
-pub fn sweep(bank: &mut [u8], n: usize, received: [bool; MARKS])
-    ensures { λ _. ⌜ Sweep·Is (now (bank .entry)) n received (now (bank .exit)) ⌝ }
+pub fn sweep(bank: &mut [u8], n: usize, received: &[bool])
+    ensures { λ _. ⌜ Sweep·Is (now (bank .entry)) n (now (received .entry)) (now (bank .exit)) ⌝ }
 {
-    let last = marked(n);
+    let last = had(bank.len(), n);
     let mut j = 0;
     while j < last {
-        sweep_one(bank, j + 1, received[j]);
+        sweep_one(bank, j + 1, was_received(received, j));
         j += 1;
     }
 }

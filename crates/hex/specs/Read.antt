@@ -99,6 +99,9 @@ kindNumber H4 = 4
 kindNumber H5 = 5
 kindNumber H6 = 6
 
+abbrev pub KindNumber·Is : Kind → ℕ → Type 0
+KindNumber·Is kind r = r ≡ kindNumber kind
+
 abbrev pub answerNumber : Answer → ℕ
 answerNumber BadN = 3
 answerNumber BadLength = 2

@@ -1,9 +1,9 @@
 // One request line and its answer.
 use crate::banks;
 use crate::frames;
-use crate::say;
 use crate::sums;
-use crate::text;
+use script::say;
+use script::text;
 
 enum Word {
     Crc,

@@ -2,12 +2,12 @@
 ghost use Prim.Native.Nat.{_≤_};
 ghost use lib.ListN.{length};
 ghost use Rattle.io.specs.Counts.{Counts};
-use crate::say;
 use crate::sums;
-use crate::text;
 use bank::check::Verdict;
 use bank::layout::Bank;
 use bank::layout::Counted;
+use script::say;
+use script::text;
 
 const LARGEST_NUMBER: usize = 999_999;
 
@@ -28,7 +28,7 @@ fn say_layout(bank: Bank, n: usize) {
 }
 
 pub fn layout(fields: &[u8]) -> bool {
-    let n = text::decimal(text::rest(fields));
+    let n = text::decimal(text::rest(fields), 6);
     if n > LARGEST_NUMBER {
         return false;
     }
@@ -51,7 +51,7 @@ fn say_sectors(n: usize) {
 }
 
 pub fn sectors(fields: &[u8]) -> bool {
-    let length = text::decimal(fields);
+    let length = text::decimal(fields, 6);
     if length > LARGEST_NUMBER {
         return false;
     }
@@ -105,12 +105,12 @@ fn put_piece(bank: &mut [u8], piece: &[u8]) -> bool {
     if mark >= piece.len() {
         return false;
     }
-    let offset = text::decimal(&piece[..mark]);
+    let offset = text::decimal(&piece[..mark], 6);
     let behind = mark + 1;
     if piece[mark] == b':' {
         put_bytes(bank, offset, &piece[behind..])
     } else {
-        put_ramp(bank, offset, text::decimal(&piece[behind..]))
+        put_ramp(bank, offset, text::decimal(&piece[behind..], 6))
     }
 }
 
@@ -155,7 +155,7 @@ fn say_body(body: &[u8]) {
     } else {
         say::decimal(body.len());
         say::text(b" ");
-        say::quad(frame::crc::crc32(body));
+        say::quad(crc::crc32(body));
     }
     say::end();
 }
@@ -198,7 +198,11 @@ fn asked_by(fields: &[u8], ask: Ask) -> bool {
     if ends_in_blank(fields) {
         return false;
     }
-    asked_of(text::decimal(text::first(fields)), text::rest(fields), ask)
+    asked_of(
+        text::decimal(text::first(fields), 6),
+        text::rest(fields),
+        ask,
+    )
 }
 
 pub fn verdict(fields: &[u8]) -> bool {
@@ -206,7 +210,7 @@ pub fn verdict(fields: &[u8]) -> bool {
 }
 
 pub fn body(fields: &[u8]) -> bool {
-    let i = text::decimal(text::first(fields));
+    let i = text::decimal(text::first(fields), 6);
     if i > LARGEST_NUMBER {
         return false;
     }

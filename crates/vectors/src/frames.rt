@@ -1,8 +1,8 @@
 // The requests that read a frame or write one.
-use crate::say;
-use crate::text;
 use frame::read::Footer;
 use frame::read::Read;
+use script::say;
+use script::text;
 
 // What the reader says lies inside the datagram; nothing, should it not.
 fn part(datagram: &[u8], from: usize, count: usize) -> &[u8] {
@@ -30,13 +30,20 @@ fn say_length(length: usize) {
     }
 }
 
+fn say_footer(value: Footer) {
+    match value {
+        Footer::End => say::text(b"03"),
+        Footer::Continued => say::text(b"17"),
+    }
+}
+
 fn say_write(sector: u16, length: usize, footer: Footer, data: &[u8]) {
     say::text(b"write ");
     say::pair(sector);
     say::text(b" ");
     say_length(length);
     say::text(b" ");
-    say::footer(footer);
+    say_footer(footer);
     say::text(b" ");
     say::bytes(data);
     say::end();
@@ -100,7 +107,7 @@ pub fn control(fields: &[u8]) -> bool {
         return false;
     }
     let n = io::count(got, &bytes);
-    control_in(text::decimal(text::rest(later)), code as u8, &bytes[..n])
+    control_in(text::decimal(text::rest(later), 6), code as u8, &bytes[..n])
 }
 
 fn put_write(buffer: &mut [u8], sector: u16, data: &[u8], footer: Footer) {
@@ -121,7 +128,7 @@ fn write_in(room: usize, sector: u16, data: &[u8], footer: Footer) -> bool {
 // The last two fields are the footer and the room.
 fn write_footed(sector: u16, data: &[u8], fields: &[u8]) -> bool {
     let footer = text::number(text::first(fields), 2);
-    let room = text::decimal(text::rest(fields));
+    let room = text::decimal(text::rest(fields), 6);
     if footer == 0x03 {
         return write_in(room, sector, data, Footer::End);
     }
@@ -152,7 +159,7 @@ fn put_error(buffer: &mut [u8]) {
 }
 
 pub fn error(fields: &[u8]) -> bool {
-    let room = text::decimal(fields);
+    let room = text::decimal(fields, 6);
     if room > LARGEST_BUFFER {
         return false;
     }

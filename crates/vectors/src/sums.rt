@@ -1,7 +1,7 @@
 // The requests for a checksum or a CRC-32.
 ghost use Prim.Native.Nat.{_<_, _≤_};
-use crate::say;
-use crate::text;
+use script::say;
+use script::text;
 
 const LONGEST_RUN: usize = 300_000;
 
@@ -18,7 +18,7 @@ pub fn crc(fields: &[u8]) -> bool {
         return false;
     }
     let n = io::count(got, &bytes);
-    say_crc(frame::crc::crc32(&bytes[..n]));
+    say_crc(crc::crc32(&bytes[..n]));
     true
 }
 
@@ -34,7 +34,7 @@ pub fn more(fields: &[u8]) -> bool {
     }
     let n = io::count(got, &bytes);
     say::text(b"more ");
-    say::quad(frame::crc::crc_more(register as u32, &bytes[..n]));
+    say::quad(crc::crc_more(register as u32, &bytes[..n]));
     say::end();
     true
 }
@@ -92,7 +92,7 @@ fn crc_of(pattern: Pattern, count: usize) -> u32
     fill(&mut piece, pattern, 0);
     if count <= 65536 {
         let n = io::count(count as isize, &piece);
-        return frame::crc::crc32(&piece[..n]);
+        return crc::crc32(&piece[..n]);
     }
     !register_of(pattern, count)
 }
@@ -104,7 +104,7 @@ fn next_register(register: u32, pattern: Pattern, from: usize, count: usize) -> 
     let mut piece = [0u8; 65536];
     fill(&mut piece, pattern, from);
     let n = io::count(count as isize, &piece);
-    frame::crc::crc_more(register, &piece[..n])
+    crc::crc_more(register, &piece[..n])
 }
 
 fn register_of(pattern: Pattern, count: usize) -> u32
@@ -133,9 +133,12 @@ pub fn run(fields: &[u8]) -> bool {
     if byte > 255 {
         return false;
     }
-    long_crc(Pattern::Same(byte as u8), text::decimal(text::rest(fields)))
+    long_crc(
+        Pattern::Same(byte as u8),
+        text::decimal(text::rest(fields), 6),
+    )
 }
 
 pub fn ramp(fields: &[u8]) -> bool {
-    long_crc(Pattern::Ramp, text::decimal(fields))
+    long_crc(Pattern::Ramp, text::decimal(fields, 6))
 }

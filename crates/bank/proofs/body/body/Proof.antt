@@ -1,8 +1,8 @@
 -- `bank::body::body` meets its contract: each way out is a case of the definition.
 -- Assumes nothing.
 use native.Mathlib.Omega.{arith}
-use Rattle.bank.proofs.Tables.{contents, table-fits, entry-within}
-use Rattle.bank.proofs.Cases.{sound-contents, body-refused, body-unsound, body-past, body-is}
+use Rattle.bank.proofs.Tables.{table-fits, entry-within}
+use Rattle.bank.proofs.Cases.{sound-parts, body-refused, body-unsound, body-past, body-is}
 use borrow.Author.Needs.{needs}
 use Rattle.bank.proofs.body.body.Statement.{statement}
 use Rattle.bank.proofs.body.body.Tie as tie
@@ -26,7 +26,7 @@ enum-told-3 : tie.Need-enum-told-3
 enum-told-3 c = search needs
 
 count-requires : tie.Need-count-requires
-count-requires c κs = omega (arith, table-fits _ (contents _ (sound-contents _ _ ((c .before .before .check .ensures)) ((c .enum-told3 .given .1))) .table))
+count-requires c κs = omega (arith, table-fits _ (sound-parts _ _ ((c .before .before .check .ensures)) ((c .enum-told3 .given .1)) .table))
 
 entry-at-requires : tie.Need-entry-at-requires
 entry-at-requires c κs = search needs
@@ -41,7 +41,7 @@ part-result-start : tie.Need-part-result-start
 part-result-start c = search needs
 
 part-result-end : tie.Need-part-result-end
-part-result-end c = entry-within _ _ _ ((c .before .entry-at .ensures .is)) (omega (arith, (c .before .before .before .count .ensures .is))) (sound-contents _ _ ((c .before .before .before .before .before .before .check .ensures)) ((c .before .before .before .before .enum-told3 .given .1)))
+part-result-end c = entry-within _ _ _ ((c .before .entry-at .ensures .is)) (omega (arith, (c .before .before .before .count .ensures .is))) (sound-parts _ _ ((c .before .before .before .before .before .before .check .ensures)) ((c .before .before .before .before .enum-told3 .given .1)) .laid)
 
 slice-aggregate-result-3 : tie.Need-slice-aggregate-result-3
 slice-aggregate-result-3 c = search needs

@@ -5,6 +5,9 @@ use borrow.Author.Needs.{needs}
 use Rattle.client.proofs.record.Client.finish.Statement.{statement}
 use Rattle.client.proofs.record.Client.finish.Tie as tie
 
+slice-aggregate-sweep : tie.Need-slice-aggregate-sweep
+slice-aggregate-sweep c = search needs
+
 sweep-requires : tie.Need-sweep-requires
 sweep-requires c κs = search needs
 
@@ -21,7 +24,7 @@ same-length : tie.Need-same-length
 same-length c = search needs
 
 returns : tie.Need-returns
-returns c = finish-good ((c .before .before .before .before .before .before .before .before .before .before .before .args .self)) ((c .before .before .before .before .before .before .before .before .before .before .before .args .target .now)) _ ((c .before .before .before .before .before .before .before .sweep .ensures)) _ ((c .before .before .before .fit .ensures)) _ ((c .before .before .if1 .taken)) _ ((c .before .other .ensures)) ((c .ended .ensures))
+returns c = finish-good ((c .before .before .before .before .before .before .before .before .before .before .before .before .args .self)) ((c .before .before .before .before .before .before .before .before .before .before .before .before .args .target .now)) _ ((c .before .before .before .before .before .before .before .sweep .ensures)) _ ((c .before .before .before .fit .ensures)) _ ((c .before .before .if1 .taken)) _ ((c .before .other .ensures)) ((c .ended .ensures))
 
 ended-requires-2 : tie.Need-ended-requires-2
 ended-requires-2 c κs = search needs
@@ -30,12 +33,13 @@ same-length-2 : tie.Need-same-length-2
 same-length-2 c = search needs
 
 returns-2 : tie.Need-returns-2
-returns-2 c = finish-bad ((c .before .before .before .before .before .before .before .before .before .before .args .self)) ((c .before .before .before .before .before .before .before .before .before .before .args .target .now)) _ ((c .before .before .before .before .before .before .sweep .ensures)) _ ((c .before .before .fit .ensures)) _ ((c .before .if1 .left)) ((c .ended2 .ensures))
+returns-2 c = finish-bad ((c .before .before .before .before .before .before .before .before .before .before .before .args .self)) ((c .before .before .before .before .before .before .before .before .before .before .before .args .target .now)) _ ((c .before .before .before .before .before .before .sweep .ensures)) _ ((c .before .before .fit .ensures)) _ ((c .before .if1 .left)) ((c .ended2 .ensures))
 
 pub finish-spec : {M : Type 1} → statement M
 finish-spec =
     tie.close
     (tie.spec
+    slice-aggregate-sweep
     sweep-requires
     fit-requires
     other-requires

@@ -1,0 +1,97 @@
+// Hex text for bank 0 of 32 sectors, from standard input, as the sector packets that are sent of it: each one's sector and footer, and how
+// many they are.
+use bank::layout::Bank;
+use bank::layout::SECTOR;
+use hex::fault::Refusal;
+use hex::read::Answer;
+use libc::STDIN_FILENO;
+use script::say;
+use sender::made::Made;
+use sender::made::ROOM;
+use sender::packet::Tally;
+
+const N: usize = 32;
+
+const LONGEST_TEXT: usize = 49_152;
+
+// 32 is a number of sectors, and the image has as many: this is never said.
+fn say_refused(number: usize) {
+    say::refused(number);
+    say::end();
+}
+
+// Sector and footer as they stand in the packet: its second and third byte, and its last.
+fn say_packet(packet: &[u8]) {
+    let size = packet.len();
+    if size < 3 {
+        return;
+    }
+    let last = size - 1;
+    say::hex(&packet[1..3]);
+    say::text(b" ");
+    say::hex(&packet[last..]);
+    say::end();
+}
+
+fn say_made(buffer: &[u8], size: usize) {
+    if size <= buffer.len() {
+        let n = io::count(size as isize, buffer);
+        say_packet(&buffer[..n]);
+    }
+}
+
+fn list_one(image: &[u8], p: usize) {
+    let mut buffer = [0u8; ROOM];
+    match sender::packet::packet(image, N, p, &mut buffer) {
+        Made::BadN => say_refused(3),
+        Made::BadLength => say_refused(2),
+        Made::PastLast => say_refused(5),
+        Made::Frame(size) => say_made(&buffer, size),
+    }
+}
+
+fn list_all(image: &[u8], count: usize) {
+    let mut p = 0;
+    while p < count {
+        list_one(image, p);
+        p += 1;
+    }
+    say::text(b"sent ");
+    say::decimal(count);
+    say::end();
+}
+
+fn list(image: &[u8]) {
+    match sender::packet::count(image, N) {
+        Tally::BadN => say_refused(3),
+        Tally::BadLength => say_refused(2),
+        Tally::Packets(count) => list_all(image, count),
+    }
+}
+
+fn say_refusal(refusal: Refusal) {
+    let kind = refusal.kind;
+    say::refused_line(hex::fault::kind_number(kind) as usize, refusal.line);
+    say::end();
+}
+
+fn answer(text: &[u8]) {
+    let mut image = [0u8; SECTOR * N];
+    match hex::read::read(text, Bank::Zero, N, &mut image) {
+        Answer::BadN => say_refused(3),
+        Answer::BadLength => say_refused(2),
+        Answer::Refused(refusal) => say_refusal(refusal),
+        Answer::Accepted => list(&image),
+    }
+}
+
+// The room is a byte larger than the longest text, so that a longer one is seen to be so.
+fn main() {
+    let mut text = [0u8; LONGEST_TEXT + 1];
+    let size = io::read_full(STDIN_FILENO, &mut text);
+    if size > LONGEST_TEXT {
+        say::text(b"too long\n");
+        return;
+    }
+    answer(&text[..size]);
+}

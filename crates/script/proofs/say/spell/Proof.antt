@@ -1,0 +1,87 @@
+-- `script::say::spell` is safe and ends: two digits for each byte passed have room.
+-- Assumes nothing.
+use Prim.Native.Nat.{_≤_, _-_}
+use mathlib.Core.Path.{_≡_, sym}
+use native.Mathlib.Omega.{arith}
+use lib.ListN.{length, length-set}
+use lib.Seq.{length-take-le}
+use borrow.Author.Needs.{needs}
+use Rattle.script.proofs.say.spell.Statement.{statement}
+use Rattle.script.proofs.say.spell.Tie as tie
+
+abbrev Inv-loop : tie.InvT-loop
+Inv-loop bytes into₀ i₀ into i = (i ≤ length bytes) × (length into ≡ length into₀)
+
+abbrev μ-loop : tie.MeasureT-loop
+μ-loop bytes into₀ i₀ into i = length bytes - i
+
+returns : tie.Need-returns Inv-loop μ-loop
+returns c = search needs
+
+loop-holds : tie.Need-loop-holds Inv-loop μ-loop
+loop-holds c = search needs
+
+shared-slice-read-byte : tie.Need-shared-slice-read-byte Inv-loop μ-loop
+shared-slice-read-byte c = search needs
+
+digit-requires : tie.Need-digit-requires Inv-loop μ-loop
+digit-requires c κs = search needs
+
+mul-into : tie.Need-mul-into Inv-loop μ-loop
+mul-into c = search needs
+
+slice-write-into : tie.Need-slice-write-into Inv-loop μ-loop
+slice-write-into c = search needs
+
+digit-requires-2 : tie.Need-digit-requires-2 Inv-loop μ-loop
+digit-requires-2 c κs = search needs
+
+mul-into-2 : tie.Need-mul-into-2 Inv-loop μ-loop
+mul-into-2 c = search needs
+
+add-into : tie.Need-add-into Inv-loop μ-loop
+add-into c = search needs
+
+slice-write-into-2 : tie.Need-slice-write-into-2 Inv-loop μ-loop
+slice-write-into-2 c = simp length-set (omega arith)
+
+add-i : tie.Need-add-i Inv-loop μ-loop
+add-i c = search needs
+
+loop-less : tie.Need-loop-less Inv-loop μ-loop
+loop-less c = search needs
+
+loop-again : tie.Need-loop-again Inv-loop μ-loop
+loop-again c = (omega arith, simp (length-set, length-set) (search needs))
+
+mul-result : tie.Need-mul-result Inv-loop μ-loop
+mul-result c = search needs
+
+same-length : tie.Need-same-length Inv-loop μ-loop
+same-length c = search needs
+
+returns-2 : tie.Need-returns-2 Inv-loop μ-loop
+returns-2 c = (search needs, sym (length-take-le _ _ (search needs)))
+
+pub spell-spec : {M : Type 1} → statement M
+spell-spec =
+    tie.close
+    (tie.spec
+    Inv-loop
+    μ-loop
+    returns
+    loop-holds
+    shared-slice-read-byte
+    digit-requires
+    mul-into
+    slice-write-into
+    digit-requires-2
+    mul-into-2
+    add-into
+    slice-write-into-2
+    add-i
+    loop-less
+    loop-again
+    mul-result
+    same-length
+    returns-2)

@@ -1,0 +1,113 @@
+// What is written to standard output.
+ghost use Prim.Native.Nat.{_<_, _≤_};
+ghost use Rattle.io.specs.Counts.{Counts};
+use libc::STDOUT_FILENO;
+
+pub fn text(words: &[u8]) {
+    io::write_all(STDOUT_FILENO, words);
+}
+
+pub fn no_request() {
+    text(b"?\n");
+}
+
+pub fn end() {
+    text(b"\n");
+}
+
+// The digit of a number's last place.
+fn digit(number: u8) -> u8 {
+    let value = number % 16;
+    if value < 10 {
+        b'0' + value
+    } else {
+        b'A' + (value - 10)
+    }
+}
+
+const LARGEST_PIECE: usize = 2048;
+
+// The bytes' digits to the front of `into`, and how many they are; none where they have no room.
+fn spell(bytes: &[u8], into: &mut [u8]) -> usize
+    ensures { λ r. ⌜ Counts r (now (into .exit)) ⌝ }
+{
+    if bytes.len() > into.len() / 2 {
+        return 0;
+    }
+    let mut i = 0;
+    while i < bytes.len() {
+        let byte = bytes[i];
+        into[2 * i] = digit(byte / 16);
+        into[2 * i + 1] = digit(byte);
+        i += 1;
+    }
+    2 * i
+}
+
+fn hex_piece(bytes: &[u8]) {
+    let mut digits = [0u8; 2 * LARGEST_PIECE];
+    let n = spell(bytes, &mut digits);
+    text(&digits[..n]);
+}
+
+// How much of what is left goes into one piece.
+fn piece_of(left: usize) -> usize
+    requires { ⌜ 0 < left ⌝ }
+    ensures { λ r. ⌜ (0 < r) × (r ≤ left) ⌝ }
+{
+    if left < LARGEST_PIECE {
+        left
+    } else {
+        LARGEST_PIECE
+    }
+}
+
+pub fn hex(bytes: &[u8]) {
+    let mut done = 0;
+    while done < bytes.len() {
+        let end = done + piece_of(bytes.len() - done);
+        hex_piece(&bytes[done..end]);
+        done = end;
+    }
+}
+
+pub fn bytes(all: &[u8]) {
+    if all.len() == 0 {
+        text(b"-");
+    } else {
+        hex(all);
+    }
+}
+
+pub fn byte(value: u8) {
+    let one = [value];
+    hex(&one);
+}
+
+pub fn pair(value: u16) {
+    let two = [(value / 256) as u8, (value % 256) as u8];
+    hex(&two);
+}
+
+pub fn quad(value: u32) {
+    pair((value / 65536) as u16);
+    pair((value % 65536) as u16);
+}
+
+pub fn decimal(value: usize) {
+    io::print_decimal(STDOUT_FILENO, value as u64);
+}
+
+// The paper's number of a refusal.
+pub fn refused(number: usize) {
+    text(b"refused ");
+    decimal(number);
+}
+
+// The same of a hex text: its fault, H1 to H6, and the line.
+pub fn refused_line(fault: usize, line: usize) {
+    text(b"refused H");
+    decimal(fault);
+    text(b" line ");
+    decimal(line);
+}
