@@ -64,7 +64,7 @@ use Rattle.demands.proofs.Steps.{machine-stays, zero-kept, one-kept}
 
 module _ (b : Board) (call : Call) (good : goodN (b .client .n) ≡ true) (l : Lends (b .client .n) call)
     (zero-size : length (b .bank0) ≡ b .client .n * sectorSize) (one-size : length (b .bank1) ≡ b .client .n * sectorSize) where
-  heard : isClosed (b .client .state) ≡ false → Heard b call
+  pub heard : isClosed (b .client .state) ≡ false → Heard b call
   heard live =
       let n : ℕ = b .client .n in
       let z : length (take (call .lent0) (b .bank0)) ≡ n * sectorSize =
@@ -87,10 +87,10 @@ no-mark (suc n) = no-mark n
 
 -- ---- what was said
 
-said-back : (call : Call) (answer : List ℕ) → length answer ≤ 14 → 14 ≤ length (call .buffer) → take (length answer) (frontOf (call .buffer) answer) ≡ answer
+pub said-back : (call : Call) (answer : List ℕ) → length answer ≤ 14 → 14 ≤ length (call .buffer) → take (length answer) (frontOf (call .buffer) answer) ≡ answer
 said-back call answer s r = front-take (call .buffer) answer (omega arith)
 
-control-short : (code result : ℕ) → length (controlFrame code (result ∷ [])) ≤ 14
+pub control-short : (code result : ℕ) → length (controlFrame code (result ∷ [])) ≤ 14
 unfolding answerBytes
 control-short code result = answer-short (Response code result)
 
@@ -374,16 +374,43 @@ module _ (n : ℕ) (running : Bank) (good : goodN n ≡ true) (image : List ℕ)
         whole-next Zero = omega (arith, own-size _ (busy .one-size), one-kept b (Datagram call))
         whole-next One = omega (arith, own-size _ (busy .zero-size), zero-kept b (Datagram call))
 
+-- the board behind the end: in control state, and the session ended with 06
+pub record Over (b : Board) (n : ℕ) : Type 0 where
+  pub sectors : b .client .n ≡ n
+  pub control : b .client .state ≡ state.Control
+  pub latest : b .client .latest ≡ Good
+  pub zero-size : length (b .bank0) ≡ n * sectorSize
+  pub one-size : length (b .bank1) ≡ n * sectorSize
+
+module _ (b : Board) (image : List ℕ) (ready : Ready b) (fit : Fit image (b .client .n)) (start : Call) (ps : List ℕ) (is : List Input) (end : Call)
+    (d : Delivery b image start ps is end) where
+  all : Busy (b .client .n) (b .client .running) (after stepMachine b (Datagram start ∷ is)) image
+      × AllTaken image (b .client .n) ps (outcomes stepMachine (stepMachine b (Datagram start) .board) is)
+  all =
+      deliver (b .client .n) (b .client .running) (ready .good) image (fit .size) (d .packets) (stepMachine b (Datagram start) .board) (allBlank (b .client .n))
+      (begun-busy b ready start (d .start-sent) (d .start-lends)) (due-first (b .client .n) (b .client .running) (ready .good) image (fit .size) ps (d .each))
+
+  pub over : Over (stepMachine (after stepMachine b (Datagram start ∷ is)) (Datagram end) .board) (b .client .n)
+  over =
+      let last : Board = after stepMachine b (Datagram start ∷ is) in
+      let e = ended-is (b .client .n) (b .client .running) (ready .good) image (fit .size) last (all .0) (fit .sound) end (d .end-sent) (d .end-lends) in
+      record {
+        sectors = machine-stays last (Datagram end) .sectors ∙ all .0 .sectors;
+        control = ap (λ (o : Outcome). o .board .client .state) e;
+        latest = ap (λ (o : Outcome). o .board .client .latest) e;
+        zero-size = zero-kept last (Datagram end) ∙ all .0 .zero-size;
+        one-size = one-kept last (Datagram end) ∙ all .0 .one-size;
+      }
+
 pub demand2 : Meets2 stepMachine
 demand2 b image ready fit start ps is end d =
     let n : ℕ = b .client .n in
     let running : Bank = b .client .running in
-    let all = deliver n running (ready .good) image (fit .size) (d .packets) (stepMachine b (Datagram start) .board) (allBlank n)
-    (begun-busy b ready start (d .start-sent) (d .start-lends)) (due-first n running (ready .good) image (fit .size) ps (d .each)) in
+    let done = all b image ready fit start ps is end d in
     record {
       started = begun-said b ready start (d .start-sent) (d .start-lends) ∙ start-bytes;
-      taken = all .1;
-      ended = ended-said n running (ready .good) image (fit .size) _ (all .0) (fit .sound) end (d .end-sent) (d .end-lends);
-      bank = ended-bank n running (ready .good) image (fit .size) _ (all .0) (fit .sound) end (d .end-sent) (d .end-lends);
-      next = ended-next n running (ready .good) image (fit .size) _ (all .0) (fit .sound) end (d .end-sent) (d .end-lends);
+      taken = done .1;
+      ended = ended-said n running (ready .good) image (fit .size) _ (done .0) (fit .sound) end (d .end-sent) (d .end-lends);
+      bank = ended-bank n running (ready .good) image (fit .size) _ (done .0) (fit .sound) end (d .end-sent) (d .end-lends);
+      next = ended-next n running (ready .good) image (fit .size) _ (done .0) (fit .sound) end (d .end-sent) (d .end-lends);
     }

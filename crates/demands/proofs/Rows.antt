@@ -14,16 +14,17 @@ use Rattle.frame.specs.declared.read.Footer.{Footer}
 use Rattle.frame.specs.declared.read.Read.{Read}
 use Rattle.frame.specs.declared.read.Read.the-variants.{Fault, Control, Write}
 use Rattle.bank.specs.Layout.{sectorSize, goodN, otherOf}
+use Rattle.client.specs.declared.answer.Kind.the-variants.{Started, Ended}
 use Rattle.client.specs.declared.record.Latest.the-variants.{Good}
 use Rattle.client.specs.declared.record.State.{State}
 use Rattle.client.specs.declared.record.State.the-variants as state
 use Rattle.client.specs.Host.{isClosed}
-use Rattle.client.specs.Notice.{noNotice}
+use Rattle.client.specs.Notice.{noNotice, noticeWith, latestNumber}
 use Rattle.client.specs.Perform.{fitOf}
 use Rattle.client.specs.Plan.{lentGood, isWorn, anyWorn, valuesGood, addressesGood}
-use Rattle.client.specs.Record.{begun, ended}
-use Rattle.demands.specs.Board.{Board, Call, Input, Datagram, Outcome, stepMachine}
-use Rattle.demands.specs.Demand1.{firstOf, tableOf, changed, stored, packetStored, sweptTarget, acceptedIn, takesPackets}
+use Rattle.client.specs.Record.{initiated, opened, closed, begun, ended}
+use Rattle.demands.specs.Board.{Board, Call, Input, Initiate, Datagram, Outcome, stepMachine}
+use Rattle.demands.specs.Demand1.{firstOf, tableOf, hostDone, changed, stored, packetStored, sweptTarget, acceptedIn, takesPackets}
 use Rattle.demands.proofs.Demand1.{table}
 
 given : Outcome → Option Outcome → Outcome
@@ -61,3 +62,19 @@ module _ (b : Board) (call : Call) (h : Heard b call) where
   write-end s r w f =
       let t : acceptedIn (b .client .state) 0x45 ≡ true = ap (λ (x : State). acceptedIn x 0x45) s in
       comes b (Datagram call) _ (rw (h .good, h .lengths, h .live, r, t, w, f))
+
+  pub mode-start : b .client .state ≡ state.Idle → readOf (call .datagram) ≡ Control 0x61 0
+      → stepMachine b (Datagram call) ≡ changed b call (opened (b .client)) (noticeWith Started 0 (call .address)) (controlFrame 0x71 (0x06 ∷ []))
+  mode-start s r =
+      let t : acceptedIn (b .client .state) 0x61 ≡ true = ap (λ (x : State). acceptedIn x 0x61) s in
+      comes b (Datagram call) _ (rw (h .good, h .lengths, h .live, r, t))
+
+  pub mode-end : b .client .state ≡ state.Control → readOf (call .datagram) ≡ Control 0x64 0
+      → stepMachine b (Datagram call) ≡ changed b call (closed (b .client)) (noticeWith Ended (latestNumber (b .client .latest)) (call .address)) (controlFrame 0x74 (0x06 ∷ []))
+  mode-end s r =
+      let t : acceptedIn (b .client .state) 0x64 ≡ true = ap (λ (x : State). acceptedIn x 0x64) s in
+      comes b (Datagram call) _ (rw (h .good, h .lengths, h .live, r, t))
+
+-- a host command on a closed client
+pub initiate : (b : Board) → goodN (b .client .n) ≡ true → isClosed (b .client .state) ≡ true → stepMachine b Initiate ≡ hostDone b (initiated (b .client))
+initiate b g s = comes b Initiate _ (rw (g, s))
