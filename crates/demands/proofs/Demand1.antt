@@ -5,10 +5,8 @@ use mathlib.Core.Bool.{Bool, true, false, not, _&&_, cond, false≢true}
 use mathlib.Core.List.{List, [], _∷_, _++_}
 use mathlib.Core.Option.{Option, some}
 use Prim.Native.Nat.{ℕ, _+_, _-_, _*_}
-use native.Mathlib.Omega.{arith}
 use lib.Dec.{eqb}
-use lib.ListN.{length, getD, take, drop, length-drop, take-append-drop}
-use lib.Seq.{length-take-le}
+use lib.ListN.{length, getD, take, take-append-drop}
 use borrow.Author.Tests.{eqb-true}
 use Rattle.buffer.specs.Compare.{sameOf, blankOf}
 use Rattle.buffer.specs.Place.{frontOf}
@@ -19,7 +17,6 @@ use Rattle.frame.specs.Read.{readOf, writtenOf}
 use Rattle.frame.specs.declared.read.Footer.{Footer}
 use Rattle.frame.specs.declared.read.Read.{Read}
 use Rattle.frame.specs.declared.read.Read.the-variants.{Fault, Control, Write}
-use Rattle.frame.proofs.Told.{Told, told}
 use Rattle.flash.specs.Bank.{sectorOf, withSector, writtenAt, alreadyAt}
 use Rattle.flash.specs.Sector.{paddedOf}
 use Rattle.flash.proofs.Writes.{FitsAt, written-here, already-same}
@@ -49,6 +46,7 @@ use Rattle.client.proofs.Stepping.{whole-target}
 use Rattle.demands.specs.Board.{Board, board, Call, Input, Initiate, Terminate, Datagram, Outcome, after, runningBank, backIn, answerNumber, lentTarget, callOutcome, called, stepMachine}
 use Rattle.demands.specs.Demand1.{firstOf, isFault, refused, changed, answered, stored, afterFrame, callRows, tableOf, sweptTarget, Kept, Meets1}
 use Rattle.demands.proofs.Sessions.{written-with}
+use Rattle.demands.proofs.Storing.{storing}
 use Rattle.demands.proofs.Steps.{run-stays, run-running}
 
 -- ---- what came of a call, as the rows put it
@@ -270,14 +268,6 @@ module _ (n : ℕ) (running next : Bank) (latest : Latest) (major minor revision
 
   module _ (sector m : ℕ) (footer : Footer) (reads : readOf (call .datagram) ≡ Write sector m footer) (good : goodN n ≡ true)
       (whole : length (lentTarget (at state.Write) call) ≡ n * sectorSize) where
-    sent : length (writtenOf (call .datagram) m) ≡ m
-    sent = by (readOf (call .datagram)) reads (told (call .datagram))
-      where
-        by : (r : Read) → r ≡ Write sector m footer → Told (call .datagram) r → length (writtenOf (call .datagram) m) ≡ m
-        by r e t =
-            let w = subst (Told (call .datagram)) e t in
-            length-take-le m (drop 5 (call .datagram)) (omega (arith, length-drop 5 (call .datagram), w .whole))
-
     abbrev bytes : List ℕ
     bytes = writtenOf (call .datagram) m
 
@@ -287,7 +277,7 @@ module _ (n : ℕ) (running next : Bank) (latest : Latest) (major minor revision
     fits : valuesGood n sector m ≡ true → FitsAt before sector bytes
     fits v =
         fits-stored (c state.Write) before (call .datagram) sector m
-        (record { footer = footer; reads = reads; sent = sent; writing = refl; good = good; whole = whole; values = v })
+        (storing (c state.Write) (length before) (call .datagram) sector m footer reads refl good whole v)
 
     packet : (s : State) (v w : Bool) → valuesGood n sector m ≡ v → isWorn (getD (call .marks) (sector - 1) 0) ≡ w → isClosed s ≡ false → Holds s (Write sector m footer)
     unfolding askedBy planAsked planCommand planGood planPacket carriedOf servedOf storeOf answerBytes

@@ -94,9 +94,9 @@ pub control-short : (code result : ℕ) → length (controlFrame code (result �
 unfolding answerBytes
 control-short code result = answer-short (Response code result)
 
-written-short : (sector write crc : ℕ) → length (writeFrame sector (writtenBytes 0x06 write crc) End) ≤ 14
+pub written-short : (sector result write crc : ℕ) → length (writeFrame sector (writtenBytes result write crc) End) ≤ 14
 unfolding answerBytes
-written-short sector write crc = answer-short (Written sector 0x06 write crc)
+written-short sector result write crc = answer-short (Written sector result write crc)
 
 -- ---- sectors of an image
 
@@ -229,7 +229,7 @@ module _ (n : ℕ) (running : Bank) (good : goodN n ≡ true) (image : List ℕ)
     stored-said =
         ap said stored-is
         ∙ said-back call (writeFrame k (writtenBytes 0x06 result (crcOf (paddedOf (writtenOf (call .datagram) 512)))) End)
-        (written-short k result (crcOf (paddedOf (writtenOf (call .datagram) 512)))) (l .room)
+        (written-short k 0x06 result (crcOf (paddedOf (writtenOf (call .datagram) 512)))) (l .room)
         ∙ ap (λ (s : List ℕ). writeFrame k (writtenBytes 0x06 result (crcOf s)) End) padded-are
 
     pub taken : Taken image n p (stepMachine b (Datagram call))

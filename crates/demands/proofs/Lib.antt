@@ -3,9 +3,11 @@ pub mod Bytes
 pub mod Demand1
 pub mod Demand2
 pub mod Demand3
+pub mod Examples
 pub mod Fresh
 pub mod Lending
 pub mod Rows
 pub mod Sessions
 pub mod Steps
+pub mod Storing
 pub mod Witness

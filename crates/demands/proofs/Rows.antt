@@ -8,9 +8,10 @@ use Prim.Native.Nat.{ℕ, _-_, _*_, _≤_}
 use lib.ListN.{length, getD, take}
 use lib.Seq.{take-all}
 use borrow.Author.Tests.{le-leb}
-use Rattle.frame.specs.Frame.{controlFrame}
+use Rattle.frame.specs.Frame.{controlFrame, writeFrame, frameError}
 use Rattle.frame.specs.Read.{readOf}
 use Rattle.frame.specs.declared.read.Footer.{Footer}
+use Rattle.frame.specs.declared.read.Footer.the-variants.{End}
 use Rattle.frame.specs.declared.read.Read.{Read}
 use Rattle.frame.specs.declared.read.Read.the-variants.{Fault, Control, Write}
 use Rattle.bank.specs.Layout.{sectorSize, goodN, otherOf}
@@ -18,13 +19,14 @@ use Rattle.client.specs.declared.answer.Kind.the-variants.{Started, Ended}
 use Rattle.client.specs.declared.record.Latest.the-variants.{Good}
 use Rattle.client.specs.declared.record.State.{State}
 use Rattle.client.specs.declared.record.State.the-variants as state
+use Rattle.client.specs.Answer.{writtenBytes}
 use Rattle.client.specs.Host.{isClosed}
 use Rattle.client.specs.Notice.{noNotice, noticeWith, latestNumber}
 use Rattle.client.specs.Perform.{fitOf}
 use Rattle.client.specs.Plan.{lentGood, isWorn, anyWorn, valuesGood, addressesGood}
 use Rattle.client.specs.Record.{initiated, opened, closed, begun, ended}
 use Rattle.demands.specs.Board.{Board, Call, Input, Initiate, Datagram, Outcome, stepMachine}
-use Rattle.demands.specs.Demand1.{firstOf, tableOf, hostDone, changed, stored, packetStored, sweptTarget, acceptedIn, takesPackets}
+use Rattle.demands.specs.Demand1.{firstOf, tableOf, isRequest, hostDone, answered, changed, stored, packetStored, sweptTarget, acceptedIn, takesPackets}
 use Rattle.demands.proofs.Demand1.{table}
 
 given : Outcome → Option Outcome → Outcome
@@ -74,6 +76,21 @@ module _ (b : Board) (call : Call) (h : Heard b call) where
   mode-end s r =
       let t : acceptedIn (b .client .state) 0x64 ≡ true = ap (λ (x : State). acceptedIn x 0x64) s in
       comes b (Datagram call) _ (rw (h .good, h .lengths, h .live, r, t))
+
+  -- refusals
+  pub fault : readOf (call .datagram) ≡ Fault → stepMachine b (Datagram call) ≡ answered b call frameError
+  fault r = comes b (Datagram call) _ (rw (h .good, h .lengths, h .live, r))
+
+  pub no-request : (code n : ℕ) → readOf (call .datagram) ≡ Control code n → isRequest code ≡ false
+      → stepMachine b (Datagram call) ≡ answered b call (controlFrame 0xE0 (0x05 ∷ []))
+  no-request code n r e = comes b (Datagram call) _ (rw (h .good, h .lengths, h .live, r, e))
+
+  pub packet-wrong : (sector m : ℕ) (footer : Footer) → b .client .state ≡ state.Write → readOf (call .datagram) ≡ Write sector m footer
+      → valuesGood (b .client .n) sector m ≡ false
+      → stepMachine b (Datagram call) ≡ answered b call (writeFrame sector (writtenBytes 0x05 0x05 0) End)
+  packet-wrong sector m footer s r v =
+      let t : takesPackets (b .client .state) ≡ true = ap takesPackets s in
+      comes b (Datagram call) _ (rw (h .good, h .lengths, h .live, r, t, v))
 
 -- a host command on a closed client
 pub initiate : (b : Board) → goodN (b .client .n) ≡ true → isClosed (b .client .state) ≡ true → stepMachine b Initiate ≡ hostDone b (initiated (b .client))
