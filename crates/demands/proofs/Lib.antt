@@ -7,8 +7,10 @@ pub mod Determined
 pub mod Examples
 pub mod Fresh
 pub mod Lending
+pub mod Reading
 pub mod Rows
 pub mod Sessions
 pub mod Steps
 pub mod Storing
+pub mod Text
 pub mod Witness

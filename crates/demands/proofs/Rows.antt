@@ -29,12 +29,11 @@ use Rattle.demands.specs.Board.{Board, Call, Input, Initiate, Datagram, 
 use Rattle.demands.specs.Demand1.{firstOf, tableOf, isRequest, hostDone, answered, changed, stored, packetStored, sweptTarget, acceptedIn, takesPackets}
 use Rattle.demands.proofs.Demand1.{table}
 
-given : Outcome → Option Outcome → Outcome
+abbrev pub given : Outcome → Option Outcome → Outcome
 given o none = o
 given o (some p) = p
 
-comes : (b : Board) (i : Input) (o : Outcome) → firstOf (tableOf b i) ≡ some o → stepMachine b i ≡ o
-unfolding given
+pub comes : (b : Board) (i : Input) (o : Outcome) → firstOf (tableOf b i) ≡ some o → stepMachine b i ≡ o
 comes b i o e = ap (given o) (sym (table b i) ∙ e)
 
 -- a call that is not refused: N, the lengths, the state
