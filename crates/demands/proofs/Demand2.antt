@@ -80,7 +80,7 @@ module _ (b : Board) (call : Call) (good : goodN (b .client .n) ≡ true) (l : L
         live = live;
       }
 
-no-mark : (n : ℕ) → anyWorn (replicate n 0) ≡ false
+pub no-mark : (n : ℕ) → anyWorn (replicate n 0) ≡ false
 unfolding anyWorn
 no-mark zero = refl
 no-mark (suc n) = no-mark n
@@ -143,22 +143,22 @@ goes-on n running b image now i en er z o shows w e =
 
 -- ---- the start
 
-begins-blank : (n : ℕ) (image datagram : List ℕ) → exchanged n image datagram (controlFrame 0x70 (0x06 ∷ [])) ≡ allBlank n
+pub begins-blank : (n : ℕ) (image datagram : List ℕ) → exchanged n image datagram (controlFrame 0x70 (0x06 ∷ [])) ≡ allBlank n
 unfolding answerBytes
 begins-blank n image datagram = rw response-begin
 
 module _ (b : Board) (r : Ready b) (call : Call) (sent : call .datagram ≡ requestFrame (WriteStart (otherOf (b .client .running)) (b .client .n)))
     (l : Lends (b .client .n) call) where
-  begun-is : stepMachine b (Datagram call) ≡ changed b call (begun (b .client)) noNotice (controlFrame 0x70 (0x06 ∷ []))
+  pub begun-is : stepMachine b (Datagram call) ≡ changed b call (begun (b .client)) noNotice (controlFrame 0x70 (0x06 ∷ []))
   begun-is =
       write-start b call (heard b call (r .good) l (r .zero) (r .one) (ap isClosed (r .control))) (r .control)
       (ap readOf sent ∙ start-read (otherOf (b .client .running)) (b .client .n))
       (ap (addressesGood (b .client)) sent ∙ start-addressed (b .client) (r .good))
 
-  begun-said : said (stepMachine b (Datagram call)) ≡ controlFrame 0x70 (0x06 ∷ [])
+  pub begun-said : said (stepMachine b (Datagram call)) ≡ controlFrame 0x70 (0x06 ∷ [])
   begun-said = ap said begun-is ∙ said-back call (controlFrame 0x70 (0x06 ∷ [])) (control-short 0x70 0x06) (l .room)
 
-  begun-busy : Busy (b .client .n) (b .client .running) (stepMachine b (Datagram call) .board) (allBlank (b .client .n))
+  pub begun-busy : Busy (b .client .n) (b .client .running) (stepMachine b (Datagram call) .board) (allBlank (b .client .n))
   begun-busy =
       goes-on (b .client .n) (b .client .running) b (allBlank (b .client .n)) (allBlank (b .client .n)) (Datagram call) refl refl (r .zero) (r .one)
       (λ w. absurd (not-write state.Control refl (sym (r .control) ∙ w)))
@@ -213,7 +213,7 @@ module _ (n : ℕ) (running : Bank) (good : goodN n ≡ true) (image : List ℕ)
     size-is : (x : ℕ) → x ≡ n * sectorSize → x ≡ b .client .n * sectorSize
     size-is x e = e ∙ ap (λ (y : ℕ). y * sectorSize) (sym (busy .sectors))
 
-    stored-is : stepMachine b (Datagram call) ≡ packetStored b call (Write k 512 (footerOf (packetCount image n) p))
+    pub stored-is : stepMachine b (Datagram call) ≡ packetStored b call (Write k 512 (footerOf (packetCount image n) p))
     stored-is =
         packet b call
         (heard b call (ap goodN (busy .sectors) ∙ good) own (size-is _ (busy .zero-size)) (size-is _ (busy .one-size)) (ap isClosed (busy .writing)))

@@ -10,6 +10,7 @@ pub mod Lending
 pub mod Reading
 pub mod Rows
 pub mod Sessions
+pub mod ShutOut
 pub mod Steps
 pub mod Storing
 pub mod Text

@@ -16,7 +16,7 @@ use Rattle.frame.specs.declared.read.Read.{Read}
 use Rattle.frame.specs.declared.read.Read.the-variants.{Fault, Control, Write}
 use Rattle.bank.specs.Layout.{sectorSize, goodN, otherOf}
 use Rattle.client.specs.declared.answer.Kind.the-variants.{Started, Ended}
-use Rattle.client.specs.declared.record.Latest.the-variants.{Good}
+use Rattle.client.specs.declared.record.Latest.the-variants.{Good, Otherwise}
 use Rattle.client.specs.declared.record.State.{State}
 use Rattle.client.specs.declared.record.State.the-variants as state
 use Rattle.client.specs.Answer.{writtenBytes}
@@ -61,6 +61,12 @@ module _ (b : Board) (call : Call) (h : Heard b call) where
   pub write-end : b .client .state ≡ state.Write → readOf (call .datagram) ≡ Control 0x45 0 → anyWorn (call .marks) ≡ false → fitOf (sweptTarget b call) ≡ true
       → stepMachine b (Datagram call) ≡ stored b call (ended (b .client) Good (otherOf (b .client .running))) (sweptTarget b call) (controlFrame 0x75 (0x06 ∷ []))
   write-end s r w f =
+      let t : acceptedIn (b .client .state) 0x45 ≡ true = ap (λ (x : State). acceptedIn x 0x45) s in
+      comes b (Datagram call) _ (rw (h .good, h .lengths, h .live, r, t, w, f))
+
+  pub write-end-unsound : b .client .state ≡ state.Write → readOf (call .datagram) ≡ Control 0x45 0 → anyWorn (call .marks) ≡ false → fitOf (sweptTarget b call) ≡ false
+      → stepMachine b (Datagram call) ≡ stored b call (ended (b .client) Otherwise (b .client .next)) (sweptTarget b call) (controlFrame 0x75 (0x1E ∷ []))
+  write-end-unsound s r w f =
       let t : acceptedIn (b .client .state) 0x45 ≡ true = ap (λ (x : State). acceptedIn x 0x45) s in
       comes b (Datagram call) _ (rw (h .good, h .lengths, h .live, r, t, w, f))
 

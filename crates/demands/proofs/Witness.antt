@@ -31,20 +31,20 @@ image =
     (0x04 ∷ 0x00 ∷ 0x01 ∷ 0x01 ∷ 0x00 ∷ 0x00 ∷ 0x02 ∷ 0x58 ∷ 0x00 ∷ 0x00 ∷ 0x00 ∷ 0x04 ∷ 0xB6 ∷ 0x3C ∷ 0xFB ∷ 0xCD ∷ 0x47 ∷ 0x19 ∷ 0x21 ∷ 0x7B ∷ [])
     ++ replicate 580 0xFF ++ (0x01 ∷ 0x02 ∷ 0x03 ∷ 0x04 ∷ []) ++ replicate 420 0xFF
 
-image-size : length image ≡ 1024
+pub image-size : length image ≡ 1024
 unfolding image
 image-size = refl
 
-image-fit : fitOf image ≡ true
+pub image-fit : fitOf image ≡ true
 unfolding image verdictOf wholeLength goodN soundOf headerGood tableGood listedGood laidOutGood bodiesGood blankGood bodyGood allGood laidOut fitsAt blankOutside entryAt entriesFrom restOf stretchesOf blankOf numberAt numberOf crcOf crcMore crcByte crcBits crcBit feed
 image-fit = refl
 
-two-packets : packetCount image 2 ≡ 2
+pub two-packets : packetCount image 2 ≡ 2
 unfolding image sentOf sectorOf sectorOffset goodN blankOf
 two-packets = refl
 
 -- banks of zeros
-pub witness-board : Board
+unfoldable pub witness-board : Board
 witness-board =
     record {
       client = record {
@@ -62,10 +62,10 @@ witness-board =
       bank1 = replicate 1024 0;
     }
 
-pub calling : List ℕ → Call
+unfoldable pub calling : List ℕ → Call
 calling datagram = record { datagram = datagram; address = replicate 16 0; marks = replicate 2 0; buffer = replicate 14 0; lent0 = 1024; lent1 = 1024 }
 
-lends : (datagram : List ℕ) → Lends 2 (calling datagram)
+pub lends : (datagram : List ℕ) → Lends 2 (calling datagram)
 unfolding calling
 lends datagram =
     record {
@@ -76,10 +76,10 @@ lends datagram =
       one = refl;
     }
 
-pub order : List ℕ
+unfoldable pub order : List ℕ
 order = 1 ∷ 0 ∷ 1 ∷ []
 
-pub sending : List Input
+unfoldable pub sending : List Input
 sending = Datagram (calling (packetFrame image 2 1)) ∷ Datagram (calling (packetFrame image 2 0)) ∷ Datagram (calling (packetFrame image 2 1)) ∷ []
 
 each-sent : (p : ℕ) → p < 2 → List·Memᴰ p order
@@ -88,7 +88,7 @@ each-sent zero h = List·Memᴰ·tail (List·Memᴰ·head refl)
 each-sent (suc zero) h = List·Memᴰ·head refl
 each-sent (suc (suc p)) h = absurd (omega arith)
 
-delivery : Delivery witness-board image (calling (requestFrame (WriteStart One 2))) order sending (calling (requestFrame WriteEnd))
+pub delivery : Delivery witness-board image (calling (requestFrame (WriteStart One 2))) order sending (calling (requestFrame WriteEnd))
 unfolding witness-board calling order sending
 delivery =
     record {
@@ -103,7 +103,7 @@ delivery =
       end-lends = lends (requestFrame WriteEnd);
     }
 
-ready : Ready witness-board
+pub ready : Ready witness-board
 unfolding witness-board goodN
 ready = record { good = refl; control = refl; zero = length-replicate {A = ℕ} 1024 0; one = length-replicate {A = ℕ} 1024 0 }
 

@@ -7,3 +7,4 @@ pub mod EndToEnd
 pub mod Examples
 pub mod Fresh
 pub mod Session
+pub mod ShutOut
