@@ -7,6 +7,7 @@ pub mod Determined
 pub mod Examples
 pub mod Fresh
 pub mod Lending
+pub mod Packets
 pub mod Reading
 pub mod Rows
 pub mod Sessions
@@ -14,4 +15,5 @@ pub mod ShutOut
 pub mod Steps
 pub mod Storing
 pub mod Text
+pub mod Texts
 pub mod Witness

@@ -177,7 +177,7 @@ blank-first : getD blankSector 0 0 ≡ 0xFF
 unfolding blankSector
 blank-first = refl
 
-sectorIn : Read → ℕ
+unfoldable pub sectorIn : Read → ℕ
 sectorIn Fault = 0
 sectorIn (Control code n) = 0
 sectorIn (Write sector m footer) = sector
@@ -278,11 +278,11 @@ packet-call p = calling (packetFrame image 2 p)
 abbrev end-call : Call
 end-call = calling (requestFrame WriteEnd)
 
-two-good : goodN 2 ≡ true
+pub two-good : goodN 2 ≡ true
 unfolding goodN
 two-good = refl
 
-sectors-are : (packetSector image 2 0 ≡ 1) × (packetSector image 2 1 ≡ 2)
+pub sectors-are : (packetSector image 2 0 ≡ 1) × (packetSector image 2 1 ≡ 2)
 unfolding image sentOf imageSector sectorOffset goodN blankOf
 sectors-are = (refl, refl)
 

@@ -6,5 +6,7 @@ pub mod Determined
 pub mod EndToEnd
 pub mod Examples
 pub mod Fresh
+pub mod Packets
 pub mod Session
 pub mod ShutOut
+pub mod Texts
