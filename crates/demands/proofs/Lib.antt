@@ -1,4 +1,5 @@
 pub mod Asking
+pub mod Banks
 pub mod Bytes
 pub mod Demand1
 pub mod Demand2

@@ -1,3 +1,4 @@
+pub mod Banks
 pub mod Board
 pub mod Demand1
 pub mod Demand2
