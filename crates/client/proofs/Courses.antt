@@ -2,9 +2,9 @@
 -- Assumes nothing.
 use mathlib.Core.Path.{_≡_, refl, sym, ap, ap₂, _∙_}
 use mathlib.Core.Logic.{_⊎_, inl, inr}
-use mathlib.Core.Bool.{Bool, true, false, not, _&&_, _||_, cond, false≢true}
+use mathlib.Core.Bool.{Bool, true, false, not, _&&_, _||_, false≢true}
 use mathlib.Core.List.{List, [], _∷_}
-use Prim.Native.Nat.{ℕ, _+_, _-_, _*_, _%_, _≤_}
+use Prim.Native.Nat.{ℕ, _-_, _*_, _%_, _≤_}
 use native.Mathlib.Omega.{arith}
 use lib.Dec.{eqb, leb}
 use lib.ListN.{length}
@@ -23,22 +23,20 @@ use Rattle.flash.proofs.Sweeps.{length-sweep}
 use Rattle.flash.proofs.Writes.{FitsAt, length-written, written-here}
 use Rattle.bank.specs.declared.layout.Bank.{Bank}
 use Rattle.bank.specs.declared.layout.Bank.the-variants.{Zero, One}
-use Rattle.bank.specs.Layout.{sectorSize, goodN, otherOf, bankNumber}
+use Rattle.bank.specs.Layout.{sectorSize, goodN, bankNumber}
 use Rattle.client.specs.declared.answer.Answer.{Answer}
 use Rattle.client.specs.declared.answer.Answer.the-variants.{Refused, FrameError, Response, BankIs, VersionIs, Written}
-use Rattle.client.specs.declared.answer.Notice.{Notice}
 use Rattle.client.specs.declared.plan.Plan.{Plan}
 use Rattle.client.specs.declared.plan.Plan.the-variants.{Keep, Open, Close, Begin, Store, Wear, Finish}
 use Rattle.client.specs.declared.record.Client.{Client}
 use Rattle.client.specs.declared.record.State.{State}
 use Rattle.client.specs.declared.record.State.the-variants as state
-use Rattle.client.specs.declared.record.Latest.the-variants.{Good, Otherwise}
-use Rattle.client.specs.Answer.{versionBytes, writtenBytes, answerBytes, Say}
+use Rattle.client.specs.Answer.{versionBytes, writtenBytes, answerBytes}
 use Rattle.client.specs.Command.{askedOf}
 use Rattle.client.specs.Plan.{lentGood, valuesGood, planAsked, planOf}
-use Rattle.client.specs.Perform.{fitOf, Accepted, storeResult, sectorCrc, Done, done, storeOf, checkedOf, finishOf, servedOf}
+use Rattle.client.specs.Perform.{fitOf, Accepted, storeResult, sectorCrc, Done, storeOf, checkedOf, servedOf}
 use Rattle.client.specs.Host.{isClosed}
-use Rattle.client.specs.Record.{Stays, noneReceived, opened, closed, begun, marked, ended}
+use Rattle.client.specs.Record.{Stays, noneReceived, marked}
 use Rattle.client.specs.Step.{noticeOf, Carried, carriedOf, saidOf, targetOf, planned, stepOf}
 use Rattle.client.proofs.Planning.{values-low, values-high}
 use Rattle.client.proofs.Saying.{say-refused, say-error, say-response, say-bank, say-version, say-written}

@@ -1,30 +1,21 @@
 -- What a plan may be: what the deciding tells of record and datagram where a session begins, a sector is stored, a session ends.
 -- Assumes nothing.
-use mathlib.Core.Path.{_≡_, refl, sym, ap, ap₂, subst, _∙_}
-use mathlib.Core.Logic.{_⊎_, inl, inr}
-use mathlib.Core.Bool.{Bool, true, false, not, _&&_, _||_, cond, false≢true}
+use mathlib.Core.Path.{_≡_, refl}
+use mathlib.Core.Bool.{true, false, not, _&&_, _||_, false≢true}
 use mathlib.Core.List.{List}
-use Prim.Native.Nat.{ℕ, _+_, _-_, _*_, _%_, _≤_}
+use Prim.Native.Nat.{ℕ, _+_, _-_, _*_}
 use native.Mathlib.Omega.{arith}
-use lib.Dec.{eqb, leb}
+use lib.Dec.{eqb}
 use lib.ListN.{length, getD, drop, length-drop}
 use lib.Seq.{length-take-le}
-use borrow.Author.Tests.{leb-true, eqb-true, not-false}
-use Rattle.buffer.specs.Compare.{blankOf}
-use Rattle.buffer.proofs.Bools.{split, and-left, and-right}
-use Rattle.crc.specs.Crc.{crcOf}
+use borrow.Author.Tests.{not-false}
+use Rattle.buffer.proofs.Bools.{split}
 use Rattle.frame.specs.Read.{readOf, writtenOf}
 use Rattle.frame.specs.declared.read.Footer.{Footer}
 use Rattle.frame.specs.declared.read.Read.{Read}
 use Rattle.frame.specs.declared.read.Read.the-variants as read
 use Rattle.frame.proofs.Told.{Told, told}
-use Rattle.flash.specs.Bank.{sectorOf, writtenAt, alreadyAt, sweptOf}
-use Rattle.flash.specs.Sector.{paddedOf}
-use Rattle.flash.proofs.Sweeps.{length-sweep}
-use Rattle.flash.proofs.Writes.{FitsAt, length-written, written-here}
-use Rattle.bank.specs.declared.layout.Bank.{Bank}
-use Rattle.bank.specs.declared.layout.Bank.the-variants.{Zero, One}
-use Rattle.bank.specs.Layout.{sectorSize, goodN, otherOf}
+use Rattle.bank.specs.Layout.{sectorSize, goodN}
 use Rattle.client.specs.declared.answer.Answer.{Answer}
 use Rattle.client.specs.declared.answer.Answer.the-variants.{Refused, FrameError, Response, BankIs, VersionIs, Written}
 use Rattle.client.specs.declared.command.Asked.{Asked}
@@ -39,9 +30,7 @@ use Rattle.client.specs.declared.record.State.the-variants as state
 use Rattle.client.specs.Command.{byCode, askedBy, askedOf, fitsState, declinedOf}
 use Rattle.client.specs.Host.{isClosed}
 use Rattle.client.specs.Plan.{lentGood, isWorn, anyWorn, valuesGood, addressesGood, planStart, planEnd, planPacket, planGood, planCommand, planAsked, planOf}
-use Rattle.client.specs.Perform.{fitOf, storeResult, sectorCrc, Done, storeOf, checkedOf, finishOf, servedOf}
-use Rattle.client.specs.Record.{noneReceived, marked}
-use Rattle.client.specs.Step.{Carried, carriedOf, targetOf, planned, stepOf}
+use Rattle.client.specs.Step.{targetOf, planned}
 use Rattle.client.proofs.Stepping.{lent-well, whole-target}
 
 -- ---- what a plan may be

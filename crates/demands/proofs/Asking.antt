@@ -1,9 +1,9 @@
 -- The sender's requests as the client reads them.
 -- Assumes nothing.
 use mathlib.Core.Path.{_≡_, refl, sym, ap, ap₂, _∙_}
-use mathlib.Core.Bool.{Bool, true, _&&_}
-use mathlib.Core.List.{List, [], _∷_, _++_}
-use Prim.Native.Nat.{ℕ, _+_, _-_, _*_, _^_, _≤_, _<_}
+use mathlib.Core.Bool.{true}
+use mathlib.Core.List.{List, _++_}
+use Prim.Native.Nat.{ℕ, _+_, _-_, _*_, _^_, _<_}
 use native.Mathlib.Omega.{arith}
 use lib.ListN.{length, take, drop, length-append, length-drop}
 use lib.Seq.{take-at, drop-at, take-add, drop-drop, length-take-le}
@@ -11,7 +11,7 @@ use borrow.Author.Tests.{eq-eqb}
 use Rattle.buffer.specs.Number.{numberOf, bytesOf, numberAt}
 use Rattle.buffer.proofs.Numbers.{number-inside, number-bytes, length-bytes}
 use Rattle.frame.specs.Frame.{controlFrame}
-use Rattle.frame.specs.Read.{readOf, parametersOf}
+use Rattle.frame.specs.Read.{readOf}
 use Rattle.frame.specs.declared.read.Read.the-variants.{Control}
 use Rattle.frame.proofs.RoundTrip.{control-back, control-parameters}
 use Rattle.frame.proofs.Writing.{length-control}

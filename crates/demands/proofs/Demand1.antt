@@ -1,10 +1,10 @@
 -- Demand 1 is met: each way through the deciding ends in the first row of the table whose test holds.
 -- Assumes nothing.
 use mathlib.Core.Path.{_≡_, refl, sym, ap, ap₂, subst, _∙_}
-use mathlib.Core.Bool.{Bool, true, false, not, _&&_, cond, false≢true}
-use mathlib.Core.List.{List, [], _∷_, _++_}
-use mathlib.Core.Option.{Option, some}
-use Prim.Native.Nat.{ℕ, _+_, _-_, _*_}
+use mathlib.Core.Bool.{Bool, true, false, cond, false≢true}
+use mathlib.Core.List.{List}
+use mathlib.Core.Option.{some}
+use Prim.Native.Nat.{ℕ, _-_, _*_}
 use lib.Dec.{eqb}
 use lib.ListN.{length, getD, take, take-append-drop}
 use borrow.Author.Tests.{eqb-true}
@@ -17,7 +17,7 @@ use Rattle.frame.specs.Read.{readOf, writtenOf}
 use Rattle.frame.specs.declared.read.Footer.{Footer}
 use Rattle.frame.specs.declared.read.Read.{Read}
 use Rattle.frame.specs.declared.read.Read.the-variants.{Fault, Control, Write}
-use Rattle.flash.specs.Bank.{sectorOf, withSector, writtenAt, alreadyAt}
+use Rattle.flash.specs.Bank.{sectorOf, withSector}
 use Rattle.flash.specs.Sector.{paddedOf}
 use Rattle.flash.proofs.Writes.{FitsAt, written-here, already-same}
 use Rattle.bank.specs.declared.layout.Bank.{Bank}
@@ -36,15 +36,15 @@ use Rattle.client.specs.Answer.{refusalNumber, answerBytes}
 use Rattle.client.specs.Command.{byCode, askedBy}
 use Rattle.client.specs.Host.{isClosed, initiateOf, terminateOf}
 use Rattle.client.specs.Notice.{noNotice}
-use Rattle.client.specs.Perform.{fitOf, storeResult, sectorCrc, storeOf, checkedOf, servedOf}
+use Rattle.client.specs.Perform.{fitOf, storeResult, storeOf, checkedOf, servedOf}
 use Rattle.client.specs.Plan.{lentGood, isWorn, anyWorn, valuesGood, addressesGood, planStart, planEnd, planPacket, planGood, planCommand, planAsked, planOf}
 use Rattle.client.specs.Record.{marked}
 use Rattle.client.specs.Step.{Carried, carriedOf, targetOf, zeroOf, oneOf, stepOf}
 use Rattle.client.proofs.Courses.{fits-stored}
 use Rattle.client.proofs.Planning.{lent}
 use Rattle.client.proofs.Stepping.{whole-target}
-use Rattle.demands.specs.Board.{Board, board, Call, Input, Initiate, Terminate, Datagram, Outcome, after, runningBank, backIn, answerNumber, lentTarget, callOutcome, called, stepMachine}
-use Rattle.demands.specs.Demand1.{firstOf, isFault, refused, changed, answered, stored, afterFrame, callRows, tableOf, sweptTarget, Kept, Meets1}
+use Rattle.demands.specs.Board.{Board, board, Call, Input, Initiate, Terminate, Datagram, Outcome, backIn, answerNumber, lentTarget, callOutcome, stepMachine}
+use Rattle.demands.specs.Demand1.{firstOf, isFault, refused, changed, answered, stored, afterFrame, callRows, tableOf, sweptTarget, Meets1}
 use Rattle.demands.proofs.Sessions.{written-with}
 use Rattle.demands.proofs.Storing.{storing}
 use Rattle.demands.proofs.Steps.{run-stays, run-running}

@@ -1,10 +1,10 @@
 -- Demand 2 is met: a sector of the session's image is the image's already, or its packet is still to come.
 -- Assumes nothing.
-use mathlib.Core.Path.{_≡_, refl, sym, ap, ap₂, subst, _∙_}
+use mathlib.Core.Path.{_≡_, refl, sym, ap, subst, _∙_}
 use mathlib.Core.Logic.{_⊎_, inl, inr}
 use mathlib.Core.Bool.{Bool, true, false}
-use mathlib.Core.List.{List, [], _∷_, _++_, append-nil, List·Memᴰ, List·Memᴰ·not-nil, List·Memᴰ·cases-cons}
-use Prim.Native.Nat.{ℕ, zero, suc, _+_, _-_, _*_, _≤_, _<_}
+use mathlib.Core.List.{List, [], _∷_, append-nil, List·Memᴰ, List·Memᴰ·not-nil, List·Memᴰ·cases-cons}
+use Prim.Native.Nat.{ℕ, zero, suc, _-_, _*_, _≤_, _<_}
 use native.Mathlib.Decide.{ℕ-discrete}
 use native.Mathlib.Omega.{arith}
 use lib.ListN.{length, getD, take, drop, replicate, length-replicate, getD-replicate}
@@ -17,17 +17,16 @@ use Rattle.frame.specs.Checksum.{checksumOf}
 use Rattle.crc.specs.Crc.{crcOf}
 use Rattle.frame.specs.Frame.{framed, controlFrame, writeFrame}
 use Rattle.frame.specs.Read.{readOf, writtenOf}
-use Rattle.frame.specs.declared.read.Footer.{Footer}
 use Rattle.frame.specs.declared.read.Footer.the-variants.{End}
 use Rattle.frame.specs.declared.read.Read.the-variants.{Control, Write}
-use Rattle.flash.specs.Bank.{sectorOf, withSector, blankSector, sweptOf}
+use Rattle.flash.specs.Bank.{sectorOf, withSector}
 use Rattle.flash.specs.Sector.{paddedOf}
 use Rattle.flash.proofs.Blanks.{blank-whole, sector-blanks}
-use Rattle.flash.proofs.Sectors.{Has, length-sector, ext-sector, length-with, with-here, with-other}
+use Rattle.flash.proofs.Sectors.{Has, ext-sector, with-here, with-other}
 use Rattle.flash.proofs.Sweeps.{length-sweep}
 use Rattle.bank.specs.declared.layout.Bank.{Bank}
 use Rattle.bank.specs.declared.layout.Bank.the-variants.{Zero, One}
-use Rattle.bank.specs.Layout.{sectorSize, goodN, otherOf, sectorOffset}
+use Rattle.bank.specs.Layout.{sectorSize, goodN, otherOf}
 use Rattle.bank.proofs.Layouts.{good-below, offset-good}
 use Rattle.sender.specs.declared.request.Request.the-variants.{WriteStart, WriteEnd}
 use Rattle.sender.specs.Packet.{packetCount, packetSector, footerOf, packetFrame}
@@ -36,24 +35,21 @@ use Rattle.sender.specs.Request.{requestFrame}
 use Rattle.sender.proofs.Image.{SentAt, used-sent, packet-read, packet-bytes}
 use Rattle.sender.proofs.Packets.{Sent, sent-in, sector-length}
 use Rattle.client.specs.declared.answer.Answer.the-variants.{Response, Written}
-use Rattle.client.specs.declared.record.Client.{Client}
 use Rattle.client.specs.declared.record.Latest.the-variants.{Good}
-use Rattle.client.specs.declared.record.State.{State}
 use Rattle.client.specs.declared.record.State.the-variants as state
 use Rattle.client.specs.Answer.{writtenBytes, answerBytes}
 use Rattle.client.specs.Host.{isClosed}
 use Rattle.client.specs.Notice.{noNotice}
 use Rattle.client.specs.Perform.{Accepted, fitOf, storeResult}
-use Rattle.client.specs.Plan.{lentGood, isWorn, anyWorn, valuesGood, addressesGood}
-use Rattle.client.specs.Record.{begun, marked, ended}
+use Rattle.client.specs.Plan.{isWorn, anyWorn, valuesGood, addressesGood}
+use Rattle.client.specs.Record.{begun, ended}
 use Rattle.client.specs.Step.{targetOf}
 use Rattle.client.proofs.Courses.{accepted, not-write, answer-short}
-use Rattle.client.proofs.Leading.{Finishing}
 use Rattle.client.proofs.Planning.{lent-buffer, values-words}
 use Rattle.demands.specs.Board.{Board, board, Call, Input, Datagram, Outcome, said, after, outcomes, targetBank, sectorsIn, lentTarget, stepMachine}
-use Rattle.demands.specs.Session.{isBegin, isEnd, isStored, allBlank, exchanged, noted}
+use Rattle.demands.specs.Session.{isEnd, allBlank, exchanged, noted}
 use Rattle.demands.specs.Demand1.{changed, stored, packetStored, sweptTarget}
-use Rattle.demands.specs.Demand2.{Lends, Packets, none, more, Ready, Fit, Delivery, Taken, AllTaken, none-taken, more-taken, Delivered, Meets2}
+use Rattle.demands.specs.Demand2.{Lends, Packets, none, more, Ready, Fit, Delivery, Taken, AllTaken, none-taken, more-taken, Meets2}
 use Rattle.demands.proofs.Asking.{request-read, start-read, start-addressed}
 use Rattle.demands.proofs.Bytes.{response-begin, written-begin, written-stored}
 use Rattle.demands.proofs.Rows.{Heard, write-start, packet, write-end}

@@ -1,9 +1,7 @@
 -- Demand 3 is met: the plan is one on both boards, since it sees no more of a bank than its length, and the end sees no more of a target
 -- than the session showed.
 -- Assumes nothing.
-use mathlib.Core.Path.{_≡_, refl, sym, ap, ap₂, subst, _∙_}
-use mathlib.Core.Logic.{_⊎_, inl, inr}
-use mathlib.Core.Bool.{Bool, true, false}
+use mathlib.Core.Path.{_≡_, refl, sym, ap, subst, _∙_}
 use mathlib.Core.List.{List, [], _∷_, _++_}
 use Prim.Native.Nat.{ℕ, _≤_}
 use lib.ListN.{length, drop}
@@ -11,24 +9,17 @@ use Rattle.buffer.specs.Place.{frontOf}
 use Rattle.buffer.proofs.Places.{front-fits}
 use Rattle.frame.specs.Frame.{writeFrame}
 use Rattle.frame.specs.declared.read.Footer.the-variants.{End}
-use Rattle.flash.specs.Bank.{sweptOf}
-use Rattle.bank.specs.declared.layout.Bank.{Bank}
-use Rattle.bank.specs.declared.layout.Bank.the-variants.{Zero, One}
-use Rattle.bank.specs.Layout.{sectorSize}
 use Rattle.client.specs.declared.answer.Answer.{Answer}
 use Rattle.client.specs.declared.answer.Answer.the-variants.{Written}
 use Rattle.client.specs.declared.record.Client.{Client}
-use Rattle.client.specs.declared.record.State.the-variants as state
 use Rattle.client.specs.Answer.{writtenBytes, answerBytes}
-use Rattle.client.specs.Host.{initiateOf, terminateOf}
-use Rattle.client.specs.Perform.{Accepted}
-use Rattle.client.specs.Step.{Carried, targetOf, stepOf}
+use Rattle.client.specs.Step.{Carried, stepOf}
 use Rattle.client.proofs.Courses.{Match, same, either, written-long, same-length, step-alike, step-told, step-said, step-fits}
 use Rattle.client.proofs.Courses.{Alike as AlikeSteps}
 use Rattle.client.proofs.Leading.{Finishing}
-use Rattle.demands.specs.Board.{Board, board, Call, Input, Initiate, Terminate, Datagram, Outcome, said, after, outcomes, runningBank, targetBank, sectorsIn, lentTarget, answerNumber, hostOutcome, callOutcome, called, stepMachine}
-use Rattle.demands.specs.Session.{isEnd, isStored, allBlank, exchanged, noted, shown}
-use Rattle.demands.specs.Demand3.{AlikeBytes, same as same-bytes, either as either-bytes, Alike, AllAlike, none, more, imageOf, Ended, Same, Pair, Meets3}
+use Rattle.demands.specs.Board.{Board, board, Call, Input, Initiate, Terminate, Datagram, said, after, outcomes, sectorsIn, lentTarget, answerNumber, called, stepMachine}
+use Rattle.demands.specs.Session.{isEnd, allBlank, exchanged, noted, shown}
+use Rattle.demands.specs.Demand3.{AlikeBytes, same as same-bytes, either as either-bytes, Alike, AllAlike, none, more, Meets3}
 use Rattle.demands.proofs.Bytes.{written-begin, written-end, written-stored}
 use Rattle.demands.proofs.Lending.{front-alike}
 use Rattle.demands.proofs.Sessions.{Shows, said-is, lent-shows, step-shows, step-closes}

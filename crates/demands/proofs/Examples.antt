@@ -1,17 +1,15 @@
 -- The worked examples hold.
 -- Assumes nothing.
 use mathlib.Core.Path.{_≡_, refl, sym, ap, subst, _∙_}
-use mathlib.Core.Bool.{Bool, true, false, not, _||_, cond, false≢true}
+use mathlib.Core.Bool.{Bool, true, false, false≢true}
 use mathlib.Core.List.{List, [], _∷_, _++_}
-use Prim.Native.Nat.{ℕ, _-_, _*_, _%_, _≤_, _<_}
+use Prim.Native.Nat.{ℕ, _-_, _*_, _≤_, _<_}
 use native.Mathlib.Omega.{arith}
-use lib.Dec.{eqb}
 use lib.ListN.{length, getD, take, drop, replicate, getD-replicate}
 use lib.Seq.{take-at, length-take-le}
 use borrow.Author.Tests.{not-true, eq-eqb}
 use Rattle.buffer.specs.Compare.{sameOf, blankOf}
-use Rattle.buffer.specs.Number.{bytesOf, numberAt}
-use Rattle.buffer.specs.Place.{frontOf}
+use Rattle.buffer.specs.Number.{bytesOf}
 use Rattle.buffer.proofs.Comparing.{same-self}
 use Rattle.crc.specs.Crc.{crcOf}
 use Rattle.frame.specs.Checksum.{checksumOf}
@@ -36,19 +34,17 @@ use Rattle.hex.specs.Line.{lines}
 use Rattle.hex.specs.Record.{digitsIn, digitsWhole, recordOf, total, dataAt, typed, foundOf}
 use Rattle.hex.specs.Read.{readLines}
 use Rattle.hex.specs.Read.{readOf as readText}
-use Rattle.client.specs.declared.answer.Answer.the-variants.{Written}
 use Rattle.client.specs.declared.record.State.{State}
 use Rattle.client.specs.declared.record.State.the-variants as state
 use Rattle.client.specs.Answer.{writtenBytes, answerBytes}
 use Rattle.client.specs.Host.{isClosed}
 use Rattle.client.specs.Perform.{storeResult}
 use Rattle.client.specs.Plan.{isWorn, valuesGood}
-use Rattle.client.specs.Record.{marked}
 use Rattle.client.specs.Step.{targetOf, zeroOf, oneOf}
 use Rattle.client.proofs.Courses.{accepted, fits-stored}
 use Rattle.client.proofs.Planning.{values-zero, values-above, values-empty, values-long, values-words, values-low, values-high}
 use Rattle.demands.specs.Board.{Board, Call, Datagram, Outcome, said, backIn, lentTarget, stepMachine}
-use Rattle.demands.specs.Demand1.{answered, packetStored}
+use Rattle.demands.specs.Demand1.{packetStored}
 use Rattle.demands.specs.Demand2.{Lends}
 use Rattle.demands.specs.Examples.{Calls, Brings, Verdict, goodLength, isIdle, live, none, also, Examples}
 use Rattle.demands.specs.Session.{isStored}

@@ -1,10 +1,8 @@
 -- Demand 2 from the very beginning is met.
 -- Assumes nothing.
 use mathlib.Core.Path.{_≡_, refl, sym, ap, subst, _∙_}
-use mathlib.Core.Bool.{Bool, true}
 use mathlib.Core.List.{List, [], _∷_}
 use Prim.Native.Nat.{ℕ, _*_}
-use lib.ListN.{length}
 use Rattle.frame.specs.Checksum.{checksumOf}
 use Rattle.frame.specs.Frame.{framed, controlFrame}
 use Rattle.frame.specs.Read.{readOf}
@@ -17,7 +15,7 @@ use Rattle.client.specs.declared.record.Latest.{Latest}
 use Rattle.client.specs.Host.{isClosed, newOf}
 use Rattle.client.specs.Notice.{noticeWith, noticeBytes, latestNumber}
 use Rattle.client.specs.Record.{newClient, initiated, opened, closed}
-use Rattle.demands.specs.Board.{Board, board, Call, Input, Initiate, Datagram, Outcome, said, after, stepMachine}
+use Rattle.demands.specs.Board.{Board, board, Call, Input, Initiate, Datagram, Outcome, said, stepMachine}
 use Rattle.demands.specs.Demand1.{hostDone, changed}
 use Rattle.demands.specs.Demand2.{Lends, Ready, Fit, Delivery}
 use Rattle.demands.specs.Fresh.{Fresh, inMode, afterAll, Told, MeetsFresh}

@@ -1,17 +1,17 @@
 -- The part of a bank that is lent, and the bank when it came back.
 -- Assumes nothing.
-use mathlib.Core.Path.{_≡_, refl, sym, ap, ap₂, _∙_}
+use mathlib.Core.Path.{_≡_, refl, sym, ap, _∙_}
 use mathlib.Core.List.{List, _++_}
 use Prim.Native.Nat.{ℕ, _≤_, min}
 use native.Mathlib.Decide.{decLe}
 use native.Mathlib.Omega.{arith}
 use lib.ListN.{length, take, drop, length-take, take-append-drop}
-use lib.Seq.{length-take-le, length-front, take-all, take-at}
+use lib.Seq.{length-take-le, length-front, take-all}
 use Rattle.bank.specs.declared.layout.Bank.{Bank}
 use Rattle.bank.specs.declared.layout.Bank.the-variants.{Zero, One}
 use Rattle.client.specs.Body.{chosen}
-use Rattle.client.specs.Step.{Carried, targetOf, zeroOf, oneOf}
-use Rattle.demands.specs.Board.{Board, Call, backIn, runningBank, targetBank, callOutcome}
+use Rattle.client.specs.Step.{targetOf, zeroOf, oneOf}
+use Rattle.demands.specs.Board.{Call, backIn}
 
 -- how much of the target is lent
 abbrev pub lentTo : Bank → Call → ℕ

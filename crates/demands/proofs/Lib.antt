@@ -6,6 +6,7 @@ pub mod Demand2
 pub mod Demand3
 pub mod Determined
 pub mod Examples
+pub mod FirstOnly
 pub mod Fresh
 pub mod Lending
 pub mod Packets
@@ -17,4 +18,5 @@ pub mod Steps
 pub mod Storing
 pub mod Text
 pub mod Texts
+pub mod Unstored
 pub mod Witness

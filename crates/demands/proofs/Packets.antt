@@ -1,30 +1,28 @@
 -- The sender's packets are as asked, and a sender that invents their number is shut out.
 -- Assumes nothing.
-use mathlib.Core.Path.{_≡_, refl, sym, ap, ap₂, _∙_}
-use mathlib.Core.Bool.{Bool, true, _&&_}
+use mathlib.Core.Path.{_≡_, sym, ap, ap₂, _∙_}
+use mathlib.Core.Bool.{true, _&&_}
 use mathlib.Core.List.{List}
 use Prim.Native.Nat.{ℕ, _+_, _*_, _≤_, _<_}
 use native.Mathlib.Omega.{arith}
-use lib.Dec.{leb, ltb}
+use lib.Dec.{leb}
 use lib.ListN.{length, take, drop, replicate, length-replicate}
 use borrow.Author.Tests.{leb-true, eqb-true, lt-ltb, le-ltb, eq-eqb, le-leb}
 use Rattle.buffer.specs.Place.{frontOf}
 use Rattle.buffer.proofs.Bools.{and-left, and-right, and-both}
 use Rattle.buffer.proofs.Places.{front-take, front-drop}
 use Rattle.frame.specs.Read.{readOf, writtenOf}
-use Rattle.frame.specs.declared.read.Read.{Read}
-use Rattle.frame.specs.declared.read.Read.the-variants.{Fault, Control, Write}
 use Rattle.frame.proofs.Writing.{length-write}
 use Rattle.bank.specs.Layout.{goodN}
 use Rattle.sender.specs.declared.made.Made.{Made}
 use Rattle.sender.specs.declared.made.Made.the-variants.{BadN, BadLength, PastLast, Frame}
-use Rattle.sender.specs.Made.{room, madeNumber, standing}
+use Rattle.sender.specs.Made.{room, standing}
 use Rattle.sender.specs.Packet.{sectorOf, packetCount, packetSector, footerOf, packetFrame, imageGood, packetMade}
 use Rattle.sender.proofs.Image.{packet-read, packet-bytes}
 use Rattle.sender.proofs.Packets.{Sent, sent-in, sector-length}
-use Rattle.demands.specs.Packets.{Made·Out, out, Maker, Packet, MeetsSender, packetMaker, InventsNumber}
-use Rattle.demands.proofs.ShutOut.{sectorIn, two-good, sectors-are}
-use Rattle.demands.proofs.Witness.{image, image-size, two-packets}
+use Rattle.demands.specs.Packets.{Made·Out, Maker, Packet, MeetsSender, packetMaker, InventsNumber}
+use Rattle.demands.proofs.FirstOnly.{sectorIn}
+use Rattle.demands.proofs.Witness.{image, image-size, two-packets, two-good, sectors-are}
 
 module _ (img : List ℕ) (n p : ℕ) (before : List ℕ) (g : goodN n ≡ true) (l : (imageGood img n && leb room (length before)) ≡ true) where
   roomy : 519 ≤ length before

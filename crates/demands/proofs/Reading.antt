@@ -3,15 +3,15 @@
 use mathlib.Core.Path.{_≡_, refl, sym, ap, subst, _∙_}
 use mathlib.Core.Logic.{_⊎_, inl, inr}
 use mathlib.Core.Bool.{Bool, true, false, cond, or-true, false≢true}
-use mathlib.Core.List.{List, [], _∷_, _++_}
+use mathlib.Core.List.{List, [], _∷_}
 use mathlib.Core.Option.{Option, none, some}
-use Prim.Native.Nat.{ℕ, suc, _+_, _*_, _^_, _≤_, _<_}
+use Prim.Native.Nat.{ℕ, suc, _^_, _≤_, _<_}
 use native.Mathlib.Omega.{arith}
-use lib.Dec.{eqb, leb}
-use lib.ListN.{length, getD, take}
-use borrow.Author.Tests.{leb-true, not-false}
+use lib.Dec.{eqb}
+use lib.ListN.{length, take}
+use borrow.Author.Tests.{leb-true}
 use Rattle.buffer.specs.Compare.{sameOf, blankOf}
-use Rattle.buffer.specs.Number.{bytesOf, numberAt}
+use Rattle.buffer.specs.Number.{bytesOf}
 use Rattle.buffer.specs.Place.{frontOf}
 use Rattle.buffer.proofs.Bools.{split}
 use Rattle.buffer.proofs.Numbers.{number-two}
@@ -40,10 +40,10 @@ use Rattle.client.specs.declared.answer.Answer.the-variants.{BankIs, VersionIs}
 use Rattle.client.specs.Answer.{versionBytes, writtenBytes, answerBytes}
 use Rattle.client.specs.Host.{isClosed}
 use Rattle.client.specs.Perform.{Accepted, storeResult}
-use Rattle.client.specs.Plan.{lentGood, anyWorn}
+use Rattle.client.specs.Plan.{lentGood}
 use Rattle.client.proofs.Courses.{accepted, answer-short}
-use Rattle.client.proofs.Planning.{Lent, lent, lent-buffer}
-use Rattle.demands.specs.Board.{Board, Call, Input, Datagram, Outcome, said, lentTarget, stepMachine}
+use Rattle.client.proofs.Planning.{lent, lent-buffer}
+use Rattle.demands.specs.Board.{Board, Call, Datagram, Outcome, said, lentTarget, stepMachine}
 use Rattle.demands.specs.Demand1.{Row, firstOf, responseCode, isFault, refused, answered, afterFrame, callRows}
 use Rattle.demands.specs.EndToEnd.{codeOf, spelled, Readable, MeetsRead}
 use Rattle.demands.proofs.Demand1.{table}

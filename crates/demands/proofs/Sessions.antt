@@ -1,8 +1,7 @@
 -- A session under way: the write end would now make of the target what the session showed. Each step keeps that, and the end does it.
 -- Assumes nothing.
 use mathlib.Core.Path.{_≡_, refl, sym, ap, ap₂, subst, _∙_}
-use mathlib.Core.Logic.{_⊎_, inl, inr}
-use mathlib.Core.Bool.{Bool, true, false, not, cond, false≢true}
+use mathlib.Core.Bool.{Bool, true, false, not, false≢true}
 use mathlib.Core.List.{List, _++_}
 use Prim.Native.Nat.{ℕ, _-_, _*_, _≤_, _<_}
 use native.Mathlib.Omega.{arith}
@@ -11,9 +10,7 @@ use lib.Seq.{take-at, length-take-le}
 use Rattle.buffer.proofs.Bools.{split}
 use Rattle.buffer.proofs.Places.{front-take}
 use Rattle.crc.specs.Crc.{crcOf}
-use Rattle.frame.specs.Read.{readOf, writtenOf}
-use Rattle.frame.specs.declared.read.Read.{Read}
-use Rattle.frame.specs.declared.read.Read.the-variants as read
+use Rattle.frame.specs.Read.{writtenOf}
 use Rattle.flash.specs.Bank.{sectorOf, withSector, writtenAt, sweptOf}
 use Rattle.flash.specs.Sector.{paddedOf}
 use Rattle.flash.specs.Sector.{writtenOf as written}
@@ -32,14 +29,14 @@ use Rattle.client.specs.declared.record.State.the-variants as state
 use Rattle.client.specs.Answer.{answerBytes}
 use Rattle.client.specs.Host.{isClosed, initiateOf, terminateOf}
 use Rattle.client.specs.Record.{noneReceived}
-use Rattle.client.specs.Step.{Carried, targetOf, stepOf}
-use Rattle.client.proofs.Courses.{Course, still, begins, stores, ends, not-write, fits-stored, step-course, step-length, step-stays, step-told, step-said, step-fits}
+use Rattle.client.specs.Step.{Carried}
+use Rattle.client.proofs.Courses.{Course, still, begins, stores, ends, not-write, fits-stored, step-course, step-stays, step-told, step-said, step-fits}
 use Rattle.client.proofs.Leading.{Finishing}
 use Rattle.client.proofs.Planning.{values-low, values-high}
-use Rattle.demands.specs.Board.{Board, board, Call, Input, Initiate, Terminate, Datagram, Outcome, said, targetBank, sectorsIn, lentTarget, hostOutcome, callOutcome, called, stepMachine}
-use Rattle.demands.specs.Session.{isBegin, isEnd, isStored, packetIn, allBlank, exchanged, noted}
-use Rattle.demands.proofs.Bytes.{quiet-begin, quiet-end, quiet-stored, response-begin, response-start-end, ended-begin, ended-stored, written-begin, written-end, written-stored}
-use Rattle.demands.proofs.Lending.{lentTo, front-of, front-short, target-lent, target-back}
+use Rattle.demands.specs.Board.{Board, board, Call, Input, Initiate, Terminate, Datagram, said, targetBank, sectorsIn, lentTarget, hostOutcome, callOutcome, called, stepMachine}
+use Rattle.demands.specs.Session.{isEnd, allBlank, exchanged, noted}
+use Rattle.demands.proofs.Bytes.{quiet-begin, quiet-end, quiet-stored, response-begin, response-start-end, written-begin, written-end, written-stored}
+use Rattle.demands.proofs.Lending.{lentTo, front-of, target-lent, target-back}
 
 pub record Session (b : Board) (image : List ℕ) : Type 0 where
   pub good : goodN (b .client .n) ≡ true

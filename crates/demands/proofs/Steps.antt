@@ -1,10 +1,9 @@
 -- What one input changes on no board: N, the bank that runs and its bytes, the version, the lengths of the banks.
 -- Assumes nothing.
-use mathlib.Core.Path.{_≡_, refl, sym, ap, ap₂, _∙_}
-use mathlib.Core.Bool.{Bool, not}
+use mathlib.Core.Path.{_≡_, refl, ap, _∙_}
+use mathlib.Core.Bool.{not}
 use mathlib.Core.List.{List, [], _∷_}
-use Prim.Native.Nat.{ℕ}
-use lib.ListN.{length, take}
+use lib.ListN.{length}
 use Rattle.buffer.proofs.Bools.{split}
 use Rattle.bank.specs.declared.layout.Bank.{Bank}
 use Rattle.bank.specs.Layout.{goodN}
@@ -14,7 +13,7 @@ use Rattle.client.specs.Body.{chosen}
 use Rattle.client.specs.Host.{isClosed, initiateOf, terminateOf}
 use Rattle.client.specs.Record.{Stays}
 use Rattle.client.proofs.Courses.{stays-same, step-stays, step-length}
-use Rattle.demands.specs.Board.{Board, board, Call, Input, Initiate, Terminate, Datagram, Outcome, after, runningBank, called, stepMachine}
+use Rattle.demands.specs.Board.{Board, board, Input, Initiate, Terminate, Datagram, after, runningBank, called, stepMachine}
 use Rattle.demands.proofs.Lending.{running-back, zero-long, one-long}
 
 initiate-stays : (c : Client) → Stays c (initiateOf c .client)

@@ -2,7 +2,7 @@
 -- Assumes nothing.
 use mathlib.Core.Path.{_≡_, refl, ap, _∙_}
 use mathlib.Core.Bool.{Bool, true, false}
-use mathlib.Core.List.{List, _∷_}
+use mathlib.Core.List.{List}
 use Prim.Native.Nat.{ℕ, _+_, _-_, _*_}
 use native.Mathlib.Omega.{arith}
 use lib.Dec.{eqb}
@@ -10,14 +10,11 @@ use lib.ListN.{length, getD}
 use borrow.Author.Tests.{eqb-true}
 use Rattle.bank.specs.declared.layout.Bank.{Bank}
 use Rattle.bank.specs.Layout.{sectorSize, goodN, otherOf, startOf}
-use Rattle.hex.specs.declared.read.Answer.{Answer}
 use Rattle.hex.specs.declared.read.Answer.the-variants.{Accepted}
 use Rattle.hex.specs.Read.{answerNumber, readOf}
 use Rattle.hex.proofs.Meaning.{read-length, accepted-data, accepted-rest}
-use Rattle.client.specs.Step.{targetOf}
-use Rattle.demands.specs.Board.{Board, Call, Input, Datagram, after, stepMachine}
-use Rattle.demands.specs.Demand2.{Delivered}
-use Rattle.demands.specs.EndToEnd.{Holds, MeetsText}
+use Rattle.demands.specs.Board.{stepMachine}
+use Rattle.demands.specs.EndToEnd.{MeetsText}
 use Rattle.demands.proofs.Demand2.{demand2}
 
 -- a text is accepted only with an image of the bank's size

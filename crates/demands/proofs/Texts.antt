@@ -2,21 +2,18 @@
 -- Assumes nothing.
 use mathlib.Core.Path.{_≡_, refl, sym, ap, _∙_}
 use mathlib.Core.Logic.{_⊎_, inl, inr}
-use mathlib.Core.Bool.{Bool, true, false, cond, false≢true}
+use mathlib.Core.Bool.{Bool, true, false, false≢true}
 use mathlib.Core.List.{List, [], _∷_}
-use Prim.Native.Nat.{ℕ, zero, suc, _+_, _*_, _<_}
+use Prim.Native.Nat.{ℕ, zero, suc, _*_}
 use native.Mathlib.Omega.{arith}
-use lib.Dec.{eqb}
 use lib.ListN.{length, replicate, length-replicate}
 use borrow.Author.Tests.{eq-eqb, ne-eqb}
 use Rattle.bank.specs.declared.layout.Bank.{Bank}
 use Rattle.bank.specs.declared.layout.Bank.the-variants.{Zero}
 use Rattle.bank.specs.Layout.{sectorSize, goodN, startOf}
-use Rattle.hex.specs.declared.fault.Kind.{Kind}
 use Rattle.hex.specs.declared.fault.Kind.the-variants.{H6}
 use Rattle.hex.specs.declared.fault.Refusal.{Refusal}
-use Rattle.hex.specs.declared.read.Answer.{Answer}
-use Rattle.hex.specs.declared.read.Answer.the-variants.{BadN, BadLength, Refused, Accepted}
+use Rattle.hex.specs.declared.read.Answer.the-variants.{BadN, BadLength, Accepted}
 use Rattle.hex.specs.declared.read.Outcome.{Outcome}
 use Rattle.hex.specs.declared.read.Outcome.the-variants.{Stopped, Through}
 use Rattle.hex.specs.declared.record.Found.{Found}
@@ -24,7 +21,7 @@ use Rattle.hex.specs.declared.record.Found.the-variants.{Fault, Data, Upper, En
 use Rattle.hex.specs.Digit.{digitOf, isDigit, byteOf}
 use Rattle.hex.specs.Digit.{bytesOf as digitsOf}
 use Rattle.hex.specs.Line.{lines}
-use Rattle.hex.specs.Meaning.{stateAt, saysAt, Sound, Faulted, at-line, past-the-last}
+use Rattle.hex.specs.Meaning.{stateAt, saysAt, Faulted, at-line, past-the-last}
 use Rattle.hex.specs.Read.{fresh, answerOf, readLines, readOf}
 use Rattle.hex.specs.Record.{digitsIn, digitsWhole, recordOf, total, dataAt, typed, foundOf}
 use Rattle.hex.proofs.Meaning.{read-length, accepted-lined, accepted-sound, accepted-over, accepted-data, accepted-rest, refused-lined}

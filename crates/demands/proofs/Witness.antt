@@ -1,9 +1,9 @@
 -- The premises of demand 2 can be met: two sectors, both with a byte other than 0xFF, delivered in reverse and one of them twice.
 -- Assumes nothing.
-use mathlib.Core.Path.{_≡_, refl, sym, ap, _∙_}
-use mathlib.Core.Bool.{Bool, true, false, cond}
+use mathlib.Core.Path.{_≡_, refl}
+use mathlib.Core.Bool.{true}
 use mathlib.Core.List.{List, [], _∷_, _++_, List·Memᴰ, List·Memᴰ·head, List·Memᴰ·tail}
-use Prim.Native.Nat.{ℕ, zero, suc, _*_, _<_, _≤_}
+use Prim.Native.Nat.{ℕ, zero, suc, _<_}
 use native.Mathlib.Omega.{arith}
 use lib.ListN.{length, replicate, length-replicate}
 use Rattle.buffer.specs.Compare.{blankOf}
@@ -15,14 +15,14 @@ use Rattle.bank.specs.Sound.{headerGood, tableGood, laidOutGood, bodyGood, allG
 use Rattle.bank.specs.Stretch.{fitsAt, laidOut, blankOutside}
 use Rattle.bank.specs.Table.{entryAt, entriesFrom, restOf, stretchesOf}
 use Rattle.sender.specs.declared.request.Request.the-variants.{WriteStart, WriteEnd}
-use Rattle.sender.specs.Packet.{sectorOf, sentOf, packetCount, packetFrame}
+use Rattle.sender.specs.Packet.{sectorOf, sentOf, packetCount, packetSector, packetFrame}
 use Rattle.sender.specs.Request.{requestFrame}
 use Rattle.client.specs.declared.record.Latest.the-variants.{Nothing}
 use Rattle.client.specs.declared.record.State.the-variants.{Control}
 use Rattle.client.specs.Perform.{fitOf}
 use Rattle.client.specs.Record.{noneReceived}
 use Rattle.demands.specs.Board.{Board, Call, Input, Datagram, stepMachine}
-use Rattle.demands.specs.Demand2.{Lends, Packets, none, more, Ready, Fit, Delivery, Delivered}
+use Rattle.demands.specs.Demand2.{Lends, none, more, Ready, Delivery, Delivered}
 use Rattle.demands.proofs.Demand2.{demand2}
 
 -- a table with one body, four bytes in the second sector
@@ -42,6 +42,14 @@ image-fit = refl
 pub two-packets : packetCount image 2 ≡ 2
 unfolding image sentOf sectorOf sectorOffset goodN blankOf
 two-packets = refl
+
+pub two-good : goodN 2 ≡ true
+unfolding goodN
+two-good = refl
+
+pub sectors-are : (packetSector image 2 0 ≡ 1) × (packetSector image 2 1 ≡ 2)
+unfolding image sentOf sectorOf sectorOffset goodN blankOf
+sectors-are = (refl, refl)
 
 -- banks of zeros
 unfoldable pub witness-board : Board

@@ -29,7 +29,7 @@ use Rattle.sender.specs.Response.{responseOf, responseNumber}
 use Rattle.client.specs.Answer.{writtenBytes}
 use Rattle.client.specs.Perform.{fitOf}
 use Rattle.client.specs.Step.{targetOf}
-use Rattle.demands.specs.Board.{Board, Call, Input, Datagram, Outcome, said, Machine, after}
+use Rattle.demands.specs.Board.{Board, Call, Input, Datagram, said, Machine, after}
 use Rattle.demands.specs.Demand2.{Ready, Delivery}
 
 -- ---- the text's bytes at their addresses

@@ -1,12 +1,12 @@
 -- The paper's worked examples 1 to 11 as one table with one claim (01, 'Worked examples to hold').
 -- Assumes nothing.
 use mathlib.Core.Path.{_≡_}
-use mathlib.Core.Bool.{Bool, true, false, not, _&&_, cond}
+use mathlib.Core.Bool.{Bool, true, false, not, _&&_}
 use mathlib.Core.List.{List, [], _∷_, _++_}
 use Prim.Native.Nat.{ℕ, _+_, _*_, _%_, _≤_}
 use lib.Dec.{eqb, leb}
 use lib.ListN.{length, replicate}
-use Rattle.frame.specs.Frame.{writeFrame, frameError}
+use Rattle.frame.specs.Frame.{writeFrame}
 use Rattle.frame.specs.Read.{byteAt, readOf}
 use Rattle.frame.specs.declared.read.Footer.{Footer}
 use Rattle.frame.specs.declared.read.Footer.the-variants.{End}
