@@ -113,11 +113,11 @@ module _ (c : Client) (marks datagram : List ℕ) (t : ℕ) (good : goodN (c .n)
   fair-asked (Right command) h = fair-command command h
 
 module _ (c : Client) (bank0 bank1 marks address buffer datagram : List ℕ) where
-  lent-well : not (lentGood (c .n) (length bank0) (length bank1) (length marks) (length address) (length buffer)) ≡ false
+  pub lent-well : not (lentGood (c .n) (length bank0) (length bank1) (length marks) (length address) (length buffer)) ≡ false
       → Lent (c .n) (length bank0) (length bank1) (length marks) (length address)
   lent-well l = lent (c .n) (length bank0) (length bank1) (length marks) (length address) (length buffer) (not-false _ l)
 
-  whole-target : Lent (c .n) (length bank0) (length bank1) (length marks) (length address) → length (targetOf (c .running) bank0 bank1) ≡ c .n * sectorSize
+  pub whole-target : Lent (c .n) (length bank0) (length bank1) (length marks) (length address) → length (targetOf (c .running) bank0 bank1) ≡ c .n * sectorSize
   whole-target l = by (c .running)
     where
       by : (running : Bank) → length (targetOf running bank0 bank1) ≡ c .n * sectorSize

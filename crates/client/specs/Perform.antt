@@ -1,6 +1,7 @@
 -- Do: a plan carried out on the target bank (01, 'The client, step by step'). The running bank is never seen here.
 -- Assumes nothing.
 use mathlib.Core.Path.{_≡_}
+use mathlib.Core.Logic.{_⊎_}
 use mathlib.Core.Bool.{Bool, true, false, _||_, cond}
 use mathlib.Core.List.{List}
 use Prim.Native.Nat.{ℕ, _+_, _*_, _≤_}
@@ -33,6 +34,10 @@ fitOf bank = fitBy (verdictOf bank)
 -- "1D if the data are all 0xFF", or if the sector already was what it should become
 abbrev pub storeResult : Bool → Bool → ℕ
 storeResult blank already = cond (blank || already) 0x1D 0x06
+
+-- the write results of a packet that was stored
+abbrev pub Accepted : ℕ → Type 0
+Accepted write = (write ≡ 0x06) ⊎ (write ≡ 0x1D)
 
 -- "over the whole 512-byte sector as it stands afterwards"
 abbrev pub sectorCrc : List ℕ → ℕ → ℕ

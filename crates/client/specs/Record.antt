@@ -1,5 +1,6 @@
 -- The client's record, and every way in which it changes (01, 'The client, step by step').
 -- Assumes nothing.
+use mathlib.Core.Path.{_≡_}
 use mathlib.Core.Bool.{Bool, true, false}
 use mathlib.Core.List.{List}
 use Prim.Native.Nat.{ℕ, _-_}
@@ -10,6 +11,14 @@ use Rattle.client.specs.declared.record.Client.{Client}
 use Rattle.client.specs.declared.record.Latest.{Latest}
 use Rattle.client.specs.declared.record.Latest.the-variants.{Nothing}
 use Rattle.client.specs.declared.record.State.the-variants.{Closed, Idle, Control, Write}
+
+-- what no command changes: N "fixed when a client is made", the bank that runs, the version
+pub record Stays (before after : Client) : Type 0 where
+  pub sectors : after .n ≡ before .n
+  pub runs : after .running ≡ before .running
+  pub major : after .major ≡ before .major
+  pub minor : after .minor ≡ before .minor
+  pub revision : after .revision ≡ before .revision
 
 -- "no sector received yet"
 unfoldable pub noneReceived : List Bool

@@ -3,9 +3,10 @@
 use mathlib.Core.Path.{_≡_, sym, ap, _∙_}
 use mathlib.Core.Bool.{Bool, true, false, not}
 use mathlib.Core.List.{List, _++_}
-use Prim.Native.Nat.{ℕ, _+_, _-_, _≤_}
+use Prim.Native.Nat.{ℕ, _+_, _-_, _*_, _≤_}
 use native.Mathlib.Omega.{arith}
-use lib.ListN.{length, take, drop, length-replicate, replicate-append-replicate}
+use lib.ListN.{length, take, drop, length-replicate, getD-replicate, replicate-append-replicate}
+use lib.Seq.{ext-getD, getD-take, getD-drop}
 use borrow.Author.Tests.{not-true}
 use Rattle.buffer.specs.Compare.{blankOf}
 use Rattle.buffer.proofs.Comparing.{blank-true, blank-filled}
@@ -44,6 +45,20 @@ padded-blanks bytes h b =
     ap (λ (l : List ℕ). l ++ blanks (sectorBytes - length bytes)) (blank-true bytes b)
     ∙ replicate-append-replicate (length bytes) (sectorBytes - length bytes) 0xFF
     ∙ ap blanks e
+
+-- a sector of a bank that is blank
+pub sector-blanks : (n k : ℕ) → 1 ≤ k → k ≤ n → sectorOf (blanks (n * sectorBytes)) k ≡ blankSector
+unfolding sectorOf blankSector
+sector-blanks n k a l =
+    let size : length (blanks (n * sectorBytes)) ≡ n * sectorBytes = length-blanks (n * sectorBytes) in
+    let part : length (take sectorBytes (drop (startOf k) (blanks (n * sectorBytes)))) ≡ sectorBytes =
+    length-sector (blanks (n * sectorBytes)) k (record { first = a; last = omega arith }) in
+    ext-getD 0 (take sectorBytes (drop (startOf k) (blanks (n * sectorBytes)))) (blanks sectorBytes) (part ∙ sym (length-blanks sectorBytes))
+    (λ i h.
+    getD-take sectorBytes (drop (startOf k) (blanks (n * sectorBytes))) i 0 (omega arith)
+    ∙ getD-drop (startOf k) (blanks (n * sectorBytes)) i 0
+    ∙ getD-replicate {A = ℕ} (n * sectorBytes) (startOf k + i) 0xFF 0 (omega arith)
+    ∙ sym (getD-replicate {A = ℕ} sectorBytes i 0xFF 0 (omega arith)))
 
 -- ---- the look at sector k
 

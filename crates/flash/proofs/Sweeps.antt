@@ -11,11 +11,11 @@ use lib.ListN.{length, getD, take, drop, length-replicate}
 use borrow.Author.Tests.{eqb-true, eqb-false, leb-true, leb-false, lt-leb, not-true}
 use borrow.Rule.Slice.PartMut.{putMid}
 use Rattle.buffer.proofs.Bools.{and-false}
-use Rattle.flash.specs.Sector.{sectorBytes, erasedOf}
+use Rattle.flash.specs.Sector.{sectorBytes, blanks, erasedOf}
 use Rattle.flash.specs.Bank.{startOf, hasSector, sectorOf, withSector, blankSector, sweptOne, swept, sweptOf}
-use Rattle.flash.proofs.Blanks.{erased-blank}
+use Rattle.flash.proofs.Blanks.{erased-blank, sector-blanks}
 use Rattle.flash.proofs.Changes.{Keeps, at-has, at-none, length-at, at-here, at-other}
-use Rattle.flash.proofs.Sectors.{Has, has, has-still, length-sector, lent-out, lent-back}
+use Rattle.flash.proofs.Sectors.{Has, has, has-still, length-sector, ext-sector, lent-out, lent-back}
 
 pub keeps-erased : Keeps erasedOf
 unfolding erasedOf
@@ -106,6 +106,15 @@ module _ (bank : List ℕ) (n : ℕ) (received : List Bool) where
   pub swept-missed : (k : ℕ) → Has (length bank) k → k ≤ n → getD received (k - 1) false ≡ false → sectorOf (sweptOf bank n received) k ≡ blankSector
   swept-missed k h l r =
       swept-sector k h l ∙ ap (λ (t : Bool). cond t (sectorOf bank k) blankSector) r
+
+-- nothing received: every byte of the bank is 0xFF then
+pub swept-blank : (bank : List ℕ) (n : ℕ) (received : List Bool) → length bank ≡ n * sectorBytes
+    → ((i : ℕ) → i < n → getD received i false ≡ false) → sweptOf bank n received ≡ blanks (n * sectorBytes)
+swept-blank bank n received w none =
+    ext-sector (sweptOf bank n received) (blanks (n * sectorBytes)) n (length-sweep bank n received ∙ w) (length-replicate (n * sectorBytes) 0xFF)
+    (λ k a l.
+    swept-missed bank n received k (record { first = a; last = omega arith }) l (none (k - 1) (omega arith))
+    ∙ sym (sector-blanks n k a l))
 
 -- ---- each way out of a turn, and the turns as the loop has them
 

@@ -161,6 +161,18 @@ module _ (base size : ℕ) where
       by rest (on d q x g) zero h = λ f z. x f (sym q ∙ z)
       by rest (on d q x g) (suc m) h = λ f z. rest d (sym (ap outcome-of g) ∙ e) m (le-of-suc-le-suc h) f (sym (says-next s l ls d q m) ∙ z)
 
+  -- the end record was seen
+  pub accepted-over : (s : State) (k : ℕ) (image : List ℕ) (ls : List (List ℕ)) → Read s k image ls .outcome ≡ Through → stateAt base size s ls (length ls) .over ≡ true
+  unfolding stateAt
+  accepted-over s k image [] e = ends s k image e .1
+  accepted-over s k image (l ∷ ls) e = by (λ d. accepted-over (stateAfter d s) (k + 1) (imageAfter base l d image) ls) (next s k image l ls)
+    where
+      by :
+          ((d : Found) → Read (stateAfter d s) (k + 1) (imageAfter base l d image) ls .outcome ≡ Through → stateAt base size (stateAfter d s) ls (length ls) .over ≡ true)
+          → Next s k image l ls → stateAt base size s (l ∷ ls) (suc (length ls)) .over ≡ true
+      by rest (stops f q g) = let z : Stopped (record { kind = f; line = k }) ≡ Through = sym (ap outcome-of g) ∙ e in no-way (cc)
+      by rest (on d q x g) = ap (λ (t : State). t .over) (state-next s l ls d q (length ls)) ∙ rest d (sym (ap outcome-of g) ∙ e)
+
   -- what was written below the end of earlier data stays
   kept-step : (s : State) (l image : List ℕ) (i : ℕ) → base + i < s .last → (d : Found) → foundOf base size s l ≡ d
       → (base + i < stateAfter d s .last) × (getD (imageAfter base l d image) i 0 ≡ getD image i 0)

@@ -1,0 +1,189 @@
+-- What a plan may be: what the deciding tells of record and datagram where a session begins, a sector is stored, a session ends.
+-- Assumes nothing.
+use mathlib.Core.Path.{_≡_, refl}
+use mathlib.Core.Bool.{true, false, not, _&&_, _||_, false≢true}
+use mathlib.Core.List.{List}
+use Prim.Native.Nat.{ℕ, _+_, _-_, _*_}
+use native.Mathlib.Omega.{arith}
+use lib.Dec.{eqb}
+use lib.ListN.{length, getD, drop, length-drop}
+use lib.Seq.{length-take-le}
+use borrow.Author.Tests.{not-false}
+use Rattle.buffer.proofs.Bools.{split}
+use Rattle.frame.specs.Read.{readOf, writtenOf}
+use Rattle.frame.specs.declared.read.Footer.{Footer}
+use Rattle.frame.specs.declared.read.Read.{Read}
+use Rattle.frame.specs.declared.read.Read.the-variants as read
+use Rattle.frame.proofs.Told.{Told, told}
+use Rattle.bank.specs.Layout.{sectorSize, goodN}
+use Rattle.client.specs.declared.answer.Answer.{Answer}
+use Rattle.client.specs.declared.answer.Answer.the-variants.{Refused, FrameError, Response, BankIs, VersionIs, Written}
+use Rattle.client.specs.declared.command.Asked.{Asked}
+use Rattle.client.specs.declared.command.Asked.the-variants.{Fault, NoRequest, WrongLength, Right}
+use Rattle.client.specs.declared.command.Command.{Command}
+use Rattle.client.specs.declared.command.Command.the-variants.{ModeStart, BankInfo, VersionInfo, WriteStart, WriteEnd, ModeEnd, Packet}
+use Rattle.client.specs.declared.plan.Plan.{Plan}
+use Rattle.client.specs.declared.plan.Plan.the-variants.{Keep, Open, Close, Begin, Store, Wear, Finish}
+use Rattle.client.specs.declared.record.Client.{Client}
+use Rattle.client.specs.declared.record.State.{State}
+use Rattle.client.specs.declared.record.State.the-variants as state
+use Rattle.client.specs.Command.{byCode, askedBy, askedOf, fitsState, declinedOf}
+use Rattle.client.specs.Host.{isClosed}
+use Rattle.client.specs.Plan.{lentGood, isWorn, anyWorn, valuesGood, addressesGood, planStart, planEnd, planPacket, planGood, planCommand, planAsked, planOf}
+use Rattle.client.specs.Step.{targetOf, planned}
+use Rattle.client.proofs.Stepping.{lent-well, whole-target}
+
+-- ---- what a plan may be
+
+-- an answer that tells of no session begun or ended, and of no sector stored
+abbrev pub Quiet : Answer → Type 0
+Quiet (Refused why) = Unit {0}
+Quiet FrameError = Unit {0}
+Quiet (Response code result) =
+    ((eqb code 0x70 && eqb result 0x06) ≡ false) × ((eqb code 0x75 && (eqb result 0x06 || eqb result 0x1E)) ≡ false)
+Quiet (BankIs bank) = Unit {0}
+Quiet (VersionIs major minor revision) = Unit {0}
+Quiet (Written sector result write crc) = (eqb result 0x06 && (eqb write 0x06 || eqb write 0x1D)) ≡ false
+
+-- a packet that is stored
+pub record Storing (c : Client) (target : ℕ) (datagram : List ℕ) (sector m : ℕ) : Type 0 where
+  pub footer : Footer
+  pub reads : readOf datagram ≡ read.Write sector m footer
+  pub sent : length (writtenOf datagram m) ≡ m
+  pub writing : c .state ≡ state.Write
+  pub good : goodN (c .n) ≡ true
+  pub whole : target ≡ c .n * sectorSize
+  pub values : valuesGood (c .n) sector m ≡ true
+
+pub record Beginning (c : Client) (target : ℕ) : Type 0 where
+  pub good : goodN (c .n) ≡ true
+  pub whole : target ≡ c .n * sectorSize
+
+pub record Finishing (c : Client) (target : ℕ) : Type 0 where
+  pub writing : c .state ≡ state.Write
+  pub good : goodN (c .n) ≡ true
+  pub whole : target ≡ c .n * sectorSize
+
+abbrev pub Leads : Client → ℕ → List ℕ → Plan → Type 0
+Leads c target datagram (Keep answer) = Quiet answer
+Leads c target datagram Open = Unit {0}
+Leads c target datagram Close = Unit {0}
+Leads c target datagram Begin = Beginning c target
+Leads c target datagram (Store sector m) = Storing c target datagram sector m
+Leads c target datagram Wear = Unit {0}
+Leads c target datagram Finish = Finishing c target
+
+-- ---- how a packet was read
+
+record Packed (datagram : List ℕ) (sector m : ℕ) : Type 0 where
+  footer : Footer
+  reads : readOf datagram ≡ read.Write sector m footer
+  sent : length (writtenOf datagram m) ≡ m
+
+abbrev Bears : List ℕ → Command → Type 0
+Bears d ModeStart = Unit {0}
+Bears d BankInfo = Unit {0}
+Bears d VersionInfo = Unit {0}
+Bears d WriteStart = Unit {0}
+Bears d WriteEnd = Unit {0}
+Bears d ModeEnd = Unit {0}
+Bears d (Packet sector m) = Packed d sector m
+
+abbrev Asks : List ℕ → Asked → Type 0
+Asks d Fault = Unit {0}
+Asks d NoRequest = Unit {0}
+Asks d (WrongLength command) = Unit {0}
+Asks d (Right command) = Bears d command
+
+asks-code : (d : List ℕ) (code n : ℕ) → Asks d (byCode code n)
+unfolding byCode
+asks-code d code n =
+    split (Asks d) (eqb code 0x61) (λ _. split (Asks d) (eqb n 0) (λ _. tt) (λ _. tt))
+    (λ _. split (Asks d) (eqb code 0x62) (λ _. split (Asks d) (eqb n 0) (λ _. tt) (λ _. tt))
+    (λ _. split (Asks d) (eqb code 0x68) (λ _. split (Asks d) (eqb n 0) (λ _. tt) (λ _. tt))
+    (λ _. split (Asks d) (eqb code 0x40) (λ _. split (Asks d) (eqb n 8) (λ _. tt) (λ _. tt))
+    (λ _. split (Asks d) (eqb code 0x45) (λ _. split (Asks d) (eqb n 0) (λ _. tt) (λ _. tt))
+    (λ _. split (Asks d) (eqb code 0x64) (λ _. split (Asks d) (eqb n 0) (λ _. tt) (λ _. tt)) (λ _. tt))))))
+
+-- the written bytes lie within the datagram
+sent-whole : (d : List ℕ) (m : ℕ) → length d ≡ m + 7 → length (writtenOf d m) ≡ m
+sent-whole d m e = length-take-le m (drop 5 d) (omega (arith, length-drop 5 d))
+
+asks : (d : List ℕ) → Asks d (askedOf d)
+unfolding askedBy
+asks d = by (readOf d) refl (told d)
+  where
+    by : (r : Read) → readOf d ≡ r → Told d r → Asks d (askedBy r)
+    by read.Fault e t = tt
+    by (read.Control code n) e t = asks-code d code n
+    by (read.Write sector m footer) e t = record { footer = footer; reads = e; sent = sent-whole d m (t .whole) }
+
+-- ---- the deciding, case by case
+
+quiet-declined : (command : Command) (result : ℕ) → eqb result 0x06 ≡ false → eqb result 0x1E ≡ false → Quiet (declinedOf command result)
+quiet-declined ModeStart result e f = (refl, refl)
+quiet-declined BankInfo result e f = (refl, refl)
+quiet-declined VersionInfo result e f = (refl, refl)
+quiet-declined WriteStart result e f = (e, refl)
+quiet-declined WriteEnd result e f = (refl, rw (e, f))
+quiet-declined ModeEnd result e f = (refl, refl)
+quiet-declined (Packet sector m) result e f = rw e
+
+in-write-end : (s : State) → fitsState s WriteEnd ≡ true → s ≡ state.Write
+in-write-end state.Closed e = absurd (false≢true e)
+in-write-end state.Idle e = absurd (false≢true e)
+in-write-end state.Control e = absurd (false≢true e)
+in-write-end state.Write e = refl
+
+in-write-packet : (s : State) (sector m : ℕ) → fitsState s (Packet sector m) ≡ true → s ≡ state.Write
+in-write-packet state.Closed sector m e = absurd (false≢true e)
+in-write-packet state.Idle sector m e = absurd (false≢true e)
+in-write-packet state.Control sector m e = absurd (false≢true e)
+in-write-packet state.Write sector m e = refl
+
+module _ (c : Client) (marks datagram : List ℕ) (t : ℕ) (good : goodN (c .n) ≡ true) (whole : t ≡ c .n * sectorSize) where
+  abbrev Led : Plan → Type 0
+  Led plan = Leads c t datagram plan
+
+  leads-packet : (sector m : ℕ) → Packed datagram sector m → c .state ≡ state.Write → Led (planPacket (c .n) marks sector m)
+  unfolding planPacket
+  leads-packet sector m p s =
+      split Led (valuesGood (c .n) sector m)
+      (λ v. split Led (isWorn (getD marks (sector - 1) 0)) (λ _. refl)
+      (λ _. record { footer = p .footer; reads = p .reads; sent = p .sent; writing = s; good = good; whole = whole; values = v }))
+      (λ _. refl)
+
+  leads-good : (command : Command) → Bears datagram command → fitsState (c .state) command ≡ true → Led (planGood c command marks datagram)
+  unfolding planGood planStart planEnd
+  leads-good ModeStart b s = tt
+  leads-good BankInfo b s = tt
+  leads-good VersionInfo b s = tt
+  leads-good WriteStart b s = split Led (addressesGood c datagram) (λ _. record { good = good; whole = whole }) (λ _. (refl, refl))
+  leads-good WriteEnd b s =
+      split Led (anyWorn marks) (λ _. tt) (λ _. record { writing = in-write-end (c .state) s; good = good; whole = whole })
+  leads-good ModeEnd b s = tt
+  leads-good (Packet sector m) b s = leads-packet sector m b (in-write-packet (c .state) sector m s)
+
+  leads-command : (command : Command) → Bears datagram command → Led (planCommand c command marks datagram)
+  unfolding planCommand
+  leads-command command b = split Led (fitsState (c .state) command) (leads-good command b) (λ _. quiet-declined command 0x15 refl refl)
+
+  leads-asked : (asked : Asked) → Asks datagram asked → Led (planAsked c asked marks datagram)
+  unfolding planAsked
+  leads-asked Fault a = tt
+  leads-asked NoRequest a = (refl, refl)
+  leads-asked (WrongLength command) a = quiet-declined command 0x05 refl refl
+  leads-asked (Right command) a = leads-command command a
+
+module _ (c : Client) (bank0 bank1 marks address buffer datagram : List ℕ) where
+  pub leads : Leads c (length (targetOf (c .running) bank0 bank1)) datagram (planned c bank0 bank1 marks address buffer datagram)
+  unfolding planOf
+  leads =
+      let t : ℕ = length (targetOf (c .running) bank0 bank1) in
+      let P : Plan → Type 0 = Leads c t datagram in
+      split P (not (goodN (c .n))) (λ _. tt)
+      (λ g. split P (not (lentGood (c .n) (length bank0) (length bank1) (length marks) (length address) (length buffer))) (λ _. tt)
+      (λ l. split P (isClosed (c .state)) (λ _. tt)
+      (λ _.
+      let w = whole-target c bank0 bank1 marks address buffer datagram (lent-well c bank0 bank1 marks address buffer datagram l) in
+      leads-asked c marks datagram t (not-false _ g) w (askedOf datagram) (asks datagram))))

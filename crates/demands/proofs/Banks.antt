@@ -1,0 +1,90 @@
+-- The check of a bank and the view of a body are as asked.
+-- Assumes nothing.
+use mathlib.Core.Path.{_≡_, refl, ap, _∙_}
+use mathlib.Core.Bool.{Bool, true, false, _&&_}
+use mathlib.Core.List.{List, []}
+use Prim.Native.Nat.{ℕ, _*_, _/_, _%_, _≤_, _<_}
+use native.Mathlib.Omega.{arith}
+use lib.Dec.{eqb, ltb}
+use lib.ListN.{length}
+use borrow.Author.Tests.{eqb-true, eq-eqb, lt-ltb, le-ltb}
+use Rattle.buffer.proofs.Bools.{and-left, and-right, and-false, split}
+use Rattle.bank.specs.declared.layout.Bank.{Bank}
+use Rattle.bank.specs.declared.layout.Bank.the-variants.{Zero, One}
+use Rattle.bank.specs.Layout.{sectorSize, goodN, wholeLength}
+use Rattle.bank.specs.Meaning.{Kept}
+use Rattle.bank.specs.Sound.{soundOf, stretchBytes, verdictOf, bodyOf}
+use Rattle.bank.specs.Table.{countOf, entryAt}
+use Rattle.bank.proofs.Meaning.{kept-back, unsound}
+use Rattle.client.specs.declared.record.Client.{Client}
+use Rattle.client.specs.Body.{banksGood, chosen, nextBody}
+use Rattle.demands.specs.Banks.{MeetsCheck, MeetsBody}
+
+pub check-meets : MeetsCheck verdictOf
+unfolding verdictOf
+check-meets =
+    record {
+      wrong = λ b w. rw w;
+      sound = λ b w k. rw (w, kept-back b k);
+      unsound = λ b w k. rw (w, unsound b k);
+    }
+
+-- ---- bodies
+
+whole-good : (n size : ℕ) → goodN n ≡ true → size ≡ n * sectorSize → wholeLength size ≡ true
+unfolding wholeLength
+whole-good n size g e =
+    let r : size % 512 ≡ 0 = omega arith in
+    let q : size / 512 ≡ n = omega arith in
+    rw (eq-eqb (size % 512) 0 r, q) g
+
+module _ (c : Client) (bank0 bank1 : List ℕ) where
+  whole-chosen : banksGood (c .n) (length bank0) (length bank1) ≡ true → wholeLength (length (chosen (c .next) bank0 bank1)) ≡ true
+  unfolding banksGood
+  whole-chosen e =
+      let s : Bool = eqb (length bank0) (c .n * sectorSize) in
+      let t : Bool = eqb (length bank1) (c .n * sectorSize) in
+      let g = and-left (goodN (c .n)) (s && t) e in
+      let r = and-right (goodN (c .n)) (s && t) e in
+      by (c .next) g (eqb-true _ _ (and-left s t r)) (eqb-true _ _ (and-right s t r))
+    where
+      by : (x : Bank) → goodN (c .n) ≡ true → length bank0 ≡ c .n * sectorSize → length bank1 ≡ c .n * sectorSize → wholeLength (length (chosen x bank0 bank1)) ≡ true
+      by Zero g z o = whole-good (c .n) (length bank0) g z
+      by One g z o = whole-good (c .n) (length bank1) g o
+
+empty-body : (b : List ℕ) (i : ℕ) → (wholeLength (length b) && (soundOf b && ltb i (countOf b))) ≡ false → bodyOf b i ≡ []
+unfolding bodyOf
+empty-body b i e = rw e
+
+no-body : (c : Client) (bank0 bank1 : List ℕ) (i : ℕ) → bodyOf (chosen (c .next) bank0 bank1) i ≡ [] → nextBody c bank0 bank1 i ≡ []
+unfolding nextBody
+no-body c bank0 bank1 i e = split (λ (l : List ℕ). l ≡ []) (banksGood (c .n) (length bank0) (length bank1)) (λ _. e) (λ _. refl)
+
+body-there : (c : Client) (bank0 bank1 : List ℕ) (i : ℕ) → banksGood (c .n) (length bank0) (length bank1) ≡ true → Kept (chosen (c .next) bank0 bank1)
+    → i < countOf (chosen (c .next) bank0 bank1)
+    → nextBody c bank0 bank1 i ≡ stretchBytes (chosen (c .next) bank0 bank1) (entryAt (chosen (c .next) bank0 bank1) i)
+unfolding nextBody bodyOf
+body-there c bank0 bank1 i g k h =
+    rw (g, whole-chosen c bank0 bank1 g, kept-back (chosen (c .next) bank0 bank1) k, lt-ltb i (countOf (chosen (c .next) bank0 bank1)) h)
+
+body-wrong : (c : Client) (bank0 bank1 : List ℕ) (i : ℕ) → banksGood (c .n) (length bank0) (length bank1) ≡ false → nextBody c bank0 bank1 i ≡ []
+unfolding nextBody
+body-wrong c bank0 bank1 i g = rw g
+
+body-unsound : (c : Client) (bank0 bank1 : List ℕ) (i : ℕ) → (Kept (chosen (c .next) bank0 bank1) → ⊥) → nextBody c bank0 bank1 i ≡ []
+body-unsound c bank0 bank1 i k =
+    let b : List ℕ = chosen (c .next) bank0 bank1 in
+    no-body c bank0 bank1 i
+    (empty-body b i (ap (λ (t : Bool). wholeLength (length b) && (t && ltb i (countOf b))) (unsound b k) ∙ and-false (wholeLength (length b))))
+
+body-past : (c : Client) (bank0 bank1 : List ℕ) (i : ℕ) → countOf (chosen (c .next) bank0 bank1) ≤ i → nextBody c bank0 bank1 i ≡ []
+body-past c bank0 bank1 i h =
+    let b : List ℕ = chosen (c .next) bank0 bank1 in
+    no-body c bank0 bank1 i
+    (empty-body b i
+    (ap (λ (t : Bool). wholeLength (length b) && (soundOf b && t)) (le-ltb i (countOf b) h)
+    ∙ ap (λ (t : Bool). wholeLength (length b) && t) (and-false (soundOf b))
+    ∙ and-false (wholeLength (length b))))
+
+pub body-meets : MeetsBody nextBody
+body-meets = record { there = body-there; wrong = body-wrong; unsound = body-unsound; past = body-past }

@@ -1,0 +1,79 @@
+-- What the bytes of an answer tell of it.
+-- Assumes nothing.
+use mathlib.Core.Path.{_≡_, refl}
+use mathlib.Core.Logic.{inl, inr}
+use mathlib.Core.Bool.{Bool, true, false, _&&_, _||_}
+use Prim.Native.Nat.{ℕ}
+use lib.Dec.{eqb}
+use Rattle.buffer.specs.Number.{bytesOf}
+use Rattle.frame.specs.Frame.{framed, controlFrame, writeFrame}
+use Rattle.client.specs.declared.answer.Answer.{Answer}
+use Rattle.client.specs.declared.answer.Answer.the-variants.{Refused, FrameError, Response, BankIs, VersionIs, Written}
+use Rattle.client.specs.Answer.{answerBytes}
+use Rattle.client.specs.Perform.{Accepted}
+use Rattle.client.proofs.Leading.{Quiet}
+use Rattle.demands.specs.Session.{isBegin, isEnd, isStored}
+
+either : (a b c : Bool) → (a && (b || c)) ≡ false → ((a && b) || (a && c)) ≡ false
+either true b c e = e
+either false b c e = refl
+
+-- ---- an answer that tells of no session begun or ended, and of no sector stored
+
+pub quiet-begin : (answer : Answer) → Quiet answer → isBegin (answerBytes answer) ≡ false
+unfolding answerBytes controlFrame writeFrame framed
+quiet-begin (Refused why) q = refl
+quiet-begin FrameError q = refl
+quiet-begin (Response code result) q = q .0
+quiet-begin (BankIs bank) q = refl
+quiet-begin (VersionIs major minor revision) q = refl
+quiet-begin (Written sector result write crc) q = refl
+
+pub quiet-end : (answer : Answer) → Quiet answer → isEnd (answerBytes answer) ≡ false
+unfolding answerBytes controlFrame writeFrame framed
+quiet-end (Refused why) q = refl
+quiet-end FrameError q = refl
+quiet-end (Response code result) q = either (eqb code 0x75) (eqb result 0x06) (eqb result 0x1E) (q .1)
+quiet-end (BankIs bank) q = refl
+quiet-end (VersionIs major minor revision) q = refl
+quiet-end (Written sector result write crc) q = refl
+
+pub quiet-stored : (answer : Answer) → Quiet answer → isStored (answerBytes answer) ≡ false
+unfolding answerBytes controlFrame writeFrame framed bytesOf
+quiet-stored (Refused why) q = refl
+quiet-stored FrameError q = refl
+quiet-stored (Response code result) q = refl
+quiet-stored (BankIs bank) q = refl
+quiet-stored (VersionIs major minor revision) q = refl
+quiet-stored (Written sector result write crc) q = q
+
+-- ---- the others
+
+pub response-begin : isBegin (answerBytes (Response 0x70 0x06)) ≡ true
+unfolding answerBytes controlFrame framed
+response-begin = refl
+
+pub response-start-end : isEnd (answerBytes (Response 0x70 0x06)) ≡ false
+unfolding answerBytes controlFrame framed
+response-start-end = refl
+
+pub ended-begin : (result : ℕ) → isBegin (answerBytes (Response 0x75 result)) ≡ false
+unfolding answerBytes controlFrame framed
+ended-begin result = refl
+
+pub ended-stored : (result : ℕ) → isStored (answerBytes (Response 0x75 result)) ≡ false
+unfolding answerBytes controlFrame framed
+ended-stored result = refl
+
+pub written-begin : (sector result write crc : ℕ) → isBegin (answerBytes (Written sector result write crc)) ≡ false
+unfolding answerBytes writeFrame framed
+written-begin sector result write crc = refl
+
+pub written-end : (sector result write crc : ℕ) → isEnd (answerBytes (Written sector result write crc)) ≡ false
+unfolding answerBytes writeFrame framed
+written-end sector result write crc = refl
+
+pub written-stored : (sector write crc : ℕ) → Accepted write → isStored (answerBytes (Written sector 0x06 write crc)) ≡ true
+unfolding answerBytes writeFrame framed bytesOf
+written-stored sector write crc (inl e) = rw e
+written-stored sector write crc (inr e) = rw e

@@ -1,0 +1,322 @@
+-- The worked examples hold.
+-- Assumes nothing.
+use mathlib.Core.Path.{_≡_, refl, sym, ap, subst, _∙_}
+use mathlib.Core.Bool.{Bool, true, false, false≢true}
+use mathlib.Core.List.{List, [], _∷_, _++_}
+use Prim.Native.Nat.{ℕ, _-_, _*_, _≤_, _<_}
+use native.Mathlib.Omega.{arith}
+use lib.ListN.{length, getD, take, drop, replicate, getD-replicate}
+use lib.Seq.{take-at, length-take-le}
+use borrow.Author.Tests.{not-true, eq-eqb}
+use Rattle.buffer.specs.Compare.{sameOf, blankOf}
+use Rattle.buffer.specs.Number.{bytesOf}
+use Rattle.buffer.proofs.Comparing.{same-self}
+use Rattle.crc.specs.Crc.{crcOf}
+use Rattle.frame.specs.Checksum.{checksumOf}
+use Rattle.frame.specs.Frame.{framed, controlFrame, writeFrame, frameError}
+use Rattle.frame.specs.Read.{byteAt, readOf, writtenOf, readControl}
+use Rattle.frame.specs.declared.read.Footer.{Footer}
+use Rattle.frame.specs.declared.read.Footer.the-variants.{End}
+use Rattle.frame.specs.declared.read.Read.the-variants.{Fault, Control, Write}
+use Rattle.flash.specs.Bank.{sectorOf, withSector}
+use Rattle.flash.specs.Sector.{paddedOf}
+use Rattle.flash.proofs.Sectors.{length-with, with-here}
+use Rattle.flash.proofs.Words.{length-padded}
+use Rattle.flash.proofs.Writes.{FitsAt}
+use Rattle.bank.specs.declared.layout.Bank.{Bank}
+use Rattle.bank.specs.declared.layout.Bank.the-variants.{Zero, One}
+use Rattle.bank.specs.Layout.{sectorSize, goodN, endOf}
+use Rattle.hex.specs.declared.fault.Kind.the-variants.{H6}
+use Rattle.hex.specs.declared.read.Answer.the-variants.{Refused, Accepted}
+use Rattle.hex.specs.Digit.{digitOf, isDigit, byteOf}
+use Rattle.hex.specs.Digit.{bytesOf as digitsOf}
+use Rattle.hex.specs.Line.{lines}
+use Rattle.hex.specs.Record.{digitsIn, digitsWhole, recordOf, total, dataAt, typed, foundOf}
+use Rattle.hex.specs.Read.{readLines}
+use Rattle.hex.specs.Read.{readOf as readText}
+use Rattle.client.specs.declared.record.State.{State}
+use Rattle.client.specs.declared.record.State.the-variants as state
+use Rattle.client.specs.Answer.{writtenBytes, answerBytes}
+use Rattle.client.specs.Host.{isClosed}
+use Rattle.client.specs.Perform.{storeResult}
+use Rattle.client.specs.Plan.{isWorn, valuesGood}
+use Rattle.client.specs.Step.{targetOf, zeroOf, oneOf}
+use Rattle.client.proofs.Courses.{accepted, fits-stored}
+use Rattle.client.proofs.Planning.{values-zero, values-above, values-empty, values-long, values-words, values-low, values-high}
+use Rattle.demands.specs.Board.{Board, Call, Datagram, Outcome, said, backIn, lentTarget, stepMachine}
+use Rattle.demands.specs.Demand1.{packetStored}
+use Rattle.demands.specs.Demand2.{Lends}
+use Rattle.demands.specs.Examples.{Calls, Brings, Verdict, goodLength, isIdle, live, none, also, Examples}
+use Rattle.demands.specs.Session.{isStored}
+use Rattle.demands.proofs.Bytes.{written-stored}
+use Rattle.demands.proofs.Demand2.{heard, said-back, control-short, written-short}
+use Rattle.demands.proofs.Rows.{Heard, mode-start, fault, no-request, packet, packet-wrong}
+use Rattle.demands.proofs.Steps.{machine-stays, zero-kept, one-kept}
+use Rattle.demands.proofs.Storing.{storing}
+
+-- ---- bytes
+
+request-1 : controlFrame 0x61 [] ≡ 0x01 ∷ 0x01 ∷ 0x61 ∷ 0x9E ∷ 0x03 ∷ []
+unfolding controlFrame framed checksumOf
+request-1 = refl
+
+answer-1 : controlFrame 0x71 (0x06 ∷ []) ≡ 0x01 ∷ 0x02 ∷ 0x71 ∷ 0x06 ∷ 0x87 ∷ 0x03 ∷ []
+unfolding controlFrame framed checksumOf
+answer-1 = refl
+
+sum-2 : (footer : Footer) → byteAt (writeFrame 1 (0xFF ∷ 0x80 ∷ 0x40 ∷ 0x22 ∷ []) footer) 9 ≡ 0x1A
+unfolding writeFrame framed bytesOf checksumOf
+sum-2 footer = refl
+
+answer-3 : controlFrame 0xE0 (0x05 ∷ []) ≡ 0x01 ∷ 0x02 ∷ 0xE0 ∷ 0x05 ∷ 0x19 ∷ 0x03 ∷ []
+unfolding controlFrame framed checksumOf
+answer-3 = refl
+
+reads-1 : readOf (0x01 ∷ 0x01 ∷ 0x61 ∷ 0x9E ∷ 0x03 ∷ []) ≡ Control 0x61 0
+unfolding readOf readControl checksumOf
+reads-1 = refl
+
+reads-3 : readOf (0x01 ∷ 0x01 ∷ 0x60 ∷ 0x9F ∷ 0x03 ∷ []) ≡ Control 0x60 0
+unfolding readOf readControl checksumOf
+reads-3 = refl
+
+reads-6 : readOf [] ≡ Fault
+unfolding readOf
+reads-6 = refl
+
+request-4 : controlFrame 0x40 (bytesOf 4 0x14000A00 ++ bytesOf 4 (endOf One 491)) ≡ 0x01 ∷ 0x09 ∷ 0x40 ∷ 0x14 ∷ 0x00 ∷ 0x0A ∷ 0x00 ∷ 0x14 ∷ 0x03 ∷ 0xDF ∷ 0xFF ∷ 0xA4 ∷ 0x03 ∷ []
+unfolding controlFrame framed bytesOf checksumOf endOf goodN
+request-4 = refl
+
+request-5 : controlFrame 0x40 (bytesOf 4 0x14000A00 ++ bytesOf 4 (endOf One 32)) ≡ 0x01 ∷ 0x09 ∷ 0x40 ∷ 0x14 ∷ 0x00 ∷ 0x0A ∷ 0x00 ∷ 0x14 ∷ 0x00 ∷ 0x49 ∷ 0xFF ∷ 0x3D ∷ 0x03 ∷ []
+unfolding controlFrame framed bytesOf checksumOf endOf goodN
+request-5 = refl
+
+sum-11 : (footer : Footer) → byteAt (writeFrame 3 ((0x01 ∷ 0x02 ∷ 0x03 ∷ 0x04 ∷ []) ++ replicate 508 0xFF) footer) 517 ≡ 0xED
+unfolding writeFrame framed bytesOf checksumOf
+sum-11 footer = refl
+
+-- ---- answers
+
+calling : (b : Board) (call : Call) → Calls b call → isClosed (b .client .state) ≡ false → Heard b call
+calling b call c l = heard b call (c .good) (c .lends) (c .zero) (c .one) l
+
+idle-only : (s : State) → isIdle s ≡ true → s ≡ state.Idle
+idle-only state.Closed e = absurd (false≢true e)
+idle-only state.Idle e = refl
+idle-only state.Control e = absurd (false≢true e)
+idle-only state.Write e = absurd (false≢true e)
+
+example-1 : (b : Board) (call : Call) → Calls b call → isIdle (b .client .state) ≡ true → call .datagram ≡ 0x01 ∷ 0x01 ∷ 0x61 ∷ 0x9E ∷ 0x03 ∷ []
+    → said (stepMachine b (Datagram call)) ≡ 0x01 ∷ 0x02 ∷ 0x71 ∷ 0x06 ∷ 0x87 ∷ 0x03 ∷ []
+example-1 b call c s d =
+    let i = idle-only (b .client .state) s in
+    ap said (mode-start b call (calling b call c (ap isClosed i)) i (ap readOf d ∙ reads-1))
+    ∙ said-back call (controlFrame 0x71 (0x06 ∷ [])) (control-short 0x71 0x06) (c .lends .room)
+    ∙ answer-1
+
+example-3 : (b : Board) (call : Call) → Calls b call → live (b .client .state) ≡ true → call .datagram ≡ 0x01 ∷ 0x01 ∷ 0x60 ∷ 0x9F ∷ 0x03 ∷ []
+    → said (stepMachine b (Datagram call)) ≡ 0x01 ∷ 0x02 ∷ 0xE0 ∷ 0x05 ∷ 0x19 ∷ 0x03 ∷ []
+example-3 b call c s d =
+    ap said (no-request b call (calling b call c (not-true (isClosed (b .client .state)) s)) 0x60 0 (ap readOf d ∙ reads-3) refl)
+    ∙ said-back call (controlFrame 0xE0 (0x05 ∷ [])) (control-short 0xE0 0x05) (c .lends .room)
+    ∙ answer-3
+
+example-6 : (b : Board) (call : Call) → Calls b call → live (b .client .state) ≡ true → call .datagram ≡ []
+    → said (stepMachine b (Datagram call)) ≡ 0x01 ∷ 0x02 ∷ 0xE0 ∷ 0x07 ∷ 0x17 ∷ 0x03 ∷ []
+example-6 b call c s d =
+    let room = c .lends .room in
+    ap said (fault b call (calling b call c (not-true (isClosed (b .client .state)) s)) (ap readOf d ∙ reads-6))
+    ∙ said-back call frameError (omega arith) room
+
+-- ---- packets
+
+module _ (b : Board) (call : Call) (sector m : ℕ) (p : Brings b call sector m) where
+  packet-heard : Heard b call
+  packet-heard = calling b call (p .calls) (ap isClosed (p .writing))
+
+  abbrev bytes : List ℕ
+  bytes = writtenOf (call .datagram) m
+
+  abbrev result : ℕ
+  result = storeResult (blankOf bytes) (sameOf (sectorOf (lentTarget b call) sector) (paddedOf bytes))
+
+  unworn : sector - 1 < b .client .n → isWorn (getD (call .marks) (sector - 1) 0) ≡ false
+  unworn h =
+      ap (λ (l : List ℕ). isWorn (getD l (sector - 1) 0)) (p .calls .lends .marks)
+      ∙ ap isWorn (getD-replicate {A = ℕ} (b .client .n) (sector - 1) 0 0 h)
+
+  stored-is : valuesGood (b .client .n) sector m ≡ true → stepMachine b (Datagram call) ≡ packetStored b call (Write sector m (p .footer))
+  stored-is v =
+      let low = values-low (b .client .n) sector m v in
+      let high = values-high (b .client .n) sector m v in
+      packet b call packet-heard sector m (p .footer) (p .writing) (p .reads) v (unworn (omega arith))
+
+  stored-said : valuesGood (b .client .n) sector m ≡ true → said (stepMachine b (Datagram call)) ≡ writeFrame sector (writtenBytes 0x06 result (crcOf (paddedOf bytes))) End
+  stored-said v =
+      ap said (stored-is v)
+      ∙ said-back call (writeFrame sector (writtenBytes 0x06 result (crcOf (paddedOf bytes))) End) (written-short sector 0x06 result (crcOf (paddedOf bytes))) (p .calls .lends .room)
+
+  taken : valuesGood (b .client .n) sector m ≡ true → Verdict true b call sector
+  unfolding answerBytes
+  taken v =
+      ap isStored (stored-said v)
+      ∙ written-stored sector result (crcOf (paddedOf bytes)) (accepted (blankOf bytes) (sameOf (sectorOf (lentTarget b call) sector) (paddedOf bytes)))
+
+  refused : valuesGood (b .client .n) sector m ≡ false → Verdict false b call sector
+  refused v =
+      ap said (packet-wrong b call packet-heard sector m (p .footer) (p .writing) (p .reads) v)
+      ∙ said-back call (writeFrame sector (writtenBytes 0x05 0x05 0) End) (written-short sector 0x05 0x05 0) (p .calls .lends .room)
+
+-- 7
+good-7 : (m : ℕ) → valuesGood 491 491 m ≡ goodLength m
+unfolding valuesGood
+good-7 m = refl
+
+example-7 : (b : Board) (call : Call) (m : ℕ) → b .client .n ≡ 491 → goodLength m ≡ true → Brings b call 491 m → Verdict true b call 491
+example-7 b call m n g p = taken b call 491 m p (ap (λ (x : ℕ). valuesGood x 491 m) n ∙ good-7 m ∙ g)
+
+example-7-above : (b : Board) (call : Call) (m : ℕ) → b .client .n ≡ 491 → goodLength m ≡ true → Brings b call 492 m → Verdict false b call 492
+example-7-above b call m n g p = refused b call 492 m p (ap (λ (x : ℕ). valuesGood x 492 m) n ∙ sym (values-above 491 492 m (omega arith) (omega arith)))
+
+example-7-zero : (b : Board) (call : Call) (m : ℕ) → b .client .n ≡ 491 → goodLength m ≡ true → Brings b call 0 m → Verdict false b call 0
+example-7-zero b call m n g p = refused b call 0 m p (sym (values-zero (b .client .n) 0 m (omega arith)))
+
+-- 8
+module _ (b : Board) (call : Call) (sector : ℕ) (low : 1 ≤ sector) (high : sector ≤ b .client .n) where
+  example-8 : Brings b call sector 512 → Verdict true b call sector
+  example-8 p = taken b call sector 512 p (sym (values-words (b .client .n) sector 512 low high (omega arith) (omega arith)))
+
+  example-8-long : Brings b call sector 516 → Verdict false b call sector
+  example-8-long p = refused b call sector 516 p (sym (values-long (b .client .n) sector 516 low high (omega arith) (omega arith)))
+
+  example-8-none : Brings b call sector 0 → Verdict false b call sector
+  example-8-none p = refused b call sector 0 p (sym (values-empty (b .client .n) sector 0 low high (omega arith)))
+
+  example-8-odd : Brings b call sector 6 → Verdict false b call sector
+  example-8-odd p = refused b call sector 6 p (sym (values-words (b .client .n) sector 6 low high (omega arith) (omega arith)))
+
+-- 9
+wrong-stored : (sector : ℕ) → isStored (writeFrame sector (writtenBytes 0x05 0x05 0) End) ≡ false
+unfolding writeFrame framed bytesOf
+wrong-stored sector = refl
+
+write-result : (sector w crc : ℕ) → byteAt (writeFrame sector (writtenBytes 0x06 w crc) End) 6 ≡ w
+unfolding writeFrame framed bytesOf
+write-result sector w crc = refl
+
+module _ (b : Board) (call again : Call) (sector m : ℕ) (p : Brings b call sector m) (stored : isStored (said (stepMachine b (Datagram call))) ≡ true)
+    (repeats : again .datagram ≡ call .datagram) (l : Lends (b .client .n) again) where
+  -- what was accepted has good values
+  values : valuesGood (b .client .n) sector m ≡ true
+  values = by (valuesGood (b .client .n) sector m) refl
+    where
+      by : (t : Bool) → valuesGood (b .client .n) sector m ≡ t → t ≡ true
+      by true v = refl
+      by false v = absurd (false≢true (sym (ap isStored (refused b call sector m p v) ∙ wrong-stored sector) ∙ stored))
+
+  abbrev next : Board
+  next = stepMachine b (Datagram call) .board
+
+  abbrev data-bytes : List ℕ
+  data-bytes = writtenOf (call .datagram) m
+
+  -- the target as it was left
+  abbrev left : List ℕ
+  left = withSector (lentTarget b call) sector (paddedOf data-bytes)
+
+  lent-size : length (lentTarget b call) ≡ b .client .n * sectorSize
+  lent-size = by (b .client .running)
+    where
+      by : (x : Bank) → length (targetOf x (take (call .lent0) (b .bank0)) (take (call .lent1) (b .bank1))) ≡ b .client .n * sectorSize
+      by Zero = length-take-le (call .lent1) (b .bank1) (omega (arith, p .calls .lends .one, p .calls .one)) ∙ p .calls .lends .one
+      by One = length-take-le (call .lent0) (b .bank0) (omega (arith, p .calls .lends .zero, p .calls .zero)) ∙ p .calls .lends .zero
+
+  fits : FitsAt (lentTarget b call) sector data-bytes
+  fits =
+      fits-stored (b .client) (lentTarget b call) (call .datagram) sector m
+      (storing (b .client) (length (lentTarget b call)) (call .datagram) sector m (p .footer) (p .reads) (p .writing) (p .calls .good) lent-size values)
+
+  padded-size : length (paddedOf data-bytes) ≡ 512
+  padded-size = length-padded data-bytes (fits .short)
+
+  left-size : length left ≡ b .client .n * sectorSize
+  left-size = length-with (lentTarget b call) sector (paddedOf data-bytes) (fits .inside) padded-size ∙ lent-size
+
+  lent-again : lentTarget next again ≡ left
+  lent-again = ap (λ (o : Outcome). lentTarget (o .board) again) (stored-is b call sector m p values) ∙ by (b .client .running)
+    where
+      by : (x : Bank)
+          → targetOf x (take (again .lent0) (zeroOf x (b .bank0) (backIn (call .lent0) (b .bank0) left))) (take (again .lent1) (oneOf x (b .bank1) (backIn (call .lent1) (b .bank1) left)))
+          ≡ left
+      by Zero = take-at left (drop (call .lent1) (b .bank1)) (again .lent1) (left-size ∙ sym (l .one))
+      by One = take-at left (drop (call .lent0) (b .bank0)) (again .lent0) (left-size ∙ sym (l .zero))
+
+  sectors-next : next .client .n ≡ b .client .n
+  sectors-next = machine-stays b (Datagram call) .sectors
+
+  size-next : (x : ℕ) → x ≡ b .client .n * sectorSize → x ≡ next .client .n * sectorSize
+  size-next x e = e ∙ ap (λ (y : ℕ). y * sectorSize) (sym sectors-next)
+
+  brings-again : Brings next again sector m
+  brings-again =
+      record {
+        calls = record {
+          good = ap goodN sectors-next ∙ p .calls .good;
+          zero = size-next _ (zero-kept b (Datagram call) ∙ p .calls .zero);
+          one = size-next _ (one-kept b (Datagram call) ∙ p .calls .one);
+          lends = subst (λ (x : ℕ). Lends x again) (sym sectors-next) l;
+        };
+        writing = ap (λ (o : Outcome). o .board .client .state) (stored-is b call sector m p values) ∙ p .writing;
+        footer = p .footer;
+        reads = ap readOf repeats ∙ p .reads;
+      }
+
+  already : sameOf (sectorOf (lentTarget next again) sector) (paddedOf (writtenOf (again .datagram) m)) ≡ true
+  already =
+      ap (λ (d : List ℕ). sameOf (sectorOf (lentTarget next again) sector) (paddedOf (writtenOf d m))) repeats
+      ∙ ap (λ (t : List ℕ). sameOf (sectorOf t sector) (paddedOf data-bytes)) lent-again
+      ∙ ap (λ (s : List ℕ). sameOf s (paddedOf data-bytes)) (with-here (lentTarget b call) sector (paddedOf data-bytes) (fits .inside) padded-size)
+      ∙ same-self (paddedOf data-bytes)
+
+  omitted : (blank same : Bool) → same ≡ true → storeResult blank same ≡ 0x1D
+  omitted true same e = refl
+  omitted false same e = rw e
+
+  example-9 : byteAt (said (stepMachine next (Datagram again))) 6 ≡ 0x1D
+  example-9 =
+      ap (λ (s : List ℕ). byteAt s 6) (stored-said next again sector m brings-again (ap (λ (x : ℕ). valuesGood x sector m) sectors-next ∙ values))
+      ∙ write-result sector _ _
+      ∙ omitted (blankOf (writtenOf (again .datagram) m)) (sameOf (sectorOf (lentTarget next again) sector) (paddedOf (writtenOf (again .datagram) m))) already
+
+-- 10
+module _ (bank : Bank) (n : ℕ) (image : List ℕ) (g : goodN n ≡ true) (e : length image ≡ sectorSize * n) where
+  example-10 : readText [] bank n image .answer ≡ Refused (record { kind = H6; line = 1 })
+  unfolding readText readLines lines
+  example-10 = rw (g, eq-eqb (length image) (sectorSize * n) e)
+
+  example-10-end : readText (0x3A ∷ 48 ∷ 48 ∷ 48 ∷ 48 ∷ 48 ∷ 48 ∷ 48 ∷ 49 ∷ 70 ∷ 70 ∷ []) bank n image .answer ≡ Accepted
+  unfolding readText readLines lines foundOf recordOf digitsWhole digitsIn typed dataAt digitsOf byteOf isDigit digitOf total
+  example-10-end = rw (g, eq-eqb (length image) (sectorSize * n) e)
+
+pub examples : Examples
+examples =
+    also request-1
+    (also example-1
+    (also sum-2
+    (also example-3
+    (also request-4
+    (also request-5
+    (also example-6
+    (also example-7
+    (also example-7-above
+    (also example-7-zero
+    (also example-8
+    (also example-8-long
+    (also example-8-none
+    (also example-8-odd
+    (also example-9
+    (also example-10
+    (also example-10-end
+    (also sum-11
+    none)))))))))))))))))

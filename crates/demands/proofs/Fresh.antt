@@ -1,0 +1,101 @@
+-- Demand 2 from the very beginning is met.
+-- Assumes nothing.
+use mathlib.Core.Path.{_≡_, refl, sym, ap, subst, _∙_}
+use mathlib.Core.List.{List, [], _∷_}
+use Prim.Native.Nat.{ℕ, _*_}
+use Rattle.frame.specs.Checksum.{checksumOf}
+use Rattle.frame.specs.Frame.{framed, controlFrame}
+use Rattle.frame.specs.Read.{readOf}
+use Rattle.bank.specs.declared.layout.Bank.{Bank}
+use Rattle.bank.specs.Layout.{sectorSize, goodN}
+use Rattle.sender.specs.declared.request.Request.the-variants.{ModeStart, ModeEnd}
+use Rattle.sender.specs.Request.{requestFrame}
+use Rattle.client.specs.declared.answer.Kind.the-variants.{Started, Ended}
+use Rattle.client.specs.declared.record.Latest.{Latest}
+use Rattle.client.specs.Host.{isClosed, newOf}
+use Rattle.client.specs.Notice.{noticeWith, noticeBytes, latestNumber}
+use Rattle.client.specs.Record.{newClient, initiated, opened, closed}
+use Rattle.demands.specs.Board.{Board, board, Call, Input, Initiate, Datagram, Outcome, said, stepMachine}
+use Rattle.demands.specs.Demand1.{hostDone, changed}
+use Rattle.demands.specs.Demand2.{Lends, Ready, Fit, Delivery}
+use Rattle.demands.specs.Fresh.{Fresh, inMode, afterAll, Told, MeetsFresh}
+use Rattle.demands.proofs.Asking.{request-read}
+use Rattle.demands.proofs.Demand2.{heard, said-back, control-short, Over, over, demand2}
+use Rattle.demands.proofs.Rows.{initiate, mode-start, mode-end}
+
+started-bytes : controlFrame 0x71 (0x06 ∷ []) ≡ 0x01 ∷ 0x02 ∷ 0x71 ∷ 0x06 ∷ 0x87 ∷ 0x03 ∷ []
+unfolding controlFrame framed checksumOf
+started-bytes = refl
+
+ended-bytes : controlFrame 0x74 (0x06 ∷ []) ≡ 0x01 ∷ 0x02 ∷ 0x74 ∷ 0x06 ∷ 0x84 ∷ 0x03 ∷ []
+unfolding controlFrame framed checksumOf
+ended-bytes = refl
+
+module _ (n : ℕ) (running : Bank) (major minor revision : ℕ) (bank0 bank1 : List ℕ) (fresh : Fresh n bank0 bank1) where
+  abbrev made : Board
+  made = board (newOf n running major minor revision .client) bank0 bank1
+
+  abbrev hosted : Board
+  hosted = board (initiated (newClient n running major minor revision)) bank0 bank1
+
+  initiated-is : stepMachine made Initiate ≡ hostDone hosted (initiated (newClient n running major minor revision))
+  unfolding newOf
+  initiated-is = initiate (board (newClient n running major minor revision) bank0 bank1) (fresh .good) refl
+
+  module _ (mode : Call) (sent : mode .datagram ≡ requestFrame ModeStart) (l : Lends n mode) where
+    abbrev opened-board : Board
+    opened-board = board (opened (initiated (newClient n running major minor revision))) bank0 bank1
+
+    mode-is : stepMachine hosted (Datagram mode) ≡ changed hosted mode (opened (hosted .client)) (noticeWith Started 0 (mode .address)) (controlFrame 0x71 (0x06 ∷ []))
+    mode-is = mode-start hosted mode (heard hosted mode (fresh .good) l (fresh .zero) (fresh .one) refl) refl (ap readOf sent ∙ request-read ModeStart)
+
+    made-step : stepMachine (stepMachine made Initiate .board) (Datagram mode) ≡ stepMachine hosted (Datagram mode)
+    made-step = ap (λ (o : Outcome). stepMachine (o .board) (Datagram mode)) initiated-is
+
+    in-mode : inMode stepMachine made mode ≡ opened-board
+    in-mode = ap (λ (o : Outcome). o .board) (made-step ∙ mode-is)
+
+    opened-ready : Ready (inMode stepMachine made mode)
+    opened-ready = subst Ready (sym in-mode) (record { good = fresh .good; control = refl; zero = fresh .zero; one = fresh .one })
+
+    sectors-in : inMode stepMachine made mode .client .n ≡ n
+    sectors-in = ap (λ (b : Board). b .client .n) in-mode
+
+    module _ (image : List ℕ) (fit : Fit image n) (start : Call) (ps : List ℕ) (is : List Input) (end ending : Call)
+        (d : Delivery (inMode stepMachine made mode) image start ps is end) (asks : ending .datagram ≡ requestFrame ModeEnd) (e : Lends n ending) where
+      own-fit : Fit image (inMode stepMachine made mode .client .n)
+      own-fit = subst (Fit image) (sym sectors-in) fit
+
+      abbrev last : Board
+      last = afterAll stepMachine made mode start is end
+
+      done : Over last (inMode stepMachine made mode .client .n)
+      done = over (inMode stepMachine made mode) image opened-ready own-fit start ps is end d
+
+      size-is : (x : ℕ) → x ≡ inMode stepMachine made mode .client .n * sectorSize → x ≡ last .client .n * sectorSize
+      size-is x p = p ∙ ap (λ (y : ℕ). y * sectorSize) (sym (done .sectors))
+
+      end-is : stepMachine last (Datagram ending)
+          ≡ changed last ending (closed (last .client)) (noticeWith Ended (latestNumber (last .client .latest)) (ending .address)) (controlFrame 0x74 (0x06 ∷ []))
+      end-is =
+          mode-end last ending
+          (heard last ending (ap goodN (done .sectors ∙ sectors-in) ∙ fresh .good) (subst (λ (x : ℕ). Lends x ending) (sym (done .sectors ∙ sectors-in)) e)
+          (size-is _ (done .zero-size)) (size-is _ (done .one-size)) (ap isClosed (done .control)))
+          (done .control) (ap readOf asks ∙ request-read ModeEnd)
+
+      pub told : Told stepMachine made image mode start ps is end ending
+      told =
+          record {
+            initiated = ap (λ (o : Outcome). o .number) initiated-is;
+            started = ap said (made-step ∙ mode-is) ∙ said-back mode (controlFrame 0x71 (0x06 ∷ [])) (control-short 0x71 0x06) (l .room) ∙ started-bytes;
+            start-notice = ap (λ (o : Outcome). noticeBytes (o .notice)) (made-step ∙ mode-is);
+            delivered = demand2 (inMode stepMachine made mode) image opened-ready own-fit start ps is end d;
+            ended = ap said end-is ∙ said-back ending (controlFrame 0x74 (0x06 ∷ [])) (control-short 0x74 0x06) (e .room) ∙ ended-bytes;
+            end-notice =
+                ap (λ (o : Outcome). noticeBytes (o .notice)) end-is
+                ∙ ap (λ (x : Latest). noticeBytes (noticeWith Ended (latestNumber x) (ending .address))) (done .latest);
+          }
+
+pub demand2-fresh : MeetsFresh stepMachine
+demand2-fresh n running major minor revision bank0 bank1 fresh image fit mode start ps is end ending sent l d asks e =
+    told n running major minor revision bank0 bank1 fresh mode sent l image fit start ps is end ending d asks e

@@ -1,0 +1,98 @@
+-- The sender's packets are as asked, and a sender that invents their number is shut out.
+-- Assumes nothing.
+use mathlib.Core.Path.{_≡_, sym, ap, ap₂, _∙_}
+use mathlib.Core.Bool.{true, _&&_}
+use mathlib.Core.List.{List}
+use Prim.Native.Nat.{ℕ, _+_, _*_, _≤_, _<_}
+use native.Mathlib.Omega.{arith}
+use lib.Dec.{leb}
+use lib.ListN.{length, take, drop, replicate, length-replicate}
+use borrow.Author.Tests.{leb-true, eqb-true, lt-ltb, le-ltb, eq-eqb, le-leb}
+use Rattle.buffer.specs.Place.{frontOf}
+use Rattle.buffer.proofs.Bools.{and-left, and-right, and-both}
+use Rattle.buffer.proofs.Places.{front-take, front-drop}
+use Rattle.frame.specs.Read.{readOf, writtenOf}
+use Rattle.frame.proofs.Writing.{length-write}
+use Rattle.bank.specs.Layout.{goodN}
+use Rattle.sender.specs.declared.made.Made.{Made}
+use Rattle.sender.specs.declared.made.Made.the-variants.{BadN, BadLength, PastLast, Frame}
+use Rattle.sender.specs.Made.{room, standing}
+use Rattle.sender.specs.Packet.{sectorOf, packetCount, packetSector, footerOf, packetFrame, imageGood, packetMade}
+use Rattle.sender.proofs.Image.{packet-read, packet-bytes}
+use Rattle.sender.proofs.Packets.{Sent, sent-in, sector-length}
+use Rattle.demands.specs.Packets.{Made·Out, Maker, Packet, MeetsSender, packetMaker, InventsNumber}
+use Rattle.demands.proofs.FirstOnly.{sectorIn}
+use Rattle.demands.proofs.Witness.{image, image-size, two-packets, two-good, sectors-are}
+
+module _ (img : List ℕ) (n p : ℕ) (before : List ℕ) (g : goodN n ≡ true) (l : (imageGood img n && leb room (length before)) ≡ true) where
+  roomy : 519 ≤ length before
+  roomy = leb-true 519 (length before) (and-right (imageGood img n) (leb room (length before)) l)
+
+  sized : length img ≡ 512 * n
+  sized = eqb-true (length img) (512 * n) (and-left (imageGood img n) (leb room (length before)) l)
+
+  module _ (h : p < packetCount img n) where
+    made-is : packetMade img n p (length before) ≡ Frame (length (packetFrame img n p))
+    unfolding packetMade
+    made-is = rw (g, l, lt-ltb p (packetCount img n) h)
+
+    frame-long : length (packetFrame img n p) ≡ 519
+    unfolding packetFrame
+    frame-long =
+        let s : Sent img n (packetSector img n p) = sent-in img n p h in
+        length-write (packetSector img n p) (sectorOf img (packetSector img n p)) (footerOf (packetCount img n) p)
+        ∙ ap (λ (x : ℕ). x + 7) (sector-length img n g sized (packetSector img n p) (s .low) (s .high))
+
+    buffer-is : packetMaker img n p before .buffer ≡ frontOf before (packetFrame img n p)
+    buffer-is = ap (λ (m : Made). standing m before (packetFrame img n p)) made-is
+
+    front-is : take (length (packetFrame img n p)) (packetMaker img n p before .buffer) ≡ packetFrame img n p
+    front-is =
+        let room-is = roomy in
+        ap (take (length (packetFrame img n p))) buffer-is ∙ front-take before (packetFrame img n p) (omega (arith, frame-long))
+
+    is-packet : Packet img n p before (packetMaker img n p before)
+    is-packet =
+        let room-is = roomy in
+        record {
+          size = length (packetFrame img n p);
+          made = made-is;
+          reads = ap readOf front-is ∙ sym (packet-read img n p g sized h);
+          bytes = ap (λ (d : List ℕ). writtenOf d 512) front-is ∙ packet-bytes img n p g sized h;
+          rest = ap (drop (length (packetFrame img n p))) buffer-is ∙ front-drop before (packetFrame img n p) (omega (arith, frame-long));
+        }
+
+pub packets-meet : MeetsSender packetMaker
+unfolding packetMade
+packets-meet =
+    record {
+      bad-n = λ img n p before g. rw g;
+      bad-length = λ img n p before g l. rw (g, l);
+      past = λ img n p before g l h. rw (g, l, le-ltb p (packetCount img n) h);
+      packet = λ img n p before g l h. is-packet img n p before g l h;
+    }
+
+-- ---- shut out: one that does not look at the number that is asked for
+
+frame-size : (s t : ℕ) → Frame s ≡ Frame t → s ≡ t
+frame-size s t e = ap sizeOf e
+  where
+    sizeOf : Made → ℕ
+    sizeOf BadN = 0
+    sizeOf BadLength = 0
+    sizeOf PastLast = 0
+    sizeOf (Frame k) = k
+
+pub no-inventor : (s : Maker) → InventsNumber s → MeetsSender s → ⊥
+unfolding sectorIn
+no-inventor s invents meets =
+    let before : List ℕ = replicate 519 0 in
+    let l : (imageGood image 2 && leb room (length before)) ≡ true =
+    and-both (imageGood image 2) (leb room (length before)) (eq-eqb (length image) 1024 image-size) (le-leb 519 (length before) (omega (arith, length-replicate {A = ℕ} 519 0))) in
+    let zero = meets .packet image 2 0 before two-good l (omega (arith, two-packets)) in
+    let one = meets .packet image 2 1 before two-good l (omega (arith, two-packets)) in
+    let same = invents image 2 0 1 before in
+    let size : zero .size ≡ one .size = frame-size _ _ (sym (zero .made) ∙ ap (λ (o : Made·Out). o .answer) same ∙ one .made) in
+    let e : packetSector image 2 0 ≡ packetSector image 2 1 =
+    ap sectorIn (sym (zero .reads) ∙ ap₂ (λ (k : ℕ) (o : Made·Out). readOf (take k (o .buffer))) size same ∙ one .reads) in
+    absurd (omega (arith, e, sectors-are .0, sectors-are .1))

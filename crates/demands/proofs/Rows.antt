@@ -1,0 +1,99 @@
+-- What comes of a datagram of the sender's, read off the table of demand 1: the first row whose test holds.
+-- Assumes nothing.
+use mathlib.Core.Path.{_≡_, sym, ap, _∙_}
+use mathlib.Core.Bool.{true, false}
+use mathlib.Core.List.{[], _∷_}
+use mathlib.Core.Option.{Option, none, some}
+use Prim.Native.Nat.{ℕ, _-_}
+use lib.ListN.{length, getD, take}
+use Rattle.frame.specs.Frame.{controlFrame, writeFrame, frameError}
+use Rattle.frame.specs.Read.{readOf}
+use Rattle.frame.specs.declared.read.Footer.{Footer}
+use Rattle.frame.specs.declared.read.Footer.the-variants.{End}
+use Rattle.frame.specs.declared.read.Read.the-variants.{Fault, Control, Write}
+use Rattle.bank.specs.Layout.{goodN, otherOf}
+use Rattle.client.specs.declared.answer.Kind.the-variants.{Started, Ended}
+use Rattle.client.specs.declared.record.Latest.the-variants.{Good, Otherwise}
+use Rattle.client.specs.declared.record.State.{State}
+use Rattle.client.specs.declared.record.State.the-variants as state
+use Rattle.client.specs.Answer.{writtenBytes}
+use Rattle.client.specs.Host.{isClosed}
+use Rattle.client.specs.Notice.{noNotice, noticeWith, latestNumber}
+use Rattle.client.specs.Perform.{fitOf}
+use Rattle.client.specs.Plan.{lentGood, isWorn, anyWorn, valuesGood, addressesGood}
+use Rattle.client.specs.Record.{initiated, opened, closed, begun, ended}
+use Rattle.demands.specs.Board.{Board, Call, Input, Initiate, Datagram, Outcome, stepMachine}
+use Rattle.demands.specs.Demand1.{firstOf, tableOf, isRequest, hostDone, answered, changed, stored, packetStored, sweptTarget, acceptedIn, takesPackets}
+use Rattle.demands.proofs.Demand1.{table}
+
+abbrev pub given : Outcome → Option Outcome → Outcome
+given o none = o
+given o (some p) = p
+
+pub comes : (b : Board) (i : Input) (o : Outcome) → firstOf (tableOf b i) ≡ some o → stepMachine b i ≡ o
+comes b i o e = ap (given o) (sym (table b i) ∙ e)
+
+-- a call that is not refused: N, the lengths, the state
+pub record Heard (b : Board) (call : Call) : Type 0 where
+  pub good : goodN (b .client .n) ≡ true
+  pub lengths :
+      lentGood (b .client .n) (length (take (call .lent0) (b .bank0))) (length (take (call .lent1) (b .bank1))) (length (call .marks)) (length (call .address)) (length (call .buffer))
+      ≡ true
+  pub live : isClosed (b .client .state) ≡ false
+
+module _ (b : Board) (call : Call) (h : Heard b call) where
+  pub write-start : b .client .state ≡ state.Control → readOf (call .datagram) ≡ Control 0x40 8 → addressesGood (b .client) (call .datagram) ≡ true
+      → stepMachine b (Datagram call) ≡ changed b call (begun (b .client)) noNotice (controlFrame 0x70 (0x06 ∷ []))
+  write-start s r a =
+      let t : acceptedIn (b .client .state) 0x40 ≡ true = ap (λ (x : State). acceptedIn x 0x40) s in
+      comes b (Datagram call) _ (rw (h .good, h .lengths, h .live, r, t, a))
+
+  pub packet : (sector m : ℕ) (footer : Footer) → b .client .state ≡ state.Write → readOf (call .datagram) ≡ Write sector m footer
+      → valuesGood (b .client .n) sector m ≡ true → isWorn (getD (call .marks) (sector - 1) 0) ≡ false
+      → stepMachine b (Datagram call) ≡ packetStored b call (Write sector m footer)
+  packet sector m footer s r v w =
+      let t : takesPackets (b .client .state) ≡ true = ap takesPackets s in
+      comes b (Datagram call) _ (rw (h .good, h .lengths, h .live, r, t, v, w))
+
+  pub write-end : b .client .state ≡ state.Write → readOf (call .datagram) ≡ Control 0x45 0 → anyWorn (call .marks) ≡ false → fitOf (sweptTarget b call) ≡ true
+      → stepMachine b (Datagram call) ≡ stored b call (ended (b .client) Good (otherOf (b .client .running))) (sweptTarget b call) (controlFrame 0x75 (0x06 ∷ []))
+  write-end s r w f =
+      let t : acceptedIn (b .client .state) 0x45 ≡ true = ap (λ (x : State). acceptedIn x 0x45) s in
+      comes b (Datagram call) _ (rw (h .good, h .lengths, h .live, r, t, w, f))
+
+  pub write-end-unsound : b .client .state ≡ state.Write → readOf (call .datagram) ≡ Control 0x45 0 → anyWorn (call .marks) ≡ false → fitOf (sweptTarget b call) ≡ false
+      → stepMachine b (Datagram call) ≡ stored b call (ended (b .client) Otherwise (b .client .next)) (sweptTarget b call) (controlFrame 0x75 (0x1E ∷ []))
+  write-end-unsound s r w f =
+      let t : acceptedIn (b .client .state) 0x45 ≡ true = ap (λ (x : State). acceptedIn x 0x45) s in
+      comes b (Datagram call) _ (rw (h .good, h .lengths, h .live, r, t, w, f))
+
+  pub mode-start : b .client .state ≡ state.Idle → readOf (call .datagram) ≡ Control 0x61 0
+      → stepMachine b (Datagram call) ≡ changed b call (opened (b .client)) (noticeWith Started 0 (call .address)) (controlFrame 0x71 (0x06 ∷ []))
+  mode-start s r =
+      let t : acceptedIn (b .client .state) 0x61 ≡ true = ap (λ (x : State). acceptedIn x 0x61) s in
+      comes b (Datagram call) _ (rw (h .good, h .lengths, h .live, r, t))
+
+  pub mode-end : b .client .state ≡ state.Control → readOf (call .datagram) ≡ Control 0x64 0
+      → stepMachine b (Datagram call) ≡ changed b call (closed (b .client)) (noticeWith Ended (latestNumber (b .client .latest)) (call .address)) (controlFrame 0x74 (0x06 ∷ []))
+  mode-end s r =
+      let t : acceptedIn (b .client .state) 0x64 ≡ true = ap (λ (x : State). acceptedIn x 0x64) s in
+      comes b (Datagram call) _ (rw (h .good, h .lengths, h .live, r, t))
+
+  -- refusals
+  pub fault : readOf (call .datagram) ≡ Fault → stepMachine b (Datagram call) ≡ answered b call frameError
+  fault r = comes b (Datagram call) _ (rw (h .good, h .lengths, h .live, r))
+
+  pub no-request : (code n : ℕ) → readOf (call .datagram) ≡ Control code n → isRequest code ≡ false
+      → stepMachine b (Datagram call) ≡ answered b call (controlFrame 0xE0 (0x05 ∷ []))
+  no-request code n r e = comes b (Datagram call) _ (rw (h .good, h .lengths, h .live, r, e))
+
+  pub packet-wrong : (sector m : ℕ) (footer : Footer) → b .client .state ≡ state.Write → readOf (call .datagram) ≡ Write sector m footer
+      → valuesGood (b .client .n) sector m ≡ false
+      → stepMachine b (Datagram call) ≡ answered b call (writeFrame sector (writtenBytes 0x05 0x05 0) End)
+  packet-wrong sector m footer s r v =
+      let t : takesPackets (b .client .state) ≡ true = ap takesPackets s in
+      comes b (Datagram call) _ (rw (h .good, h .lengths, h .live, r, t, v))
+
+-- a host command on a closed client
+pub initiate : (b : Board) → goodN (b .client .n) ≡ true → isClosed (b .client .state) ≡ true → stepMachine b Initiate ≡ hostDone b (initiated (b .client))
+initiate b g s = comes b Initiate _ (rw (g, s))

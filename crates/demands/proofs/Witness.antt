@@ -1,0 +1,120 @@
+-- The premises of demand 2 can be met: two sectors, both with a byte other than 0xFF, delivered in reverse and one of them twice.
+-- Assumes nothing.
+use mathlib.Core.Path.{_≡_, refl}
+use mathlib.Core.Bool.{true}
+use mathlib.Core.List.{List, [], _∷_, _++_, List·Memᴰ, List·Memᴰ·head, List·Memᴰ·tail}
+use Prim.Native.Nat.{ℕ, zero, suc, _<_}
+use native.Mathlib.Omega.{arith}
+use lib.ListN.{length, replicate, length-replicate}
+use Rattle.buffer.specs.Compare.{blankOf}
+use Rattle.buffer.specs.Number.{numberAt, numberOf}
+use Rattle.crc.specs.Crc.{feed, crcBit, crcBits, crcByte, crcMore, crcOf}
+use Rattle.bank.specs.declared.layout.Bank.the-variants.{Zero, One}
+use Rattle.bank.specs.Layout.{goodN, wholeLength, sectorOffset}
+use Rattle.bank.specs.Sound.{headerGood, tableGood, laidOutGood, bodyGood, allGood, bodiesGood, blankGood, listedGood, soundOf, verdictOf}
+use Rattle.bank.specs.Stretch.{fitsAt, laidOut, blankOutside}
+use Rattle.bank.specs.Table.{entryAt, entriesFrom, restOf, stretchesOf}
+use Rattle.sender.specs.declared.request.Request.the-variants.{WriteStart, WriteEnd}
+use Rattle.sender.specs.Packet.{sectorOf, sentOf, packetCount, packetSector, packetFrame}
+use Rattle.sender.specs.Request.{requestFrame}
+use Rattle.client.specs.declared.record.Latest.the-variants.{Nothing}
+use Rattle.client.specs.declared.record.State.the-variants.{Control}
+use Rattle.client.specs.Perform.{fitOf}
+use Rattle.client.specs.Record.{noneReceived}
+use Rattle.demands.specs.Board.{Board, Call, Input, Datagram, stepMachine}
+use Rattle.demands.specs.Demand2.{Lends, none, more, Ready, Delivery, Delivered}
+use Rattle.demands.proofs.Demand2.{demand2}
+
+-- a table with one body, four bytes in the second sector
+unfoldable pub image : List ℕ
+image =
+    (0x04 ∷ 0x00 ∷ 0x01 ∷ 0x01 ∷ 0x00 ∷ 0x00 ∷ 0x02 ∷ 0x58 ∷ 0x00 ∷ 0x00 ∷ 0x00 ∷ 0x04 ∷ 0xB6 ∷ 0x3C ∷ 0xFB ∷ 0xCD ∷ 0x47 ∷ 0x19 ∷ 0x21 ∷ 0x7B ∷ [])
+    ++ replicate 580 0xFF ++ (0x01 ∷ 0x02 ∷ 0x03 ∷ 0x04 ∷ []) ++ replicate 420 0xFF
+
+pub image-size : length image ≡ 1024
+unfolding image
+image-size = refl
+
+pub image-fit : fitOf image ≡ true
+unfolding image verdictOf wholeLength goodN soundOf headerGood tableGood listedGood laidOutGood bodiesGood blankGood bodyGood allGood laidOut fitsAt blankOutside entryAt entriesFrom restOf stretchesOf blankOf numberAt numberOf crcOf crcMore crcByte crcBits crcBit feed
+image-fit = refl
+
+pub two-packets : packetCount image 2 ≡ 2
+unfolding image sentOf sectorOf sectorOffset goodN blankOf
+two-packets = refl
+
+pub two-good : goodN 2 ≡ true
+unfolding goodN
+two-good = refl
+
+pub sectors-are : (packetSector image 2 0 ≡ 1) × (packetSector image 2 1 ≡ 2)
+unfolding image sentOf sectorOf sectorOffset goodN blankOf
+sectors-are = (refl, refl)
+
+-- banks of zeros
+unfoldable pub witness-board : Board
+witness-board =
+    record {
+      client = record {
+        n = 2;
+        running = Zero;
+        next = Zero;
+        state = Control;
+        latest = Nothing;
+        major = 1;
+        minor = 0;
+        revision = 0;
+        received = noneReceived;
+      };
+      bank0 = replicate 1024 0;
+      bank1 = replicate 1024 0;
+    }
+
+unfoldable pub calling : List ℕ → Call
+calling datagram = record { datagram = datagram; address = replicate 16 0; marks = replicate 2 0; buffer = replicate 14 0; lent0 = 1024; lent1 = 1024 }
+
+pub lends : (datagram : List ℕ) → Lends 2 (calling datagram)
+unfolding calling
+lends datagram =
+    record {
+      address = length-replicate {A = ℕ} 16 0;
+      marks = refl;
+      room = omega (arith, length-replicate {A = ℕ} 14 0);
+      zero = refl;
+      one = refl;
+    }
+
+unfoldable pub order : List ℕ
+order = 1 ∷ 0 ∷ 1 ∷ []
+
+unfoldable pub sending : List Input
+sending = Datagram (calling (packetFrame image 2 1)) ∷ Datagram (calling (packetFrame image 2 0)) ∷ Datagram (calling (packetFrame image 2 1)) ∷ []
+
+each-sent : (p : ℕ) → p < 2 → List·Memᴰ p order
+unfolding order
+each-sent zero h = List·Memᴰ·tail (List·Memᴰ·head refl)
+each-sent (suc zero) h = List·Memᴰ·head refl
+each-sent (suc (suc p)) h = absurd (omega arith)
+
+pub delivery : Delivery witness-board image (calling (requestFrame (WriteStart One 2))) order sending (calling (requestFrame WriteEnd))
+unfolding witness-board calling order sending
+delivery =
+    record {
+      start-sent = refl;
+      start-lends = lends (requestFrame (WriteStart One 2));
+      packets =
+          more {p = 1} (omega (arith, two-packets)) refl (lends (packetFrame image 2 1))
+          (more {p = 0} (omega (arith, two-packets)) refl (lends (packetFrame image 2 0))
+          (more {p = 1} (omega (arith, two-packets)) refl (lends (packetFrame image 2 1)) none));
+      each = λ p h. each-sent p (omega (arith, two-packets));
+      end-sent = refl;
+      end-lends = lends (requestFrame WriteEnd);
+    }
+
+pub ready : Ready witness-board
+unfolding witness-board goodN
+ready = record { good = refl; control = refl; zero = length-replicate {A = ℕ} 1024 0; one = length-replicate {A = ℕ} 1024 0 }
+
+pub witness : Delivered stepMachine witness-board image (calling (requestFrame (WriteStart One 2))) order sending (calling (requestFrame WriteEnd))
+unfolding witness-board
+witness = demand2 witness-board image ready (record { size = image-size; sound = image-fit }) _ _ _ _ delivery

@@ -1,0 +1,34 @@
+-- What is asked of any check of a bank, and of any view of a body (01, 'The bank check: contents first, then bodies').
+-- Assumes nothing.
+use mathlib.Core.Path.{_≡_}
+use mathlib.Core.Bool.{true, false}
+use mathlib.Core.List.{List, []}
+use Prim.Native.Nat.{ℕ, _≤_, _<_}
+use lib.ListN.{length}
+use Rattle.bank.specs.declared.check.Verdict.{Verdict}
+use Rattle.bank.specs.declared.check.Verdict.the-variants.{Refused, Sound, Unsound}
+use Rattle.bank.specs.Layout.{wholeLength}
+use Rattle.bank.specs.Meaning.{Kept}
+use Rattle.bank.specs.Sound.{stretchBytes}
+use Rattle.bank.specs.Table.{countOf, entryAt}
+use Rattle.client.specs.declared.record.Client.{Client}
+use Rattle.client.specs.Body.{banksGood, chosen}
+
+-- 2 unless the length is 1 to 491 sectors; then sound if each rule is kept, and unsound if not
+pub record MeetsCheck (check : List ℕ → Verdict) : Type 0 where
+  pub wrong : (b : List ℕ) → wholeLength (length b) ≡ false → check b ≡ Refused
+  pub sound : (b : List ℕ) → wholeLength (length b) ≡ true → Kept b → check b ≡ Sound
+  pub unsound : (b : List ℕ) → wholeLength (length b) ≡ true → (Kept b → ⊥) → check b ≡ Unsound
+
+-- record, banks, which body
+abbrev pub View : Type 0
+View = Client → List ℕ → List ℕ → ℕ → List ℕ
+
+-- that stretch of the next-start bank, or an empty one "if the banks' lengths aren't 512·N, the record has a bad N, i is not below C or the bank is unsound"
+pub record MeetsBody (view : View) : Type 0 where
+  pub there : (c : Client) (bank0 bank1 : List ℕ) (i : ℕ) → banksGood (c .n) (length bank0) (length bank1) ≡ true → Kept (chosen (c .next) bank0 bank1)
+      → i < countOf (chosen (c .next) bank0 bank1)
+      → view c bank0 bank1 i ≡ stretchBytes (chosen (c .next) bank0 bank1) (entryAt (chosen (c .next) bank0 bank1) i)
+  pub wrong : (c : Client) (bank0 bank1 : List ℕ) (i : ℕ) → banksGood (c .n) (length bank0) (length bank1) ≡ false → view c bank0 bank1 i ≡ []
+  pub unsound : (c : Client) (bank0 bank1 : List ℕ) (i : ℕ) → (Kept (chosen (c .next) bank0 bank1) → ⊥) → view c bank0 bank1 i ≡ []
+  pub past : (c : Client) (bank0 bank1 : List ℕ) (i : ℕ) → countOf (chosen (c .next) bank0 bank1) ≤ i → view c bank0 bank1 i ≡ []

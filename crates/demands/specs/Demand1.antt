@@ -1,0 +1,242 @@
+-- Demand 1. Whatever is put to a board, it does what the paper's table says and nothing else. The table is written here row by row: a test and
+-- what comes of it, in the paper's order, so that the first row whose test holds decides (01, 'What comes back when it is no', "Order in the
+-- client", and 'The client, step by step'). And whatever list of inputs comes, N, the version, which bank runs and every byte of that bank stay.
+-- Assumes nothing.
+use mathlib.Core.Path.{_≡_}
+use mathlib.Core.Bool.{Bool, true, false, not, _&&_, _||_, cond}
+use mathlib.Core.List.{List, [], _∷_}
+use mathlib.Core.Option.{Option, none, some}
+use Prim.Native.Nat.{ℕ, _-_}
+use lib.Dec.{eqb}
+use lib.ListN.{length, getD, take}
+use Rattle.buffer.specs.Compare.{sameOf, blankOf}
+use Rattle.buffer.specs.Place.{frontOf}
+use Rattle.crc.specs.Crc.{crcOf}
+use Rattle.frame.specs.Frame.{controlFrame, writeFrame, frameError}
+use Rattle.frame.specs.Read.{readOf, writtenOf}
+use Rattle.frame.specs.declared.read.Footer.the-variants.{End}
+use Rattle.frame.specs.declared.read.Read.{Read}
+use Rattle.frame.specs.declared.read.Read.the-variants.{Fault, Control, Write}
+use Rattle.flash.specs.Bank.{sectorOf, withSector, sweptOf}
+use Rattle.flash.specs.Sector.{paddedOf}
+use Rattle.bank.specs.Layout.{goodN, bankNumber, otherOf}
+use Rattle.client.specs.declared.answer.Kind.the-variants.{Started, Ended}
+use Rattle.client.specs.declared.answer.Notice.{Notice}
+use Rattle.client.specs.declared.record.Client.{Client}
+use Rattle.client.specs.declared.record.Latest.the-variants.{Good, Otherwise}
+use Rattle.client.specs.declared.record.State.{State}
+use Rattle.client.specs.declared.record.State.the-variants as state
+use Rattle.client.specs.Answer.{versionBytes, writtenBytes}
+use Rattle.client.specs.Host.{isClosed}
+use Rattle.client.specs.Notice.{noNotice, noticeWith, latestNumber}
+use Rattle.client.specs.Perform.{fitOf, storeResult}
+use Rattle.client.specs.Plan.{lentGood, isWorn, anyWorn, valuesGood, addressesGood}
+use Rattle.client.specs.Record.{Stays, initiated, terminated, opened, closed, begun, marked, ended}
+use Rattle.client.specs.Step.{zeroOf, oneOf}
+use Rattle.demands.specs.Board.{Board, board, Call, Input, Initiate, Terminate, Datagram, Outcome, Machine, after, runningBank, backIn, lentTarget}
+
+-- ---- rows
+
+pub record Row : Type 0 where
+  pub when : Bool
+  pub comes : Outcome
+
+abbrev pub row : Bool → Outcome → Row
+row when comes = record { when = when; comes = comes }
+
+-- the first row whose test holds
+abbrev pub firstOf : List Row → Option Outcome
+firstOf [] = none
+firstOf (r ∷ rows) = cond (r .when) (some (r .comes)) (firstOf rows)
+
+-- ---- the table of commands, column by column
+
+-- "code not one of the six requests"
+abbrev pub isRequest : ℕ → Bool
+isRequest code = eqb code 0x61 || (eqb code 0x62 || (eqb code 0x68 || (eqb code 0x40 || (eqb code 0x45 || eqb code 0x64))))
+
+-- 61 → 71, 62 → 72, 68 → 78, 40 → 70, 45 → 75, 64 → 74
+abbrev pub responseCode : ℕ → ℕ
+responseCode code =
+    cond (eqb code 0x61) 0x71
+    (cond (eqb code 0x62) 0x72 (cond (eqb code 0x68) 0x78 (cond (eqb code 0x40) 0x70 (cond (eqb code 0x45) 0x75 0x74))))
+
+-- "start (4), end (4)", or none
+abbrev pub parameterBytes : ℕ → ℕ
+parameterBytes code = cond (eqb code 0x40) 8 0
+
+-- "Accepted in"
+abbrev pub acceptedIn : State → ℕ → Bool
+acceptedIn state.Closed code = false
+acceptedIn state.Idle code = eqb code 0x61
+acceptedIn state.Control code = eqb code 0x62 || (eqb code 0x68 || (eqb code 0x40 || eqb code 0x64))
+acceptedIn state.Write code = eqb code 0x45
+
+-- "Write packet in write state"
+abbrev pub takesPackets : State → Bool
+takesPackets state.Closed = false
+takesPackets state.Idle = false
+takesPackets state.Control = false
+takesPackets state.Write = true
+
+-- ---- the tests, of a datagram as it is read
+
+abbrev pub isFault : Read → Bool
+isFault Fault = true
+isFault (Control code n) = false
+isFault (Write sector m footer) = false
+
+abbrev pub isPacket : Read → Bool
+isPacket Fault = false
+isPacket (Control code n) = false
+isPacket (Write sector m footer) = true
+
+abbrev pub isCode : ℕ → Read → Bool
+isCode asked Fault = false
+isCode asked (Control code n) = eqb code asked
+isCode asked (Write sector m footer) = false
+
+abbrev pub noRequest : Read → Bool
+noRequest Fault = false
+noRequest (Control code n) = not (isRequest code)
+noRequest (Write sector m footer) = false
+
+-- "parameter length (control)"
+abbrev pub wrongLength : Read → Bool
+wrongLength Fault = false
+wrongLength (Control code n) = not (eqb n (parameterBytes code))
+wrongLength (Write sector m footer) = false
+
+abbrev pub wrongState : State → Read → Bool
+wrongState s Fault = false
+wrongState s (Control code n) = not (acceptedIn s code)
+wrongState s (Write sector m footer) = not (takesPackets s)
+
+-- "any address pair but the target's; sector 0 or above N; M of 0, above 512 or not a multiple of 4"
+abbrev pub wrongValues : Client → List ℕ → Read → Bool
+wrongValues c datagram Fault = false
+wrongValues c datagram (Control code n) = eqb code 0x40 && not (addressesGood c datagram)
+wrongValues c datagram (Write sector m footer) = not (valuesGood (c .n) sector m)
+
+-- of a packet its own sector, of a write end any
+abbrev pub wornSector : List ℕ → Read → Bool
+wornSector marks Fault = false
+wornSector marks (Control code n) = false
+wornSector marks (Write sector m footer) = isWorn (getD marks (sector - 1) 0)
+
+-- "in the command's own response"; of a packet "the write result repeats it", and the CRC field is 0
+abbrev pub ownResponse : Read → ℕ → List ℕ
+ownResponse Fault result = frameError
+ownResponse (Control code n) result = controlFrame (responseCode code) (result ∷ [])
+ownResponse (Write sector m footer) result = writeFrame sector (writtenBytes result result 0) End
+
+-- ---- what comes of it
+
+-- "nothing changes", and the number
+abbrev pub refused : Board → List ℕ → ℕ → Outcome
+refused b buffer number = record { board = b; number = number; told = 0; buffer = buffer; notice = noNotice }
+
+-- an answer at the front of the buffer, the record and the notice; the banks stay
+abbrev pub changed : Board → Call → Client → Notice → List ℕ → Outcome
+changed b call c notice answer =
+    record { board = board c (b .bank0) (b .bank1); number = 0; told = length answer; buffer = frontOf (call .buffer) answer; notice = notice }
+
+-- nothing changes but the buffer
+abbrev pub answered : Board → Call → List ℕ → Outcome
+answered b call answer = changed b call (b .client) noNotice answer
+
+-- the same with another target
+abbrev pub stored : Board → Call → Client → List ℕ → List ℕ → Outcome
+stored b call c target answer =
+    record {
+      board = board c
+          (zeroOf (b .client .running) (b .bank0) (backIn (call .lent0) (b .bank0) target))
+          (oneOf (b .client .running) (b .bank1) (backIn (call .lent1) (b .bank1) target));
+      number = 0;
+      told = length answer;
+      buffer = frontOf (call .buffer) answer;
+      notice = noNotice;
+    }
+
+-- "The sector becomes the M data bytes followed by 0xFF up to 512, and counts as received", with 06 or 1D and the CRC of the sector
+abbrev pub packetStored : Board → Call → Read → Outcome
+packetStored b call Fault = answered b call []
+packetStored b call (Control code n) = answered b call []
+packetStored b call (Write sector m footer) =
+    let bytes : List ℕ = writtenOf (call .datagram) m in
+    let result : ℕ = storeResult (blankOf bytes) (sameOf (sectorOf (lentTarget b call) sector) (paddedOf bytes)) in
+    stored b call (marked (b .client) sector) (withSector (lentTarget b call) sector (paddedOf bytes))
+    (writeFrame sector (writtenBytes 0x06 result (crcOf (paddedOf bytes))) End)
+
+-- "response result 06 and write result 1C"
+abbrev pub packetWorn : Board → Call → Read → Outcome
+packetWorn b call Fault = answered b call []
+packetWorn b call (Control code n) = answered b call []
+packetWorn b call (Write sector m footer) = answered b call (writeFrame sector (writtenBytes 0x06 0x1C 0) End)
+
+-- "each sector not received in this session is erased to 0xFF"
+abbrev pub sweptTarget : Board → Call → List ℕ
+sweptTarget b call = sweptOf (lentTarget b call) (b .client .n) (b .client .received)
+
+-- ---- the rows of a datagram, as it is read
+
+abbrev pub afterFrame : Board → Call → Read → List Row
+afterFrame b call r =
+    let c : Client = b .client in
+    -- code, parameter length, state, values, worn
+    row (noRequest r) (answered b call (controlFrame 0xE0 (0x05 ∷ [])))
+    ∷ row (wrongLength r) (answered b call (ownResponse r 0x05))
+    ∷ row (wrongState (c .state) r) (answered b call (ownResponse r 0x15))
+    ∷ row (wrongValues c (call .datagram) r) (answered b call (ownResponse r 0x05))
+    ∷ row (wornSector (call .marks) r) (packetWorn b call r)
+    ∷ row (isCode 0x45 r && anyWorn (call .marks)) (changed b call (ended c Otherwise (c .next)) noNotice (controlFrame 0x75 (0x1C ∷ [])))
+    -- what is left is answered 06, but for an unsound bank
+    ∷ row (isPacket r) (packetStored b call r)
+    ∷ row (isCode 0x61 r) (changed b call (opened c) (noticeWith Started 0 (call .address)) (controlFrame 0x71 (0x06 ∷ [])))
+    ∷ row (isCode 0x62 r) (answered b call (controlFrame 0x72 (0x06 ∷ bankNumber (otherOf (c .running)) ∷ [])))
+    ∷ row (isCode 0x68 r) (answered b call (controlFrame 0x78 (versionBytes (c .major) (c .minor) (c .revision))))
+    ∷ row (isCode 0x40 r) (changed b call (begun c) noNotice (controlFrame 0x70 (0x06 ∷ [])))
+    ∷ row (isCode 0x64 r) (changed b call (closed c) (noticeWith Ended (latestNumber (c .latest)) (call .address)) (controlFrame 0x74 (0x06 ∷ [])))
+    ∷ row (isCode 0x45 r && fitOf (sweptTarget b call)) (stored b call (ended c Good (otherOf (c .running))) (sweptTarget b call) (controlFrame 0x75 (0x06 ∷ [])))
+    ∷ row (isCode 0x45 r) (stored b call (ended c Otherwise (c .next)) (sweptTarget b call) (controlFrame 0x75 (0x1E ∷ [])))
+    ∷ []
+
+-- 3, 2, 1, frame, and then the others
+abbrev pub callRows : Board → Call → List Row
+callRows b call =
+    let c : Client = b .client in
+    let zero : ℕ = length (take (call .lent0) (b .bank0)) in
+    let one : ℕ = length (take (call .lent1) (b .bank1)) in
+    row (not (goodN (c .n))) (refused b (call .buffer) 3)
+    ∷ row (not (lentGood (c .n) zero one (length (call .marks)) (length (call .address)) (length (call .buffer)))) (refused b (call .buffer) 2)
+    ∷ row (isClosed (c .state)) (refused b (call .buffer) 1)
+    ∷ row (isFault (readOf (call .datagram))) (answered b call frameError)
+    ∷ afterFrame b call (readOf (call .datagram))
+
+-- a host command that is done has no number, no answer and no notice
+abbrev pub hostDone : Board → Client → Outcome
+hostDone b c = record { board = board c (b .bank0) (b .bank1); number = 0; told = 0; buffer = []; notice = noNotice }
+
+-- "Host commands: 3, 4"
+abbrev pub tableOf : Board → Input → List Row
+tableOf b Initiate =
+    row (not (goodN (b .client .n))) (refused b [] 3)
+    ∷ row (not (isClosed (b .client .state))) (refused b [] 4)
+    ∷ row true (hostDone b (initiated (b .client)))
+    ∷ []
+tableOf b Terminate =
+    row (not (goodN (b .client .n))) (refused b [] 3)
+    ∷ row (isClosed (b .client .state)) (refused b [] 4)
+    ∷ row true (hostDone b (terminated (b .client)))
+    ∷ []
+tableOf b (Datagram call) = callRows b call
+
+-- ---- the demand
+
+pub record Kept (before after : Board) : Type 0 where
+  pub client : Stays (before .client) (after .client)
+  pub bytes : runningBank after ≡ runningBank before
+
+pub record Meets1 (m : Machine) : Type 0 where
+  pub table : (b : Board) (i : Input) → firstOf (tableOf b i) ≡ some (m b i)
+  pub kept : (b : Board) (is : List Input) → Kept b (after m b is)

@@ -1,0 +1,80 @@
+-- Demand 2. A good image arrives, in whatever order and however often its packets come. A board in control state, with N from 1 to 491 and whole
+-- banks, is sent what the sender makes: its write start, then its packets of a fit image, each at least once, and its write end. No sector is
+-- worn, and each call lends what the paper asks for. Then the start is answered 06, every packet 06 or 1D with the right CRC, and the end 06; the
+-- target bank is the image, byte for byte, and starts next. Told by the bytes that are sent back.
+-- Assumes nothing.
+use mathlib.Core.Path.{_≡_}
+use mathlib.Core.Bool.{true}
+use mathlib.Core.List.{List, [], _∷_, List·Memᴰ}
+use Prim.Native.Nat.{ℕ, _*_, _≤_, _<_}
+use lib.ListN.{length, replicate}
+use Rattle.crc.specs.Crc.{crcOf}
+use Rattle.frame.specs.Frame.{writeFrame}
+use Rattle.frame.specs.declared.read.Footer.the-variants.{End}
+use Rattle.bank.specs.Layout.{sectorSize, goodN, otherOf}
+use Rattle.sender.specs.declared.request.Request.the-variants.{WriteStart, WriteEnd}
+use Rattle.sender.specs.Packet.{sectorOf, packetCount, packetSector, packetFrame}
+use Rattle.sender.specs.Request.{requestFrame}
+use Rattle.client.specs.declared.record.State.the-variants.{Control}
+use Rattle.client.specs.Answer.{writtenBytes}
+use Rattle.client.specs.Perform.{Accepted, fitOf}
+use Rattle.client.specs.Step.{targetOf}
+use Rattle.demands.specs.Board.{Board, Call, Input, Datagram, Outcome, said, Machine, after, outcomes}
+
+-- what a call lends: a 16-byte address, n marks that are zero ("non-zero means worn"), room for an answer, all of both banks
+pub record Lends (n : ℕ) (call : Call) : Type 0 where
+  pub address : length (call .address) ≡ 16
+  pub marks : call .marks ≡ replicate n 0
+  pub room : 14 ≤ length (call .buffer)
+  pub zero : call .lent0 ≡ n * sectorSize
+  pub one : call .lent1 ≡ n * sectorSize
+
+-- calls that bring the packets with these numbers, in this order, as the sender makes them
+pub data Packets (image : List ℕ) (n : ℕ) : List ℕ → List Input → Type 0 where
+  none : Packets image n [] []
+  more : {p : ℕ} {ps : List ℕ} {call : Call} {is : List Input} → p < packetCount image n → call .datagram ≡ packetFrame image n p → Lends n call
+      → Packets image n ps is → Packets image n (p ∷ ps) (Datagram call ∷ is)
+
+-- a board that takes a write start
+pub record Ready (b : Board) : Type 0 where
+  pub good : goodN (b .client .n) ≡ true
+  pub control : b .client .state ≡ Control
+  pub zero : length (b .bank0) ≡ b .client .n * sectorSize
+  pub one : length (b .bank1) ≡ b .client .n * sectorSize
+
+-- an image of that size that may start next
+pub record Fit (image : List ℕ) (n : ℕ) : Type 0 where
+  pub size : length image ≡ n * sectorSize
+  pub sound : fitOf image ≡ true
+
+-- the whole delivery: start, packets of which none is missing, end
+pub record Delivery (b : Board) (image : List ℕ) (start : Call) (ps : List ℕ) (is : List Input) (end : Call) : Type 0 where
+  pub start-sent : start .datagram ≡ requestFrame (WriteStart (otherOf (b .client .running)) (b .client .n))
+  pub start-lends : Lends (b .client .n) start
+  pub packets : Packets image (b .client .n) ps is
+  pub each : (p : ℕ) → p < packetCount image (b .client .n) → List·Memᴰ p ps
+  pub end-sent : end .datagram ≡ requestFrame WriteEnd
+  pub end-lends : Lends (b .client .n) end
+
+-- a packet's answer: its sector, 06, then 06 or 1D, and the CRC of the sector as the image has it
+pub record Taken (image : List ℕ) (n p : ℕ) (o : Outcome) : Type 0 where
+  pub write : ℕ
+  pub accepted : Accepted write
+  pub answer : said o ≡ writeFrame (packetSector image n p) (writtenBytes 0x06 write (crcOf (sectorOf image (packetSector image n p)))) End
+
+pub data AllTaken (image : List ℕ) (n : ℕ) : List ℕ → List Outcome → Type 0 where
+  none-taken : AllTaken image n [] []
+  more-taken : {p : ℕ} {ps : List ℕ} {o : Outcome} {os : List Outcome} → Taken image n p o → AllTaken image n ps os → AllTaken image n (p ∷ ps) (o ∷ os)
+
+-- what comes of it
+pub record Delivered (m : Machine) (b : Board) (image : List ℕ) (start : Call) (ps : List ℕ) (is : List Input) (end : Call) : Type 0 where
+  pub started : said (m b (Datagram start)) ≡ 0x01 ∷ 0x02 ∷ 0x70 ∷ 0x06 ∷ 0x88 ∷ 0x03 ∷ []
+  pub taken : AllTaken image (b .client .n) ps (outcomes m (m b (Datagram start) .board) is)
+  pub ended : said (m (after m b (Datagram start ∷ is)) (Datagram end)) ≡ 0x01 ∷ 0x02 ∷ 0x75 ∷ 0x06 ∷ 0x83 ∷ 0x03 ∷ []
+  pub bank : (let last : Board = m (after m b (Datagram start ∷ is)) (Datagram end) .board in targetOf (b .client .running) (last .bank0) (last .bank1)) ≡ image
+  pub next : m (after m b (Datagram start ∷ is)) (Datagram end) .board .client .next ≡ otherOf (b .client .running)
+
+abbrev pub Meets2 : Machine → Type 0
+Meets2 m =
+    (b : Board) (image : List ℕ) → Ready b → Fit image (b .client .n)
+    → (start : Call) (ps : List ℕ) (is : List Input) (end : Call) → Delivery b image start ps is end → Delivered m b image start ps is end

@@ -1,0 +1,90 @@
+-- From the text to the bank, and back to the sender. A hex text for the target bank that is accepted, and whose image is fit, is sent as the
+-- sender's packets; then the bank holds each data byte of the text at its address, and 0xFF elsewhere. And whatever a board answers, the sender's
+-- reader reads, never number 6, and loses nothing of it: what it read, written out again, is the answer.
+-- Assumes nothing.
+use mathlib.Core.Path.{_≡_}
+use mathlib.Core.Logic.{_⊎_}
+use mathlib.Core.Bool.{true}
+use mathlib.Core.List.{List, [], _∷_, _++_}
+use Prim.Native.Nat.{ℕ, _+_, _-_, _*_, _^_, _≤_, _<_}
+use lib.ListN.{length, getD, drop}
+use Rattle.buffer.specs.Number.{bytesOf}
+use Rattle.frame.specs.Frame.{controlFrame, writeFrame}
+use Rattle.frame.specs.Read.{byteAt}
+use Rattle.frame.specs.declared.read.Footer.the-variants.{End}
+use Rattle.bank.specs.declared.layout.Bank.{Bank}
+use Rattle.bank.specs.Layout.{sectorSize, bankNumber, otherOf, startOf}
+use Rattle.hex.specs.declared.read.Answer.the-variants.{Accepted}
+use Rattle.hex.specs.declared.record.Found.the-variants.{Data}
+use Rattle.hex.specs.Digit.{bytesOf as digitsOf}
+use Rattle.hex.specs.Line.{lines}
+use Rattle.hex.specs.Meaning.{saysAt}
+use Rattle.hex.specs.Read.{fresh, readOf}
+use Rattle.hex.specs.Record.{dataOf}
+use Rattle.sender.specs.declared.response.Kind.{Kind}
+use Rattle.sender.specs.declared.response.Kind.the-variants.{ModeStart, BankInfo, Version, WriteStart, Packet, WriteEnd, ModeEnd, Error}
+use Rattle.sender.specs.declared.response.Response.{Response}
+use Rattle.sender.specs.declared.response.Response.the-variants.{Unreadable, Plain, Target, Firmware, Written}
+use Rattle.sender.specs.Response.{responseOf, responseNumber}
+use Rattle.client.specs.Answer.{writtenBytes}
+use Rattle.client.specs.Perform.{fitOf}
+use Rattle.client.specs.Step.{targetOf}
+use Rattle.demands.specs.Board.{Board, Call, Input, Datagram, said, Machine, after}
+use Rattle.demands.specs.Demand2.{Ready, Delivery}
+
+-- ---- the text's bytes at their addresses
+
+-- line i says that so many bytes go to the addresses from `start` on
+abbrev pub Says : List ℕ → Bank → ℕ → ℕ → ℕ → ℕ → Type 0
+Says text bank n i start count = (i < length (lines text)) × (saysAt (startOf bank) (sectorSize * n) fresh (lines text) i ≡ Data start count)
+
+-- and these are the bytes that its digits spell
+abbrev pub spelt : List ℕ → ℕ → ℕ → List ℕ
+spelt text i count = dataOf count (digitsOf (drop 1 (getD (lines text) i [])))
+
+pub record Holds (text : List ℕ) (bank : Bank) (n : ℕ) (bytes : List ℕ) : Type 0 where
+  pub there : (i start count : ℕ) → Says text bank n i start count → (j : ℕ) → j < count → getD bytes (start - startOf bank + j) 0 ≡ getD (spelt text i count) j 0
+  pub elsewhere : (a : ℕ) → a < sectorSize * n
+      → ((i start count : ℕ) → Says text bank n i start count → (startOf bank + a < start) ⊎ (start + count ≤ startOf bank + a))
+      → getD bytes a 0 ≡ 0xFF
+
+abbrev pub MeetsText : Machine → Type 0
+MeetsText m =
+    (b : Board) (text before : List ℕ) → Ready b
+    → (let target : Bank = otherOf (b .client .running) in
+    let n : ℕ = b .client .n in
+    let image : List ℕ = readOf text target n before .image in
+    readOf text target n before .answer ≡ Accepted → fitOf image ≡ true
+    → (start : Call) (ps : List ℕ) (is : List Input) (end : Call) → Delivery b image start ps is end
+    → (let last : Board = m (after m b (Datagram start ∷ is)) (Datagram end) .board in
+    Holds text target n (targetOf (b .client .running) (last .bank0) (last .bank1))))
+
+-- ---- answers, read
+
+abbrev pub codeOf : Kind → ℕ
+codeOf ModeStart = 0x71
+codeOf BankInfo = 0x72
+codeOf Version = 0x78
+codeOf WriteStart = 0x70
+codeOf Packet = 0
+codeOf WriteEnd = 0x75
+codeOf ModeEnd = 0x74
+codeOf Error = 0xE0
+
+-- a response written out again
+abbrev pub spelled : Response → List ℕ
+spelled Unreadable = []
+spelled (Plain kind result) = controlFrame (codeOf kind) (result ∷ [])
+spelled (Target bank) = controlFrame 0x72 (0x06 ∷ bankNumber bank ∷ [])
+spelled (Firmware id major minor revision) = controlFrame 0x78 (0x06 ∷ bytesOf 2 id ++ major ∷ minor ∷ bytesOf 4 revision)
+spelled (Written sector response write crc) = writeFrame sector (writtenBytes response write crc) End
+
+pub record Readable (answer : List ℕ) : Type 0 where
+  pub number : responseNumber (responseOf answer) ≡ 0
+  pub whole : spelled (responseOf answer) ≡ answer
+
+-- what the machine's types say: a datagram's bytes are bytes, the record's revision has 32 bits
+abbrev pub MeetsRead : Machine → Type 0
+MeetsRead m =
+    (b : Board) (call : Call) → ((i : ℕ) → byteAt (call .datagram) i < 256) → b .client .revision < 2 ^ 32
+    → m b (Datagram call) .number ≡ 0 → Readable (said (m b (Datagram call)))

@@ -1,0 +1,133 @@
+-- The paper's worked examples 1 to 11 as one table with one claim (01, 'Worked examples to hold').
+-- Assumes nothing.
+use mathlib.Core.Path.{_≡_}
+use mathlib.Core.Bool.{Bool, true, false, not, _&&_}
+use mathlib.Core.List.{List, [], _∷_, _++_}
+use Prim.Native.Nat.{ℕ, _+_, _*_, _%_, _≤_}
+use lib.Dec.{eqb, leb}
+use lib.ListN.{length, replicate}
+use Rattle.frame.specs.Frame.{writeFrame}
+use Rattle.frame.specs.Read.{byteAt, readOf}
+use Rattle.frame.specs.declared.read.Footer.{Footer}
+use Rattle.frame.specs.declared.read.Footer.the-variants.{End}
+use Rattle.frame.specs.declared.read.Read.the-variants.{Write}
+use Rattle.bank.specs.declared.layout.Bank.{Bank}
+use Rattle.bank.specs.declared.layout.Bank.the-variants.{One}
+use Rattle.bank.specs.Layout.{sectorSize, goodN}
+use Rattle.hex.specs.declared.fault.Kind.the-variants.{H6}
+use Rattle.hex.specs.declared.read.Answer.{Answer}
+use Rattle.hex.specs.declared.read.Answer.the-variants.{Refused, Accepted}
+use Rattle.hex.specs.Read.{readOf as readText}
+use Rattle.sender.specs.declared.request.Request.{Request}
+use Rattle.sender.specs.declared.request.Request.the-variants.{ModeStart, WriteStart}
+use Rattle.sender.specs.Request.{requestFrame}
+use Rattle.client.specs.declared.record.State.{State}
+use Rattle.client.specs.declared.record.State.the-variants as state
+use Rattle.client.specs.Answer.{writtenBytes}
+use Rattle.client.specs.Host.{isClosed}
+use Rattle.demands.specs.Board.{Board, Call, Datagram, said, stepMachine}
+use Rattle.demands.specs.Demand2.{Lends}
+use Rattle.demands.specs.Session.{isStored}
+
+pub data Row : Type 0 where
+  -- the sender's request is these bytes
+  Sends : Request → List ℕ → Row
+  -- a write frame with this sector and these bytes has this checksum
+  Sums : ℕ → List ℕ → ℕ → Row
+  -- in such a state this datagram has this answer
+  Answers : (State → Bool) → List ℕ → List ℕ → Row
+  -- with so many sectors a packet for this sector is taken, or refused 05, whatever good number of bytes it has
+  Sector : ℕ → ℕ → Bool → Row
+  -- a packet with so many bytes is taken, or refused 05, whatever sector of the bank it is for
+  Length : ℕ → Bool → Row
+  -- a packet that was accepted, sent once more at once, is answered 1D
+  Again : Row
+  -- this text has this answer
+  Reads : List ℕ → Answer → Row
+
+-- a call on a board: N from 1 to 491, banks of the right length, lent whole, no sector worn
+pub record Calls (b : Board) (call : Call) : Type 0 where
+  pub good : goodN (b .client .n) ≡ true
+  pub zero : length (b .bank0) ≡ b .client .n * sectorSize
+  pub one : length (b .bank1) ≡ b .client .n * sectorSize
+  pub lends : Lends (b .client .n) call
+
+-- a packet in write state
+pub record Brings (b : Board) (call : Call) (sector m : ℕ) : Type 0 where
+  pub calls : Calls b call
+  pub writing : b .client .state ≡ state.Write
+  pub footer : Footer
+  pub reads : readOf (call .datagram) ≡ Write sector m footer
+
+-- taken with 06 or 1D, or refused 05
+abbrev pub Verdict : Bool → Board → Call → ℕ → Type 0
+Verdict true b call sector = isStored (said (stepMachine b (Datagram call))) ≡ true
+Verdict false b call sector = said (stepMachine b (Datagram call)) ≡ writeFrame sector (writtenBytes 0x05 0x05 0) End
+
+-- "M of 0, above 512 or not a multiple of 4" is wrong
+abbrev pub goodLength : ℕ → Bool
+goodLength m = leb 1 m && (leb m 512 && eqb (m % 4) 0)
+
+abbrev pub Holds : Row → Type 0
+Holds (Sends request bytes) = requestFrame request ≡ bytes
+Holds (Sums sector bytes sum) = (footer : Footer) → byteAt (writeFrame sector bytes footer) (5 + length bytes) ≡ sum
+Holds (Answers states datagram answer) =
+    (b : Board) (call : Call) → Calls b call → states (b .client .state) ≡ true → call .datagram ≡ datagram → said (stepMachine b (Datagram call)) ≡ answer
+Holds (Sector n sector good) =
+    (b : Board) (call : Call) (m : ℕ) → b .client .n ≡ n → goodLength m ≡ true → Brings b call sector m → Verdict good b call sector
+Holds (Length m good) =
+    (b : Board) (call : Call) (sector : ℕ) → 1 ≤ sector → sector ≤ b .client .n → Brings b call sector m → Verdict good b call sector
+Holds Again =
+    (b : Board) (call again : Call) (sector m : ℕ) → Brings b call sector m → isStored (said (stepMachine b (Datagram call))) ≡ true
+    → again .datagram ≡ call .datagram → Lends (b .client .n) again
+    → byteAt (said (stepMachine (stepMachine b (Datagram call) .board) (Datagram again))) 6 ≡ 0x1D
+Holds (Reads text answer) = (bank : Bank) (n : ℕ) (image : List ℕ) → goodN n ≡ true → length image ≡ sectorSize * n → readText text bank n image .answer ≡ answer
+
+pub data AllHold : List Row → Type 0 where
+  none : AllHold []
+  also : {r : Row} {rows : List Row} → Holds r → AllHold rows → AllHold (r ∷ rows)
+
+abbrev pub isIdle : State → Bool
+isIdle state.Closed = false
+isIdle state.Idle = true
+isIdle state.Control = false
+isIdle state.Write = false
+
+abbrev pub live : State → Bool
+live s = not (isClosed s)
+
+abbrev pub rows : List Row
+rows =
+    -- 1
+    Sends ModeStart (0x01 ∷ 0x01 ∷ 0x61 ∷ 0x9E ∷ 0x03 ∷ [])
+    ∷ Answers isIdle (0x01 ∷ 0x01 ∷ 0x61 ∷ 0x9E ∷ 0x03 ∷ []) (0x01 ∷ 0x02 ∷ 0x71 ∷ 0x06 ∷ 0x87 ∷ 0x03 ∷ [])
+    -- 2
+    ∷ Sums 1 (0xFF ∷ 0x80 ∷ 0x40 ∷ 0x22 ∷ []) 0x1A
+    -- 3
+    ∷ Answers live (0x01 ∷ 0x01 ∷ 0x60 ∷ 0x9F ∷ 0x03 ∷ []) (0x01 ∷ 0x02 ∷ 0xE0 ∷ 0x05 ∷ 0x19 ∷ 0x03 ∷ [])
+    -- 4
+    ∷ Sends (WriteStart One 491) (0x01 ∷ 0x09 ∷ 0x40 ∷ 0x14 ∷ 0x00 ∷ 0x0A ∷ 0x00 ∷ 0x14 ∷ 0x03 ∷ 0xDF ∷ 0xFF ∷ 0xA4 ∷ 0x03 ∷ [])
+    -- 5
+    ∷ Sends (WriteStart One 32) (0x01 ∷ 0x09 ∷ 0x40 ∷ 0x14 ∷ 0x00 ∷ 0x0A ∷ 0x00 ∷ 0x14 ∷ 0x00 ∷ 0x49 ∷ 0xFF ∷ 0x3D ∷ 0x03 ∷ [])
+    -- 6
+    ∷ Answers live [] (0x01 ∷ 0x02 ∷ 0xE0 ∷ 0x07 ∷ 0x17 ∷ 0x03 ∷ [])
+    -- 7
+    ∷ Sector 491 491 true
+    ∷ Sector 491 492 false
+    ∷ Sector 491 0 false
+    -- 8
+    ∷ Length 512 true
+    ∷ Length 516 false
+    ∷ Length 0 false
+    ∷ Length 6 false
+    -- 9
+    ∷ Again
+    -- 10
+    ∷ Reads [] (Refused (record { kind = H6; line = 1 }))
+    ∷ Reads (0x3A ∷ 48 ∷ 48 ∷ 48 ∷ 48 ∷ 48 ∷ 48 ∷ 48 ∷ 49 ∷ 70 ∷ 70 ∷ []) Accepted
+    -- 11
+    ∷ Sums 3 ((0x01 ∷ 0x02 ∷ 0x03 ∷ 0x04 ∷ []) ++ replicate 508 0xFF) 0xED
+    ∷ []
+
+abbrev pub Examples : Type 0
+Examples = AllHold rows

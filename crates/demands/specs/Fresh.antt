@@ -1,0 +1,48 @@
+-- Demand 2 from the very beginning: a client is made, initiated and put into OTA mode by the sender's request; an image is delivered; the mode is
+-- ended by the sender's request, and the host is told 01 (01, 'The client, step by step', "Notice 6034").
+-- Assumes nothing.
+use mathlib.Core.Path.{_≡_}
+use mathlib.Core.Bool.{true}
+use mathlib.Core.List.{List, [], _∷_}
+use Prim.Native.Nat.{ℕ, _*_}
+use lib.ListN.{length}
+use Rattle.bank.specs.declared.layout.Bank.{Bank}
+use Rattle.bank.specs.Layout.{sectorSize, goodN}
+use Rattle.sender.specs.declared.request.Request.the-variants.{ModeStart, ModeEnd}
+use Rattle.sender.specs.Request.{requestFrame}
+use Rattle.client.specs.Host.{newOf}
+use Rattle.client.specs.Notice.{noticeBytes}
+use Rattle.demands.specs.Board.{Board, board, Call, Input, Initiate, Datagram, said, Machine, after}
+use Rattle.demands.specs.Demand2.{Lends, Fit, Delivery, Delivered}
+
+-- a new client between two whole banks
+pub record Fresh (n : ℕ) (bank0 bank1 : List ℕ) : Type 0 where
+  pub good : goodN n ≡ true
+  pub zero : length bank0 ≡ n * sectorSize
+  pub one : length bank1 ≡ n * sectorSize
+
+-- the board when the mode was started, and when the image was delivered
+abbrev pub inMode : Machine → Board → Call → Board
+inMode m b mode = after m b (Initiate ∷ Datagram mode ∷ [])
+
+abbrev pub afterAll : Machine → Board → Call → Call → List Input → Call → Board
+afterAll m b mode start is end = m (after m (inMode m b mode) (Datagram start ∷ is)) (Datagram end) .board
+
+pub record Told (m : Machine) (b : Board) (image : List ℕ) (mode start : Call) (ps : List ℕ) (is : List Input) (end over : Call) : Type 0 where
+  pub initiated : m b Initiate .number ≡ 0
+  pub started : said (m (m b Initiate .board) (Datagram mode)) ≡ 0x01 ∷ 0x02 ∷ 0x71 ∷ 0x06 ∷ 0x87 ∷ 0x03 ∷ []
+  pub start-notice : noticeBytes (m (m b Initiate .board) (Datagram mode) .notice) ≡ 0x60 ∷ 0x33 ∷ mode .address
+  pub delivered : Delivered m (inMode m b mode) image start ps is end
+  pub ended : said (m (afterAll m b mode start is end) (Datagram over)) ≡ 0x01 ∷ 0x02 ∷ 0x74 ∷ 0x06 ∷ 0x84 ∷ 0x03 ∷ []
+  pub end-notice : noticeBytes (m (afterAll m b mode start is end) (Datagram over) .notice) ≡ 0x60 ∷ 0x34 ∷ 0x01 ∷ over .address
+
+abbrev pub MeetsFresh : Machine → Type 0
+MeetsFresh m =
+    (n : ℕ) (running : Bank) (major minor revision : ℕ) (bank0 bank1 : List ℕ) → Fresh n bank0 bank1
+    → (let b : Board = board (newOf n running major minor revision .client) bank0 bank1 in
+    (image : List ℕ) → Fit image n
+    → (mode start : Call) (ps : List ℕ) (is : List Input) (end over : Call)
+    → mode .datagram ≡ requestFrame ModeStart → Lends n mode
+    → Delivery (inMode m b mode) image start ps is end
+    → over .datagram ≡ requestFrame ModeEnd → Lends n over
+    → Told m b image mode start ps is end over)

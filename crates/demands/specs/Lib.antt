@@ -1,0 +1,13 @@
+pub mod Banks
+pub mod Board
+pub mod Demand1
+pub mod Demand2
+pub mod Demand3
+pub mod Determined
+pub mod EndToEnd
+pub mod Examples
+pub mod Fresh
+pub mod Packets
+pub mod Session
+pub mod ShutOut
+pub mod Texts

@@ -1,0 +1,54 @@
+-- What is asked of a maker of sector packets, whatever it is (01, 'Hex text', "The sender sends, lowest first"; 'What comes back when it is no',
+-- "Sender: 3, 2, 5"). A packet is judged by what its bytes say when they are read as a frame.
+-- Assumes nothing.
+use mathlib.Core.Path.{_≡_}
+use mathlib.Core.Bool.{true, false, _&&_}
+use mathlib.Core.List.{List}
+use Prim.Native.Nat.{ℕ, _≤_, _<_}
+use lib.Dec.{leb}
+use lib.ListN.{length, take, drop}
+use Rattle.frame.specs.Read.{readOf, writtenOf}
+use Rattle.frame.specs.declared.read.Read.the-variants.{Write}
+use Rattle.bank.specs.Layout.{goodN}
+use Rattle.sender.specs.declared.made.Made.{Made}
+use Rattle.sender.specs.declared.made.Made.the-variants.{BadN, BadLength, PastLast, Frame}
+use Rattle.sender.specs.Made.{room, standing}
+use Rattle.sender.specs.Packet.{sectorOf, packetCount, packetSector, footerOf, packetFrame, imageGood, packetMade}
+
+-- what a maker gives back, and the buffer then
+pub record Made·Out : Type 0 where
+  pub answer : Made
+  pub buffer : List ℕ
+
+abbrev pub out : Made → List ℕ → Made·Out
+out answer buffer = record { answer = answer; buffer = buffer }
+
+-- image, N, packet number, buffer
+abbrev pub Maker : Type 0
+Maker = List ℕ → ℕ → ℕ → List ℕ → Made·Out
+
+-- a packet as it should be: `length` bytes at the front that read as the sector with this number, with its 512 bytes and its footer; the rest stays
+pub record Packet (image : List ℕ) (n p : ℕ) (before : List ℕ) (o : Made·Out) : Type 0 where
+  pub size : ℕ
+  pub made : o .answer ≡ Frame size
+  pub reads : readOf (take size (o .buffer)) ≡ Write (packetSector image n p) 512 (footerOf (packetCount image n) p)
+  pub bytes : writtenOf (take size (o .buffer)) 512 ≡ sectorOf image (packetSector image n p)
+  pub rest : drop size (o .buffer) ≡ drop size before
+
+-- 3, 2, 5, and then the packet
+pub record MeetsSender (s : Maker) : Type 0 where
+  pub bad-n : (image : List ℕ) (n p : ℕ) (before : List ℕ) → goodN n ≡ false → s image n p before ≡ out BadN before
+  pub bad-length : (image : List ℕ) (n p : ℕ) (before : List ℕ) → goodN n ≡ true → (imageGood image n && leb room (length before)) ≡ false
+      → s image n p before ≡ out BadLength before
+  pub past : (image : List ℕ) (n p : ℕ) (before : List ℕ) → goodN n ≡ true → (imageGood image n && leb room (length before)) ≡ true
+      → packetCount image n ≤ p → s image n p before ≡ out PastLast before
+  pub packet : (image : List ℕ) (n p : ℕ) (before : List ℕ) → goodN n ≡ true → (imageGood image n && leb room (length before)) ≡ true
+      → p < packetCount image n → Packet image n p before (s image n p before)
+
+-- the maker of the contracts
+abbrev pub packetMaker : Maker
+packetMaker image n p before = out (packetMade image n p (length before)) (standing (packetMade image n p (length before)) before (packetFrame image n p))
+
+-- one that invents the packet number: it does not look at the one that is asked for
+abbrev pub InventsNumber : Maker → Type 0
+InventsNumber s = (image : List ℕ) (n p q : ℕ) (before : List ℕ) → s image n p before ≡ s image n q before

@@ -1,0 +1,53 @@
+-- What a write session shows, told by the bytes that went in and came back alone (01, 'The client, step by step'): "each sector as last
+-- accepted, 0xFF elsewhere".
+-- Assumes nothing.
+use mathlib.Core.Bool.{Bool, _&&_, _||_, cond}
+use mathlib.Core.List.{List, [], _∷_}
+use Prim.Native.Nat.{ℕ, _*_}
+use lib.Dec.{eqb}
+use Rattle.frame.specs.Read.{byteAt, readOf, writtenOf}
+use Rattle.frame.specs.declared.read.Read.{Read}
+use Rattle.frame.specs.declared.read.Read.the-variants.{Fault, Control, Write}
+use Rattle.flash.specs.Bank.{withSector}
+use Rattle.flash.specs.Sector.{blanks, paddedOf}
+use Rattle.bank.specs.Layout.{sectorSize}
+use Rattle.demands.specs.Board.{Input, Initiate, Terminate, Datagram, Outcome, said}
+
+-- a control response with this code and result
+abbrev pub isResponse : ℕ → ℕ → List ℕ → Bool
+isResponse code result answer = eqb (byteAt answer 0) 0x01 && (eqb (byteAt answer 2) code && eqb (byteAt answer 3) result)
+
+-- a write response with response result 06 and write result 06 or 1D
+abbrev pub isStored : List ℕ → Bool
+isStored answer = eqb (byteAt answer 0) 0x02 && (eqb (byteAt answer 5) 0x06 && (eqb (byteAt answer 6) 0x06 || eqb (byteAt answer 6) 0x1D))
+
+-- the answer to a write start that begins a session, and to a write end that ends one after the sweep
+abbrev pub isBegin : List ℕ → Bool
+isBegin answer = isResponse 0x70 0x06 answer
+
+abbrev pub isEnd : List ℕ → Bool
+isEnd answer = isResponse 0x75 0x06 answer || isResponse 0x75 0x1E answer
+
+-- the packet's sector becomes "the M data bytes followed by 0xFF"
+abbrev pub packetIn : List ℕ → List ℕ → Read → List ℕ
+packetIn image datagram Fault = image
+packetIn image datagram (Control code n) = image
+packetIn image datagram (Write sector m footer) = withSector image sector (paddedOf (writtenOf datagram m))
+
+abbrev pub allBlank : ℕ → List ℕ
+allBlank n = blanks (n * sectorSize)
+
+-- one exchange more: an accepted start shows 0xFF alone, an accepted packet its sector
+abbrev pub exchanged : ℕ → List ℕ → List ℕ → List ℕ → List ℕ
+exchanged n image datagram answer =
+    cond (isBegin answer) (allBlank n) (cond (isStored answer) (packetIn image datagram (readOf datagram)) image)
+
+abbrev pub noted : ℕ → List ℕ → Input → Outcome → List ℕ
+noted n image Initiate o = image
+noted n image Terminate o = image
+noted n image (Datagram call) o = exchanged n image (call .datagram) (said o)
+
+abbrev pub shown : ℕ → List ℕ → List Input → List Outcome → List ℕ
+shown n image [] os = image
+shown n image (i ∷ is) [] = image
+shown n image (i ∷ is) (o ∷ os) = shown n (noted n image i o) is os

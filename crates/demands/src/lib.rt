@@ -1,0 +1,1 @@
+// No code: the user's demands, as theorems over the crates below (specs/ and proofs/).
