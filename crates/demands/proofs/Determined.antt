@@ -63,4 +63,13 @@ determined =
             answer-same = p .said ∙ sym (q .said);
           };
       next-body = λ c bank0 bank1 i. once _;
+      check-number = λ bank. once _;
+      hex-code = λ text n before x y u v p q. (p .image ∙ sym (q .image), p .code ∙ sym (q .code));
+      take = λ n slots bank0 bank1 marks address buffer r s zero zero′ one one′ answer answer′ p q.
+          record {
+            result = p .told ∙ sym (q .told);
+            zero-same = p .bank-zero ∙ sym (q .bank-zero);
+            one-same = p .bank-one ∙ sym (q .bank-one);
+            answer-same = p .answered ∙ sym (q .answered);
+          };
     }

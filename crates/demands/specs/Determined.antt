@@ -34,6 +34,9 @@ use Rattle.sender.specs.Response.{Response·Is}
 use Rattle.client.specs.Body.{Body·Is as NextBody·Is}
 use Rattle.client.specs.Host.{New·Is, Initiate·Is, Terminate·Is}
 use Rattle.client.specs.Step.{Step·Is}
+use Rattle.bank_c.specs.Check.{CheckNumber·Is}
+use Rattle.hex_c.specs.Code.{Code·Is}
+use Rattle.client_c.specs.Take.{Take·Is}
 
 -- what a function gives is determined; so are two things that it gives, as a result and a lent list
 abbrev pub Once : {A : Type 0} → (A → Type 0) → Type 0
@@ -42,8 +45,8 @@ Once {A} R = (x y : A) → R x → R y → x ≡ y
 abbrev pub Twice : {A B : Type 0} → (A → B → Type 0) → Type 0
 Twice {A} {B} R = (x y : A) (u v : B) → R x u → R y v → (x ≡ y) × (u ≡ v)
 
--- the record and what is beside it, both banks, the answer buffer
-pub record Same (r s : Stepped) (zero zero′ one one′ answer answer′ : List ℕ) : Type 0 where
+-- what is told, both banks, the answer buffer
+pub record Same {A : Type 0} (r s : A) (zero zero′ one one′ answer answer′ : List ℕ) : Type 0 where
   pub result : r ≡ s
   pub zero-same : zero ≡ zero′
   pub one-same : one ≡ one′
@@ -102,3 +105,8 @@ pub record Determined : Type 0 where
   pub step : (c : Client) (bank0 bank1 marks address buffer datagram : List ℕ) (r s : Stepped) (zero zero′ one one′ answer answer′ : List ℕ) → Step·Is c bank0 bank1 marks address buffer datagram r zero one answer → Step·Is c bank0 bank1 marks address buffer datagram s zero′ one′ answer′
       → Same r s zero zero′ one one′ answer answer′
   pub next-body : (c : Client) (bank0 bank1 : List ℕ) (i : ℕ) → Once (NextBody·Is c bank0 bank1 i)
+  -- what C calls
+  pub check-number : (bank : List ℕ) → Once (CheckNumber·Is bank)
+  pub hex-code : (text : List ℕ) (n : ℕ) (before : List ℕ) → Twice (Code·Is text n before)
+  pub take : (n : ℕ) (slots bank0 bank1 marks address buffer : List ℕ) (r s : ℕ) (zero zero′ one one′ answer answer′ : List ℕ) → Take·Is n slots bank0 bank1 marks address buffer r zero one answer → Take·Is n slots bank0 bank1 marks address buffer s zero′ one′ answer′
+      → Same r s zero zero′ one one′ answer answer′
