@@ -38,19 +38,17 @@ const LONGEST_BANK: usize = 252_416;
 const LONGEST_SHOWN: usize = 64;
 
 pub fn answers(text: &[u8]) -> Vec<String> {
+    requests(text).into_iter().map(|line| line.and_then(known).unwrap_or_else(|| "?".to_string())).collect()
+}
+
+/// Each line; None where it is too long, or no text.
+pub fn requests(text: &[u8]) -> Vec<Option<&str>> {
     if text.is_empty() {
         return Vec::new();
     }
     let text = text.strip_suffix(b"\n").unwrap_or(text);
-    text.split(|b| *b == b'\n').map(answer).collect()
-}
-
-fn answer(line: &[u8]) -> String {
-    let known = match std::str::from_utf8(line) {
-        Ok(text) if line.len() <= LONGEST_LINE => known(text),
-        _ => None,
-    };
-    known.unwrap_or_else(|| "?".to_string())
+    let request = |line| std::str::from_utf8(line).ok().filter(|line| line.len() <= LONGEST_LINE);
+    text.split(|b| *b == b'\n').map(request).collect()
 }
 
 fn known(line: &str) -> Option<String> {
@@ -152,7 +150,8 @@ fn put(frame: Option<Vec<u8>>, room: usize) -> String {
     hex::text(&buffer)
 }
 
-fn decimal(text: &str, most: usize) -> Option<usize> {
+/// A number of one to six digits.
+pub fn decimal(text: &str, most: usize) -> Option<usize> {
     if text.is_empty() || text.len() > 6 || !text.bytes().all(|b| b.is_ascii_digit()) {
         return None;
     }

@@ -1,18 +1,49 @@
 //! The peer: what the proved programs are held to from outside. It is written from the paper and from section 3 of the J11
 //! specification alone, shares no code and no table with the crates, and uses nothing but Rust's standard library.
 //!
-//!     peer selftest    its own CRC-32, frames and bank check against published values and the paper's examples
-//!     peer cases       the request lines that `vectors` is tried with
-//!     peer vectors     the answer to each request line on standard input (lines.rs has the form of both)
+//!     peer selftest          its own CRC-32, frames, bank check, hex text and client against published values and the paper's examples
+//!     peer cases             the request lines that `vectors` is tried with
+//!     peer vectors           the answer to each request line on standard input (lines.rs has the form of both)
+//!     peer sending-cases [FILE.hex ..]
+//!                            the request lines that `sending` is tried with, on those files too
+//!     peer sending           the answer to each of them (sending.rs has the form of both)
+//!     peer packets           what the paper's program writes for the text on standard input
+//!     peer texts DIRECTORY   the texts that `packets` is tried with, each in a file of its own
+//!     peer board-cases       the script that `board` is tried with
+//!     peer board-endings     lines that are none, each of which ends a script
+//!     peer board             what the script on standard input writes, on a board with the peer's own client (docs/BOARD.md)
+//!     peer demands DIR       two scripts, DIR/first.script and DIR/second.script, for the user's demands
+//!     peer judge DIR         whether DIR/first.output and DIR/second.output, as a board wrote them, meet the demands
+//!     peer wrong-boards      that the script tells each wrong board from a right one, and that the judge refuses it
 mod bank;
 mod bank_cases;
+mod board;
+mod board_cases;
+mod board_endings;
 mod cases;
+mod client;
 mod crc;
+mod demands;
 mod draw;
 mod frame;
 mod hex;
+mod image;
+mod intel;
+mod judge;
 mod lines;
+mod packets;
+mod packets_texts;
+mod response;
+mod response_cases;
+mod script;
 mod selftest;
+mod selftest_sending;
+mod sender;
+mod sending;
+mod sending_cases;
+mod text_cases;
+mod texts;
+mod wrong;
 
 use std::io::{self, Read, Write};
 use std::process::exit;
@@ -23,8 +54,21 @@ fn main() {
         ["selftest"] => selftest::run(),
         ["cases"] => write_out(&[cases::all(), bank_cases::all()].concat()),
         ["vectors"] => read_in().and_then(|text| write_out(&lines::answers(&text))),
+        ["board"] => read_in().and_then(|script| write_out(&board::run(&script, None))),
+        ["board-cases"] => write_out(&board_cases::all()),
+        ["board-endings"] => write_out(&board_endings::all()),
+        ["demands", directory] => demands::write(directory),
+        ["judge", directory] => demands::judge(directory).map(|said| println!("{}", said)),
+        ["wrong-boards"] => wrong_boards().map(|said| println!("{}", said)),
+        ["sending-cases", ref files @ ..] => {
+            let texts: Result<Vec<Vec<u8>>, String> = files.iter().map(|file| read_file(file)).collect();
+            texts.and_then(|texts| write_out(&sending_cases::all(&texts)))
+        }
+        ["sending"] => read_in().and_then(|text| write_out(&sending::answers(&text))),
+        ["packets"] => read_in().and_then(|text| write_out(&packets::lines(&text))),
+        ["texts", directory] => packets_texts::write(directory),
         _ => {
-            eprintln!("usage: peer selftest | cases | vectors");
+            eprintln!("usage: peer COMMAND [ARGUMENT ..]; the head of main.rs has the commands");
             exit(2)
         }
     };
@@ -40,10 +84,19 @@ fn read_in() -> Result<Vec<u8>, String> {
     Ok(text)
 }
 
+fn read_file(name: &str) -> Result<Vec<u8>, String> {
+    std::fs::read(name).map_err(|e| format!("{}: {}", name, e))
+}
+
 fn write_out(lines: &[String]) -> Result<(), String> {
     let mut text = lines.join("\n");
     if !lines.is_empty() {
         text.push('\n');
     }
     io::stdout().write_all(text.as_bytes()).map_err(|e| e.to_string())
+}
+
+/// That the checks of a board can fail.
+fn wrong_boards() -> Result<String, String> {
+    Ok(format!("{}; {}", board_cases::selftest()?, demands::selftest()?))
 }

@@ -1,8 +1,10 @@
 //! The peer held to what others have published, so that an agreement with it means something.
-use crate::{bank, crc, frame, hex};
+use crate::{bank, board, crc, frame, hex, selftest_sending};
 
 pub fn run() -> Result<(), String> {
-    let checks = [crcs(), continued(), checksums(), frames(), faults(), addresses(), banks()];
+    let mut checks =
+        vec![crcs(), continued(), checksums(), frames(), faults(), addresses(), banks(), clients(), write_results()];
+    checks.extend(selftest_sending::all());
     let count: usize = checks.iter().map(Vec::len).sum();
     match checks.concat().into_iter().find(|(_, good)| !good) {
         Some((what, _)) => Err(format!("selftest: {}", what)),
@@ -13,7 +15,8 @@ pub fn run() -> Result<(), String> {
     }
 }
 
-type Checks = Vec<(String, bool)>;
+/// What each is, and whether it holds.
+pub type Checks = Vec<(String, bool)>;
 
 /// `123456789` is the check value of the catalogues of CRCs (CRC-32/ISO-HDLC); the others are what zlib's crc32 gives
 /// (python3 -c 'import zlib; print(hex(zlib.crc32(bytes(65536))))' for the longest).
@@ -149,7 +152,91 @@ fn banks() -> Checks {
     checks
 }
 
-fn bytes(text: &str) -> Vec<u8> {
+/// The paper's examples 1 to 9 and 11 on a client: the line of a board's script, and what it writes. The CRCs are zlib's.
+fn clients() -> Checks {
+    let none = "00".repeat(16);
+    let (long, longer) = ("00".repeat(512), "00".repeat(516));
+    let padded = format!("01020304{}", "FF".repeat(508));
+    let example_1 = format!("answer 010271068703 notice 6033 {}", none);
+    let start = [
+        ("a new client", "client 491 0 1 2 3", "done"),
+        ("initiated", "initiate", "done"),
+        ("example 6", "send -", "answer 0102E0071703"),
+        ("example 3", "send 0101609F03", "answer 0102E0051903"),
+        ("example 1", "send 0101619E03", &example_1),
+        ("example 5, of another N", "send 01094014000A00140049FF3D03", "answer 010270058903"),
+        ("example 4", "send 01094014000A001403DFFFA403", "answer 010270068803"),
+        ("example 2", "send 0200010004FF8040221A03", "answer 02000100060606DF61DC389903"),
+        ("example 9", "send 0200010004FF8040221A03", "answer 0200010006061DDF61DC388203"),
+        ("example 7, sector 491", "send 0201EB0004FF8040222F17", "answer 0201EB00060606DF61DC38AE03"),
+        ("example 7, sector 492", "send 0201EC0004FF8040222E17", "answer 0201EC00060505000000000303"),
+        ("example 7, sector 0", "send 0200000004FF8040221B03", "answer 0200000006050500000000F003"),
+        ("example 8, M of 0", "send 0200010000FF03", "answer 0200010006050500000000EF03"),
+        ("example 8, M of 6", "send 0200010006000000000000F903", "answer 0200010006050500000000EF03"),
+    ];
+    let sectors = [
+        ("example 8, M of 512", format!("send 0200020200{}FC03", long), "answer 02000200060606B2AA7578A303"),
+        ("example 8, M of 516", format!("send 0200010204{}F903", longer), "answer 0200010006050500000000EF03"),
+        ("example 11", format!("send 0200030200{}ED17", padded), "answer 02000300060606132351D88C03"),
+        ("the record", "record".to_string(), "record 491 0 0 write nothing 1 2 3 1,2,3,491"),
+        ("a new client, N = 32", "client 32 0 1 2 3".to_string(), "done"),
+        ("initiated, N = 32", "initiate".to_string(), "done"),
+        ("example 1, N = 32", "send 0101619E03".to_string(), &example_1),
+        ("example 5", "send 01094014000A00140049FF3D03".to_string(), "answer 010270068803"),
+    ];
+    let mut lines: Vec<(&str, String, &str)> =
+        start.map(|(what, line, written)| (what, line.to_string(), written)).to_vec();
+    lines.extend(sectors);
+    held("client", &lines)
+}
+
+/// The forms of a write answer that the paper's rules leave no choice in: 15, 05, 1C, and 1D for blanks; then a worn end, an unsound one, and
+/// the notices of each.
+fn write_results() -> Checks {
+    let none = "00".repeat(16);
+    let started = format!("answer 010271068703 notice 6033 {}", none);
+    let (failed, without) =
+        (format!("answer 010274068403 notice 6034 02 {none}"), format!("answer 010274068403 notice 6034 03 {none}"));
+    let lines = [
+        ("a new client", "client 1 1 0 0 0", "done"),
+        ("no answer when closed", "send -", "refused 1"),
+        ("initiated", "initiate", "done"),
+        ("initiated in vain", "initiate", "refused 4"),
+        ("mode start", "send 0101619E03", &started),
+        ("a packet in control state", "send 0200010004FF8040221A03", "answer 0200010006151500000000CF03"),
+        ("no session", "send 0101649B03", &without),
+        ("mode start again", "send 0101619E03", &started),
+        ("write start of the running bank", "send 01094014000A0014000BFF7B03", "answer 010270058903"),
+        ("write start", "send 01094010000A0010000BFF8303", "answer 010270068803"),
+        ("a mark", "mark 1 40", "mark 1 40"),
+        ("a packet for a worn sector", "send 0200010004FF8040221A03", "answer 0200010006061C00000000D703"),
+        ("no mark", "mark 1 00", "mark 1 00"),
+        ("leftovers", "put 0 508 00112233", "put 0 508 4"),
+        ("blanks over leftovers", "send 0200010004FFFFFFFFFF03", "answer 0200010006061DBD7BC39F3C03"),
+        ("the leftovers are gone", "show 0 508 4", "show FFFFFFFF"),
+        ("an unsound end", "send 010145BA03", "answer 0102751E6B03"),
+        ("mode end", "send 0101649B03", &failed),
+        ("too short a buffer", "buffer 13 00", "buffer 13"),
+        ("number 2", "send -", "refused 2"),
+        ("N of 492", "client 492 0 0 0 0", "refused 3"),
+        ("number 3", "send -", "refused 3"),
+        ("a record with a bad N", "record", "record 492 0 0 closed nothing 0 0 0 -"),
+    ];
+    held("write results", &lines.map(|(what, line, written)| (what, line.to_string(), written)))
+}
+
+fn held(about: &str, lines: &[(&str, String, &str)]) -> Checks {
+    let script: Vec<String> = lines.iter().map(|line| line.1.clone()).collect();
+    let written = board::run(script.join("\n").as_bytes(), None);
+    let ended = vec![(format!("{}: a line for each", about), written.len() == lines.len())];
+    let each = lines
+        .iter()
+        .zip(&written)
+        .map(|((what, _, wanted), got)| (format!("{}: {}: {}", about, what, got), got == wanted));
+    ended.into_iter().chain(each).collect()
+}
+
+pub fn bytes(text: &str) -> Vec<u8> {
     if text.is_empty() {
         Vec::new()
     } else {

@@ -18,24 +18,10 @@ use Rattle.hex.specs.Places.{pairAt, byteAt, bytesAt, allBytes, checkFro
 
 -- ---- a digit, by the range in which it lies
 
-module _ (c : ℕ) where
-  pub digit-number : (leb 0x30 c && leb c 0x39) ≡ true → digitOf c ≡ c - 0x30
-  unfolding digitOf
-  digit-number e = rw e
-
-  pub digit-upper : (leb 0x30 c && leb c 0x39) ≡ false → (leb 0x41 c && leb c 0x46) ≡ true → digitOf c ≡ c - 0x41 + 10
-  unfolding digitOf
-  digit-upper e f = rw (e, f)
-
-  pub digit-lower :
-      (leb 0x30 c && leb c 0x39) ≡ false → (leb 0x41 c && leb c 0x46) ≡ false → (leb 0x61 c && leb c 0x66) ≡ true → digitOf c ≡ c - 0x61 + 10
-  unfolding digitOf
-  digit-lower e f g = rw (e, f, g)
-
-  pub digit-none :
-      (leb 0x30 c && leb c 0x39) ≡ false → (leb 0x41 c && leb c 0x46) ≡ false → (leb 0x61 c && leb c 0x66) ≡ false → digitOf c ≡ 16
-  unfolding digitOf
-  digit-none e f g = rw (e, f, g)
+-- a number is counted from 0 on
+pub digit-is : (c : ℕ) → cond (leb 0x30 c && leb c 0x39) (c - 0x30 + 0) (cond (leb 0x41 c && leb c 0x46) (c - 0x41 + 10) (cond (leb 0x61 c && leb c 0x66) (c - 0x61 + 10) 16)) ≡ digitOf c
+unfolding digitOf
+digit-is c = rw (add-zero (c - 0x30))
 
 -- a number between two others, by the joined test
 pub in-range : (a b c : ℕ) → (leb a c && leb c b) ≡ true → (a ≤ c) × (c ≤ b)

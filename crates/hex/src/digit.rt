@@ -1,8 +1,9 @@
 // Digits, and the bytes that they spell two by two. The tests are joined by `&`, and a loop over digits has no way out, so that
 // the compiler takes many at once.
 ghost use mathlib.Core.Path.{_≡_};
-ghost use mathlib.Core.Bool.{true};
-ghost use Prim.Native.Nat.{_+_, _≤_, _<_};
+ghost use mathlib.Core.Bool.{true, _&&_, cond};
+ghost use Prim.Native.Nat.{_+_, _-_, _≤_, _<_};
+ghost use lib.Dec.{leb};
 ghost use lib.ListN.{length};
 ghost use Rattle.hex.specs.Digit.{digitOf};
 ghost use Rattle.hex.specs.Places.{pairAt, valueAt, byteAt};
@@ -16,20 +17,25 @@ pub(crate) fn wide(byte: u8) -> usize
     byte as usize
 }
 
-// The value of a digit, in either case.
+// The place of `x` between two others, counted from `value` on; `other` where it is outside. Both are at hand by then, so that the
+// compiler chooses without a branch, which data would make it guess wrong.
+fn within(x: u8, first: u8, last: u8, value: u8, other: u8) -> u8
+    requires { ⌜ last + value < 256 ⌝ }
+    ensures { λ r. ⌜ r ≡ cond (leb first x && leb x last) (x - first + value) other ⌝ }
+{
+    if (first <= x) & (x <= last) {
+        return x - first + value;
+    }
+    other
+}
+
+// The value of a digit.
 fn digit(x: u8) -> u8
     ensures { λ r. ⌜ r ≡ digitOf x ⌝ }
 {
-    if (b'0' <= x) & (x <= b'9') {
-        return x - b'0';
-    }
-    if (b'A' <= x) & (x <= b'F') {
-        return x - b'A' + 10;
-    }
-    if (b'a' <= x) & (x <= b'f') {
-        return x - b'a' + 10;
-    }
-    NONE
+    let lower = within(x, b'a', b'f', 10, NONE);
+    let upper = within(x, b'A', b'F', 10, lower);
+    within(x, b'0', b'9', 0, upper)
 }
 
 // Whether two digits stand at `at`.

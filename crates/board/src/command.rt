@@ -1,0 +1,88 @@
+// A line of the script, and the command that it is.
+use crate::calls;
+use crate::settings;
+use crate::shows;
+use crate::state;
+use crate::state::Board;
+use crate::word;
+use crate::word::Show;
+use crate::word::Word;
+use script::say;
+use script::text;
+
+fn shown<'a>(board: Board, bank0: &'a [u8], bank1: &'a [u8], show: Show, fields: &[u8]) -> Board {
+    if shows::run(board, bank0, bank1, show, fields) {
+        board
+    } else {
+        state::unknown(board)
+    }
+}
+
+// A field that is missing is empty, and no command has an empty field; one too many stands in the last field, with a blank that no
+// field has.
+fn run(board: Board, bank0: &mut [u8], bank1: &mut [u8], word: Word, fields: &[u8]) -> Board {
+    match word {
+        Word::Sets(setting) => settings::run(board, bank0, bank1, setting, fields),
+        Word::Calls(call) => calls::run(board, bank0, bank1, call, fields),
+        Word::Shows(show) => shown(board, bank0, bank1, show, fields),
+        Word::Other => state::unknown(board),
+    }
+}
+
+// A blank at the line's end has an empty field behind it, which would pass for no field.
+fn ends_in_blank(line: &[u8]) -> bool {
+    if line.len() == 0 {
+        return false;
+    }
+    let last = line.len() - 1;
+    line[last] == b' '
+}
+
+fn command(board: Board, bank0: &mut [u8], bank1: &mut [u8], word: Word, line: &[u8]) -> Board {
+    if ends_in_blank(line) {
+        return state::unknown(board);
+    }
+    run(board, bank0, bank1, word, text::rest(line))
+}
+
+fn does_nothing(line: &[u8]) -> bool {
+    if line.len() == 0 {
+        return true;
+    }
+    line[0] == b'#'
+}
+
+fn say_line(number: usize) {
+    say::text(b"line ");
+    say::decimal(number);
+    say::text(b": ");
+}
+
+pub fn too_long(board: Board, number: usize) -> Board {
+    say_line(number);
+    say::text(b"too long\n");
+    state::unknown(board)
+}
+
+fn say_unknown(known: bool, word: Word, number: usize) {
+    if !known {
+        say_line(number);
+        word::say_takes(word);
+    }
+}
+
+pub fn follow(
+    board: Board,
+    bank0: &mut [u8],
+    bank1: &mut [u8],
+    number: usize,
+    line: &[u8],
+) -> Board {
+    if does_nothing(line) {
+        return board;
+    }
+    let word = word::word_of(text::first(line));
+    let after = command(board, bank0, bank1, word, line);
+    say_unknown(after.known, word, number);
+    after
+}

@@ -1,0 +1,115 @@
+// One request line and its answer. BYTES are two hex digits each, `-` for none; other numbers are decimal, of one to six digits.
+//
+//     request                      answer
+//     text BYTES                   text LENGTH, of the hex text, which is BYTES now
+//     more BYTES                   text LENGTH, BYTES being put behind it
+//     read BANK N LENGTH           refused 3 CRC, refused 2 CRC, refused H2 line 3 CRC, or accepted CRC: the text is read into an image of
+//                                  LENGTH bytes A5, whose CRC-32 afterwards is CRC
+//     image LENGTH                 image LENGTH: the image is as many bytes FF
+//     put OFFSET BYTES             put OFFSET COUNT: BYTES stand there in the image
+//     count N                      refused 3, refused 2, or count PACKETS, of the image
+//     packet N P ROOM              refused 3 BYTES, refused 2 BYTES, refused 5 BYTES, or frame LENGTH BYTES: all of a buffer of ROOM bytes,
+//                                  A5 before, to which packet P of the image went
+//     request WORD ROOM            the same of a request: start, bank, version, end or finish
+//     request write BANK N ROOM
+//     response BYTES               refused 6
+//                                  result CODE RESULT
+//                                  bank BANK
+//                                  version ID MAJOR MINOR REVISION
+//                                  written SECTOR RESPONSE WRITE CRC
+//
+// Any other line, and one of more than 4,096 characters, is answered by `?` and changes nothing; so is one for which there is no room.
+use crate::exchange;
+use crate::held;
+use crate::held::Answered;
+use crate::held::Held;
+use crate::images;
+use crate::texts;
+use script::say;
+use script::text;
+
+enum Word {
+    Text,
+    More,
+    Read,
+    Image,
+    Put,
+    Count,
+    Packet,
+    Request,
+    Response,
+    Other,
+}
+
+fn word_of(word: &[u8]) -> Word {
+    if check::same(word, b"text") {
+        return Word::Text;
+    }
+    if check::same(word, b"more") {
+        return Word::More;
+    }
+    if check::same(word, b"read") {
+        return Word::Read;
+    }
+    if check::same(word, b"image") {
+        return Word::Image;
+    }
+    if check::same(word, b"put") {
+        return Word::Put;
+    }
+    if check::same(word, b"count") {
+        return Word::Count;
+    }
+    if check::same(word, b"packet") {
+        return Word::Packet;
+    }
+    if check::same(word, b"request") {
+        return Word::Request;
+    }
+    if check::same(word, b"response") {
+        return Word::Response;
+    }
+    Word::Other
+}
+
+fn put(image: &mut [u8], held: Held, fields: &[u8]) -> bool {
+    let n = held::lent(image, held.image);
+    images::put(&mut image[..n], fields)
+}
+
+fn count(image: &[u8], held: Held, fields: &[u8]) -> bool {
+    let n = held::lent(image, held.image);
+    images::count(&image[..n], fields)
+}
+
+fn packet(image: &[u8], held: Held, fields: &[u8]) -> bool {
+    let n = held::lent(image, held.image);
+    images::packet(&image[..n], fields)
+}
+
+fn known(hex_text: &mut [u8], image: &mut [u8], held: Held, line: &[u8]) -> Answered {
+    let fields = text::rest(line);
+    match word_of(text::first(line)) {
+        Word::Text => texts::text(hex_text, held, fields),
+        Word::More => texts::more(hex_text, held, fields),
+        Word::Read => texts::read(hex_text, image, held, fields),
+        Word::Image => images::image(image, held, fields),
+        Word::Put => held::kept(put(image, held, fields), held),
+        Word::Count => held::kept(count(image, held, fields), held),
+        Word::Packet => held::kept(packet(image, held, fields), held),
+        Word::Request => held::kept(exchange::request(fields), held),
+        Word::Response => held::kept(exchange::response(fields), held),
+        Word::Other => Answered::No,
+    }
+}
+
+// What is held after the line.
+pub fn answer(hex_text: &mut [u8], image: &mut [u8], held: Held, line: &[u8]) -> Answered {
+    match known(hex_text, image, held, line) {
+        Answered::No => {
+            say::no_request();
+            Answered::Yes(held)
+        }
+        Answered::Yes(after) => Answered::Yes(after),
+    }
+}

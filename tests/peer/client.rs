@@ -1,0 +1,315 @@
+//! The client: the paper's 'The client, step by step' and 'What comes back when it is no', in the order that it gives.
+use crate::bank::{self, MOST_SECTORS, SECTOR};
+use crate::crc::crc32;
+use crate::frame::{self, Frame};
+use crate::wrong::Wrong;
+use std::collections::BTreeSet;
+
+const TAKEN: u8 = 0x06;
+const PARAMETER: u8 = 0x05;
+const STATE: u8 = 0x15;
+const WORN: u8 = 0x1C;
+const OMITTED: u8 = 0x1D;
+const UNSOUND: u8 = 0x1E;
+const ERROR_RESPONSE: u8 = 0xE0;
+
+const LEAST_BUFFER: usize = 14;
+const ADDRESS: usize = 16;
+
+#[derive(Clone, Copy, PartialEq)]
+pub enum State {
+    Closed,
+    Idle,
+    Control,
+    Write,
+}
+
+/// How the latest write session since Start OTA Mode ended.
+#[derive(Clone, Copy, PartialEq)]
+pub enum Latest {
+    Nothing,
+    Good,
+    Otherwise,
+}
+
+pub struct Version {
+    pub major: u8,
+    pub minor: u8,
+    pub revision: u32,
+}
+
+pub struct Client {
+    pub n: usize,
+    pub running: usize,
+    pub next: usize,
+    pub state: State,
+    pub latest: Latest,
+    pub version: Version,
+    pub received: BTreeSet<usize>,
+    wrong: Option<Wrong>,
+}
+
+pub struct Lent<'a> {
+    pub banks: [&'a mut [u8]; 2],
+    pub marks: &'a [u8],
+    pub address: &'a [u8],
+    pub buffer: &'a mut [u8],
+}
+
+/// What the host is told, beside the sender's address.
+#[derive(Clone, Copy, PartialEq, Debug)]
+pub enum Notice {
+    Begun,
+    Ended(u8),
+}
+
+/// The answer's length: it stands at the front of the lent buffer.
+pub struct Answered {
+    pub length: usize,
+    pub notice: Option<Notice>,
+}
+
+/// A refusal by the paper's number.
+pub type Refused = u8;
+
+type Response = (Vec<u8>, Option<Notice>);
+
+/// The six requests: the code, that of its response, how many bytes of parameters it has, the state that takes it.
+const REQUESTS: [(u8, u8, usize, State); 6] = [
+    (0x61, 0x71, 0, State::Idle),
+    (0x62, 0x72, 0, State::Control),
+    (0x68, 0x78, 0, State::Control),
+    (0x40, 0x70, 8, State::Control),
+    (0x45, 0x75, 0, State::Write),
+    (0x64, 0x74, 0, State::Control),
+];
+
+fn response(code: u8, result: u8, added: &[u8]) -> Vec<u8> {
+    frame::control(code, &[&[result], added].concat()).expect("a short response")
+}
+
+fn write_response(sector: u16, results: [u8; 2], crc: u32) -> Vec<u8> {
+    frame::write(sector, &[&results[..], &crc.to_be_bytes()].concat(), frame::END).expect("six bytes")
+}
+
+impl Client {
+    /// The record is handed back where it is refused, too.
+    pub fn new(n: usize, running: usize, version: Version, wrong: Option<Wrong>) -> (Client, Result<(), Refused>) {
+        let (state, latest) = (State::Closed, Latest::Nothing);
+        let client = Client { n, running, next: running, state, latest, version, received: BTreeSet::new(), wrong };
+        let taken = client.has_good_n();
+        (client, taken)
+    }
+
+    fn has_good_n(&self) -> Result<(), Refused> {
+        (1..=MOST_SECTORS).contains(&self.n).then_some(()).ok_or(3)
+    }
+
+    fn is(&self, wrong: Wrong) -> bool {
+        self.wrong == Some(wrong)
+    }
+
+    pub fn initiate(&mut self) -> Result<(), Refused> {
+        self.has_good_n()?;
+        if self.state != State::Closed {
+            return Err(4);
+        }
+        self.state = State::Idle;
+        Ok(())
+    }
+
+    pub fn terminate(&mut self) -> Result<(), Refused> {
+        self.has_good_n()?;
+        if self.state == State::Closed {
+            return Err(4);
+        }
+        self.state = State::Closed;
+        self.received.clear();
+        self.latest = Latest::Nothing;
+        Ok(())
+    }
+
+    pub fn datagram(&mut self, lent: &mut Lent, datagram: &[u8]) -> Result<Answered, Refused> {
+        self.has_good_n()?;
+        let whole = lent.banks.iter().all(|bank| bank.len() == SECTOR * self.n);
+        if !whole || lent.marks.len() != self.n || lent.address.len() != ADDRESS || lent.buffer.len() < LEAST_BUFFER {
+            return Err(2);
+        }
+        if self.state == State::Closed || self.is(Wrong::RefusesAll) {
+            return Err(1);
+        }
+        let (answer, notice) = match frame::read(datagram) {
+            _ if self.is(Wrong::OneAnswer) => (response(0x75, TAKEN, &[]), None),
+            None => (frame::ERROR.to_vec(), None),
+            Some(Frame::Control { code, parameters }) => self.control(code, &parameters, lent),
+            Some(Frame::Write { sector, data, .. }) => {
+                let (results, crc) = self.write(sector as usize, &data, lent);
+                (write_response(sector, results, crc), None)
+            }
+        };
+        lent.buffer[..answer.len()].copy_from_slice(&answer);
+        Ok(Answered { length: answer.len(), notice })
+    }
+
+    fn control(&mut self, code: u8, parameters: &[u8], lent: &mut Lent) -> Response {
+        let (own, length, state) = match REQUESTS.iter().find(|request| request.0 == code) {
+            Some((_, own, length, state)) => (*own, *length, *state),
+            None => return (response(ERROR_RESPONSE, PARAMETER, &[]), None),
+        };
+        let fits = self.state == state;
+        if parameters.len() != length && (fits || !self.is(Wrong::StateFirst)) {
+            return (response(own, PARAMETER, &[]), None);
+        }
+        if !fits {
+            return (response(own, STATE, &[]), None);
+        }
+        let (result, added, notice) = match code {
+            0x61 => {
+                self.state = State::Control;
+                self.latest = Latest::Nothing;
+                (TAKEN, vec![], Some(Notice::Begun))
+            }
+            0x62 => (TAKEN, vec![self.other_bank() as u8], None),
+            0x68 => (TAKEN, self.version_bytes(), None),
+            0x40 => (self.write_start(parameters), vec![], None),
+            0x45 => (self.write_end(lent), vec![], None),
+            _ => (TAKEN, vec![], Some(Notice::Ended(self.mode_end()))),
+        };
+        (response(own, result, &added), notice)
+    }
+
+    /// The target.
+    fn other_bank(&self) -> usize {
+        1 - self.running
+    }
+
+    fn version_bytes(&self) -> Vec<u8> {
+        let Version { major, minor, revision } = self.version;
+        [&[0x04, 0x00, major, minor][..], &revision.to_be_bytes()].concat()
+    }
+
+    fn pair(&self, bank: usize) -> Vec<u8> {
+        let end = bank::end(bank, self.n).expect("a good N");
+        [bank::start(bank) as u32, end as u32].map(u32::to_be_bytes).concat()
+    }
+
+    fn write_start(&mut self, pair: &[u8]) -> u8 {
+        let running = self.is(Wrong::TakesRunning) && pair == self.pair(self.running);
+        if pair != self.pair(self.other_bank()) && !running {
+            return PARAMETER;
+        }
+        self.state = State::Write;
+        if !self.is(Wrong::KeepsReceived) {
+            self.received.clear();
+        }
+        if !self.is(Wrong::KeepsNext) {
+            self.next = self.running;
+        }
+        TAKEN
+    }
+
+    fn sweep(&self, bank: &mut [u8]) {
+        if self.is(Wrong::LeavesUnsent) || self.is(Wrong::StoresNothing) {
+            return;
+        }
+        for sector in (1..=self.n).filter(|sector| !self.received.contains(sector)) {
+            bank[(sector - 1) * SECTOR..sector * SECTOR].fill(0xFF);
+        }
+    }
+
+    fn write_end(&mut self, lent: &mut Lent) -> u8 {
+        let next = self.other_bank();
+        let worn = lent.marks.iter().any(|mark| *mark != 0);
+        if !worn || self.is(Wrong::SweepsWorn) {
+            self.sweep(lent.banks[next]);
+        }
+        let result = match bank::bodies(lent.banks[next]) {
+            _ if worn => WORN,
+            Some(_) => TAKEN,
+            None if self.is(Wrong::StoresNothing) => TAKEN,
+            None => UNSOUND,
+        };
+        let good = result == TAKEN;
+        if good || self.is(Wrong::TakesUnsound) && result == UNSOUND {
+            self.next = next;
+        }
+        self.latest = if good { Latest::Good } else { Latest::Otherwise };
+        if !self.is(Wrong::KeepsReceived) {
+            self.received.clear();
+        }
+        self.state = State::Control;
+        result
+    }
+
+    /// What the notice says of the latest write session.
+    fn mode_end(&mut self) -> u8 {
+        let said = match self.latest {
+            Latest::Good => 1,
+            Latest::Otherwise => 2,
+            Latest::Nothing => 3,
+        };
+        self.state = State::Idle;
+        self.latest = Latest::Nothing;
+        self.received.clear();
+        if self.is(Wrong::ForgetsEnd) {
+            3
+        } else {
+            said
+        }
+    }
+
+    /// Response result, write result, and the CRC-32 where both are good.
+    fn write(&mut self, sector: usize, data: &[u8], lent: &mut Lent) -> ([u8; 2], u32) {
+        let values = (1..=self.n).contains(&sector) && (1..=SECTOR).contains(&data.len()) && data.len() % 4 == 0;
+        if self.state != State::Write && (values || !self.is(Wrong::ValuesFirst)) {
+            return ([STATE; 2], 0);
+        }
+        if !values {
+            return ([PARAMETER; 2], 0);
+        }
+        let place = (sector - 1) * SECTOR..sector * SECTOR;
+        let held = lent.banks[self.other_bank()][place.clone()].to_vec();
+        let becomes = [data, &vec![0xFF; SECTOR - data.len()]].concat();
+        let blank = data.iter().all(|byte| *byte == 0xFF);
+        let omitted = blank || held == becomes;
+        if lent.marks[sector - 1] != 0 {
+            if self.is(Wrong::CountsRefused) {
+                self.received.insert(sector);
+            }
+            return match omitted && self.is(Wrong::WornOmitted) {
+                true => ([TAKEN, OMITTED], crc32(&held)),
+                false => ([TAKEN, WORN], 0),
+            };
+        }
+        let already = match self.wrong {
+            Some(Wrong::ComparesSent) => held.starts_with(data),
+            Some(Wrong::SkipsBlanks) => blank,
+            Some(Wrong::StoresFirst) => !self.received.is_empty(),
+            Some(Wrong::KeepsFirst) => self.received.contains(&sector),
+            Some(Wrong::StoresNothing) => true,
+            _ => false,
+        };
+        let stored = match self.wrong {
+            _ if already => held.clone(),
+            Some(Wrong::KeepsTail) => [data, &held[data.len()..]].concat(),
+            _ => becomes.clone(),
+        };
+        lent.banks[self.other_bank()][place.clone()].copy_from_slice(&stored);
+        if self.is(Wrong::WritesRunning) {
+            lent.banks[self.running][place].copy_from_slice(&stored);
+        }
+        self.received.insert(sector);
+        let short = already && self.is(Wrong::ComparesSent);
+        let said = if self.is(Wrong::StoresFirst) || self.is(Wrong::StoresNothing) { becomes } else { stored };
+        ([TAKEN, if omitted || short { OMITTED } else { TAKEN }], crc32(&said))
+    }
+
+    /// The view of a body of the next-start bank.
+    pub fn body<'a>(&self, banks: [&'a [u8]; 2], i: usize) -> &'a [u8] {
+        let whole = banks.iter().all(|bank| bank.len() == SECTOR * self.n);
+        if !whole || self.has_good_n().is_err() {
+            return &[];
+        }
+        bank::body(banks[self.next], i)
+    }
+}

@@ -1,0 +1,196 @@
+//! The peer's hex text, sender and reader of responses, held to published hex text and to the paper's examples.
+use crate::frame::{framed, CONTINUED, CONTROL, END as FOOTER, WRITE};
+use crate::intel::{record, Record, Refusal};
+use crate::response::Response;
+use crate::selftest::{bytes, Checks};
+use crate::texts::{in_lf, END, LISTING};
+use crate::{intel, packets, response, sender};
+
+pub fn all() -> Vec<Checks> {
+    vec![records(), faults(), numbers(), program(), requests(), sector_packets(), responses(), unreadable()]
+}
+
+/// Lines that stand as examples in the pages on the format of Wikipedia ("Intel HEX") and of Keil ("General: Intel HEX file format"). Each is
+/// also read with its last digit away, and with another.
+fn records() -> Checks {
+    let published: [(&str, u8, usize, &[u8]); 9] = [
+        (
+            ":10010000214601360121470136007EFE09D2190140",
+            0,
+            0x0100,
+            b"\x21\x46\x01\x36\x01\x21\x47\x01\x36\x00\x7E\xFE\x09\xD2\x19\x01",
+        ),
+        (":0B0010006164647265737320676170A7", 0, 0x0010, b"address gap"),
+        (":10246200464C5549442050524F46494C4500464C33", 0, 0x2462, b"FLUID PROFILE\0FL"),
+        (":0300300002337A1E", 0, 0x0030, b"\x02\x33\x7A"),
+        (":020000021200EA", 2, 0, b"\x12\x00"),
+        (":0400000300003800C1", 3, 0, b"\x00\x00\x38\x00"),
+        (":02000004FFFFFC", 4, 0, b"\xFF\xFF"),
+        (":04000005000000CD2A", 5, 0, b"\x00\x00\x00\xCD"),
+        (":00000001FF", 1, 0, b""),
+    ];
+    published
+        .iter()
+        .map(|(line, kind, offset, data)| {
+            let whole = Record { kind: *kind, offset: *offset, data: data.to_vec() };
+            let short = &line[..line.len() - 1];
+            let other = [short, if line.ends_with('0') { "1" } else { "0" }].concat();
+            let good = record(line.as_bytes()) == Ok(whole)
+                && record(short.as_bytes()) == Err(1)
+                && record(other.as_bytes()) == Err(2);
+            (format!("hex record {}", line), good)
+        })
+        .collect()
+}
+
+/// Example 10, and one of each fault, for bank 0 and N = 3; a refused text leaves 0xFF alone.
+fn faults() -> Checks {
+    let [upper, first, second, end] = LISTING;
+    let texts: [(&str, &str, Option<(u8, usize)>); 14] = [
+        ("no text (example 10)", "", Some((6, 1))),
+        ("an end record alone (example 10)", END, None),
+        ("CR LF", &[upper, "\r\n", first, "\r\n", end, "\r\n"].concat(), None),
+        ("a blank line", &[upper, "\n\n", end].concat(), Some((1, 2))),
+        ("a lone CR", &[upper, "\n\r\n\r", end].concat(), Some((1, 2))),
+        ("a CR that ends the text", &[upper, "\n", end, "\r"].concat(), Some((1, 2))),
+        ("a wrong sum", &[upper, "\n", first, "\n:040E000001020304E5\n", end].concat(), Some((2, 3))),
+        ("type 02", &[upper, "\n:020000021200EA\n", end].concat(), Some((3, 2))),
+        ("an upper half of 0", &[first, "\n", end].concat(), Some((4, 1))),
+        ("data of a sector too far", &[upper, "\n:01100000FFF0\n", end].concat(), Some((4, 2))),
+        ("data of no bytes, anywhere", &[upper, "\n", second, "\n:0000000000\n:00FFFF0002\n", end].concat(), None),
+        ("data twice", &[upper, "\n", second, "\n", second, "\n", end].concat(), Some((5, 3))),
+        ("no end record", &[upper, "\n", first, "\n"].concat(), Some((6, 3))),
+        ("a blank line behind the end", &[upper, "\n", end, "\n\n"].concat(), Some((6, 3))),
+    ];
+    texts
+        .iter()
+        .map(|(what, text, fault)| {
+            let mut image = [0xA5; 3 * 512];
+            let wanted = fault.map_or(Ok(()), |(h, line)| Err(Refusal::Fault(h, line)));
+            let good = intel::read(text.as_bytes(), 0, 3, &mut image) == wanted;
+            (format!("hex text: {}", what), good && (fault.is_none() || image == [0xFF; 3 * 512]))
+        })
+        .collect()
+}
+
+/// 3 before 2, and the image as it was.
+fn numbers() -> Checks {
+    [(0, 0, 3), (492, 512, 3), (1, 513, 2), (2, 512, 2)]
+        .iter()
+        .map(|(n, length, number)| {
+            let mut image = vec![0xA5; *length];
+            let good = intel::read(b"", 0, *n, &mut image) == Err(Refusal::Number(*number));
+            (format!("hex text: N = {} and {} bytes", n, length), good && image == vec![0xA5; *length])
+        })
+        .collect()
+}
+
+/// The paper's listing and its other lines.
+fn program() -> Checks {
+    let text = in_lf(&LISTING);
+    let wrong = String::from_utf8(text.clone()).expect("text").replace("E4", "E5");
+    [
+        ("the listing", text.clone(), vec!["0001 17", "0003 03", "sent 2"]),
+        ("a refusal", wrong.into_bytes(), vec!["refused H2 line 3"]),
+        ("an end record alone", END.into(), vec!["sent 0"]),
+        ("48 KiB", vec![b'\n'; 48 * 1024], vec!["refused H1 line 1"]),
+        ("a byte more", vec![b'\n'; 48 * 1024 + 1], vec!["too long"]),
+    ]
+    .iter()
+    .map(|(what, text, wanted)| (format!("program: {}", what), packets::lines(text) == *wanted))
+    .collect()
+}
+
+/// Examples 1, 4 and 5; a buffer and an N that will not do.
+fn requests() -> Checks {
+    let made = |put: &dyn Fn(&mut [u8]) -> Result<usize, u8>, room: usize| {
+        let mut buffer = vec![0xA5; room];
+        put(&mut buffer).map(|length| buffer[..length].to_vec())
+    };
+    [
+        ("example 1", made(&|buffer| sender::request(0x61, buffer), 519), Ok(bytes("0101619E03"))),
+        (
+            "example 4",
+            made(&|buffer| sender::start_write(1, 491, buffer), 519),
+            Ok(bytes("01094014000A001403DFFFA403")),
+        ),
+        ("example 5", made(&|buffer| sender::start_write(1, 32, buffer), 600), Ok(bytes("01094014000A00140049FF3D03"))),
+        ("a buffer of 518", made(&|buffer| sender::request(0x61, buffer), 518), Err(2)),
+        ("N = 492 and a buffer of 518", made(&|buffer| sender::start_write(1, 492, buffer), 518), Err(3)),
+    ]
+    .iter()
+    .map(|(what, made, wanted)| (format!("request: {}", what), made == wanted))
+    .collect()
+}
+
+/// Example 11, as the first packet and as the last.
+fn sector_packets() -> Checks {
+    let mut image = vec![0xFF; 5 * 512];
+    image[1024..1028].copy_from_slice(&[1, 2, 3, 4]);
+    let alone = image.clone();
+    image[4 * 512] = 0;
+    let made = |image: &[u8], n: usize, p: usize, room: usize| {
+        let mut buffer = vec![0xA5; room];
+        sender::packet(image, n, p, &mut buffer).map(|length| (length, buffer[..9].to_vec(), buffer[517..519].to_vec()))
+    };
+    let third = |footer: u8| Ok((519, bytes("020003020001020304"), vec![0xED, footer]));
+    [
+        ("example 11, with one behind it", made(&image, 5, 0, 519), third(0x17)),
+        ("example 11, alone", made(&alone, 5, 0, 520), third(0x03)),
+        ("past the last", made(&alone, 5, 1, 519), Err(5)),
+        ("an image of 0xFF", made(&[0xFF; 512], 1, 0, 519), Err(5)),
+        ("past the last, a buffer of 518", made(&alone, 5, 1, 518), Err(2)),
+        ("another N", made(&alone, 4, 0, 519), Err(2)),
+        ("N = 0 and no image", made(&[], 0, 0, 519), Err(3)),
+    ]
+    .iter()
+    .map(|(what, made, wanted)| (format!("packet: {}", what), made == wanted))
+    .collect()
+}
+
+/// The responses among the examples, and those that follow from the rules under 'Frames'.
+fn responses() -> Checks {
+    let written = |response: u8, write: u8, crc: u32| Response::Written { sector: 1, response, write, crc };
+    [
+        ("010271068703", Response::Plain { code: 0x71, result: 0x06 }),
+        ("0102E0051903", Response::Plain { code: 0xE0, result: 0x05 }),
+        ("0102E0071703", Response::Plain { code: 0xE0, result: 0x07 }),
+        ("010275068303", Response::Plain { code: 0x75, result: 0x06 }),
+        ("01037206018403", Response::Bank(1)),
+        ("010A7806040001020000002A4703", Response::Version { id: 0x0400, major: 1, minor: 2, revision: 42 }),
+        ("0200010006050500000000EF03", written(0x05, 0x05, 0)),
+        ("0200010006151500000000CF03", written(0x15, 0x15, 0)),
+        ("0200010006061C00000000D703", written(0x06, 0x1C, 0)),
+        ("0200010006060600000000ED03", written(0x06, 0x06, 0)),
+        ("02000100061D1DCBF43926A103", written(0x1D, 0x1D, 0xCBF4_3926)),
+    ]
+    .iter()
+    .map(|(datagram, wanted)| {
+        (format!("response {}", datagram), response::read(&bytes(datagram)).as_ref() == Some(wanted))
+    })
+    .collect()
+}
+
+/// One of each reason for number 6, under a checksum that is right.
+fn unreadable() -> Checks {
+    [
+        ("a frame fault", framed(CONTROL, &bytes("037106"), FOOTER)),
+        ("a request", framed(CONTROL, &bytes("026106"), FOOTER)),
+        ("an unknown result", framed(CONTROL, &bytes("027108"), FOOTER)),
+        ("no result", framed(CONTROL, &bytes("0171"), FOOTER)),
+        ("a byte more", framed(CONTROL, &bytes("03710600"), FOOTER)),
+        ("no bank number", framed(CONTROL, &bytes("027206"), FOOTER)),
+        ("bank number 2", framed(CONTROL, &bytes("03720602"), FOOTER)),
+        ("a bank number with 15", framed(CONTROL, &bytes("03721501"), FOOTER)),
+        ("a version too short", framed(CONTROL, &bytes("0978060400010200002A"), FOOTER)),
+        ("footer 17", framed(WRITE, &bytes("000100060606CBF43926"), CONTINUED)),
+        ("M of 5", framed(WRITE, &bytes("000100050606000000"), FOOTER)),
+        ("an unknown write result", framed(WRITE, &bytes("00010006060800000000"), FOOTER)),
+        ("05 and 06", framed(WRITE, &bytes("00010006050600000000"), FOOTER)),
+        ("1D and 06", framed(WRITE, &bytes("000100061D0600000000"), FOOTER)),
+        ("06 and 05 with a CRC", framed(WRITE, &bytes("00010006060500000001"), FOOTER)),
+    ]
+    .iter()
+    .map(|(what, datagram)| (format!("unreadable: {}", what), response::read(datagram).is_none()))
+    .collect()
+}

@@ -1,0 +1,144 @@
+//! The form of the request lines on hex texts, images, packets and responses, for the peer and for the program `sending` alike.
+//!
+//! Lines, BYTES and NUMBERs have the form of lines.rs. There is a text, of at most 720,896 bytes, and an image, of at most 252,416; at first
+//! both are empty. A line works on what the lines before it have left.
+//!
+//!     request                            answer
+//!     text BYTES                         text LENGTH, once the text is those bytes
+//!     more BYTES                         text LENGTH, once those bytes are behind it
+//!     read BANK N LENGTH                 of the text read into an image of so many bytes A5, each with the image's CRC-32 afterwards:
+//!                                        refused 3 CRC, refused 2 CRC
+//!                                        refused H1 line NUMBER CRC, and so to H6
+//!                                        accepted CRC
+//!     image LENGTH                       image LENGTH, once the image is so many bytes FF
+//!     put OFFSET BYTES                   put OFFSET LENGTH, once those bytes are in the image from there on
+//!     count N                            refused 3, refused 2
+//!                                        count NUMBER
+//!     packet N NUMBER ROOM               of a buffer of ROOM bytes A5, at most 600, each with all bytes of the buffer afterwards:
+//!     request start|bank|version ROOM        refused 3 BYTES, refused 2 BYTES, refused 5 BYTES
+//!     request end|finish ROOM                frame LENGTH BYTES
+//!     request write BANK N ROOM
+//!     response BYTES                     refused 6
+//!                                        result CODE RESULT
+//!                                        bank NUMBER
+//!                                        version ID MAJOR MINOR REVISION
+//!                                        written SECTOR RESPONSE WRITE CRC
+//!
+//! Any other line is answered by `?` and changes nothing: also one that would need more room, or put bytes past the image's end.
+use crate::lines::{self, decimal};
+use crate::response::Response;
+use crate::{crc, hex, intel, packets, response, sender};
+
+const LONGEST_TEXT: usize = 720_896;
+const LONGEST_IMAGE: usize = 252_416;
+const LARGEST_BUFFER: usize = 600;
+
+pub fn answers(text: &[u8]) -> Vec<String> {
+    let mut held = Held { text: Vec::new(), image: Vec::new() };
+    lines::requests(text)
+        .into_iter()
+        .map(|line| line.and_then(|line| held.known(line)).unwrap_or_else(|| "?".to_string()))
+        .collect()
+}
+
+struct Held {
+    text: Vec<u8>,
+    image: Vec<u8>,
+}
+
+impl Held {
+    fn known(&mut self, line: &str) -> Option<String> {
+        match line.split(' ').collect::<Vec<_>>()[..] {
+            ["text", bytes] => {
+                self.text = hex::bytes(bytes)?;
+                Some(format!("text {}", self.text.len()))
+            }
+            ["more", bytes] => {
+                let bytes = hex::bytes(bytes)?;
+                if self.text.len() + bytes.len() > LONGEST_TEXT {
+                    return None;
+                }
+                self.text.extend(bytes);
+                Some(format!("text {}", self.text.len()))
+            }
+            ["read", number, n, length] => {
+                let (number, n) = (bank(number)?, decimal(n, usize::MAX)?);
+                self.image = vec![0xA5; decimal(length, LONGEST_IMAGE)?];
+                let said = match intel::read(&self.text, number, n, &mut self.image) {
+                    Ok(()) => "accepted".to_string(),
+                    Err(refusal) => packets::refused(&refusal),
+                };
+                Some(format!("{} {:08X}", said, crc::crc32(&self.image)))
+            }
+            ["image", length] => {
+                self.image = vec![0xFF; decimal(length, LONGEST_IMAGE)?];
+                Some(format!("image {}", self.image.len()))
+            }
+            ["put", offset, bytes] => {
+                let (offset, bytes) = (decimal(offset, LONGEST_IMAGE)?, hex::bytes(bytes)?);
+                self.image.get_mut(offset..offset + bytes.len())?.copy_from_slice(&bytes);
+                Some(format!("put {} {}", offset, bytes.len()))
+            }
+            ["count", n] => Some(match sender::count(&self.image, decimal(n, usize::MAX)?) {
+                Ok(count) => format!("count {}", count),
+                Err(number) => format!("refused {}", number),
+            }),
+            ["packet", n, p, room] => {
+                let (n, p) = (decimal(n, usize::MAX)?, decimal(p, usize::MAX)?);
+                made(room, |buffer| sender::packet(&self.image, n, p, buffer))
+            }
+            ["request", "write", number, n, room] => {
+                let (number, n) = (bank(number)?, decimal(n, usize::MAX)?);
+                made(room, |buffer| sender::start_write(number, n, buffer))
+            }
+            ["request", word, room] => {
+                let code = code(word)?;
+                made(room, |buffer| sender::request(code, buffer))
+            }
+            ["response", bytes] => Some(reading(response::read(&hex::bytes(bytes)?))),
+            _ => None,
+        }
+    }
+}
+
+fn bank(text: &str) -> Option<usize> {
+    match text {
+        "0" => Some(0),
+        "1" => Some(1),
+        _ => None,
+    }
+}
+
+fn code(word: &str) -> Option<u8> {
+    match word {
+        "start" => Some(sender::START_MODE),
+        "bank" => Some(sender::BANK),
+        "version" => Some(sender::VERSION),
+        "end" => Some(sender::END_WRITE),
+        "finish" => Some(sender::FINISH_MODE),
+        _ => None,
+    }
+}
+
+fn made(room: &str, put: impl Fn(&mut [u8]) -> Result<usize, u8>) -> Option<String> {
+    let mut buffer = vec![0xA5; decimal(room, LARGEST_BUFFER)?];
+    let said = match put(&mut buffer) {
+        Ok(length) => format!("frame {}", length),
+        Err(number) => format!("refused {}", number),
+    };
+    Some(format!("{} {}", said, hex::text(&buffer)))
+}
+
+fn reading(read: Option<Response>) -> String {
+    match read {
+        None => "refused 6".to_string(),
+        Some(Response::Plain { code, result }) => format!("result {:02X} {:02X}", code, result),
+        Some(Response::Bank(number)) => format!("bank {}", number),
+        Some(Response::Version { id, major, minor, revision }) => {
+            format!("version {:04X} {:02X} {:02X} {:08X}", id, major, minor, revision)
+        }
+        Some(Response::Written { sector, response, write, crc }) => {
+            format!("written {:04X} {:02X} {:02X} {:08X}", sector, response, write, crc)
+        }
+    }
+}

@@ -1,0 +1,69 @@
+//! Clients that go wrong on purpose: what the checks have to see. The paper's 'Shortcuts that bring the leftovers back', what it shuts out
+//! under 'How much each function must say', and slips of order.
+
+#[derive(Clone, Copy, PartialEq, Debug)]
+pub enum Wrong {
+    /// A short packet leaves what stood behind its data.
+    KeepsTail,
+    /// 1D, and no store, where the bytes that were sent are there already.
+    ComparesSent,
+    /// A packet of nothing but 0xFF is acknowledged and not carried out.
+    SkipsBlanks,
+    /// The end erases nothing.
+    LeavesUnsent,
+    /// The end erases before it looks at the worn marks.
+    SweepsWorn,
+    /// A packet for a worn sector counts as received.
+    CountsRefused,
+    /// A packet for a worn sector that has nothing to store is answered 1D.
+    WornOmitted,
+    /// What is stored in the target is stored in the running bank too.
+    WritesRunning,
+    /// Of a session's packets the first is stored, and the others are acknowledged.
+    StoresFirst,
+    /// Nothing is stored or erased; the answers are right.
+    StoresNothing,
+    /// A sector that was received is not written again in the same session.
+    KeepsFirst,
+    /// What was received before the write start counts on.
+    KeepsReceived,
+    /// The write start leaves the next-start bank.
+    KeepsNext,
+    /// An unsound bank becomes the next-start bank.
+    TakesUnsound,
+    /// Values of a write packet are looked at before the state.
+    ValuesFirst,
+    /// The state is looked at before the parameters' length.
+    StateFirst,
+    /// A write start of the running bank is taken too.
+    TakesRunning,
+    /// The end of the mode forgets how the session ended.
+    ForgetsEnd,
+    /// No call is taken.
+    RefusesAll,
+    /// Every datagram has the answer of a good end.
+    OneAnswer,
+}
+
+pub const ALL: [Wrong; 20] = [
+    Wrong::KeepsTail,
+    Wrong::ComparesSent,
+    Wrong::SkipsBlanks,
+    Wrong::LeavesUnsent,
+    Wrong::SweepsWorn,
+    Wrong::CountsRefused,
+    Wrong::WornOmitted,
+    Wrong::WritesRunning,
+    Wrong::StoresFirst,
+    Wrong::StoresNothing,
+    Wrong::KeepsFirst,
+    Wrong::KeepsReceived,
+    Wrong::KeepsNext,
+    Wrong::TakesUnsound,
+    Wrong::ValuesFirst,
+    Wrong::StateFirst,
+    Wrong::TakesRunning,
+    Wrong::ForgetsEnd,
+    Wrong::RefusesAll,
+    Wrong::OneAnswer,
+];
