@@ -8,6 +8,7 @@ pub mod Determined
 pub mod Examples
 pub mod FirstOnly
 pub mod Fresh
+pub mod Latest
 pub mod Lending
 pub mod Packets
 pub mod Reading

@@ -8,7 +8,7 @@ use lib.Dec.{eqb}
 use Rattle.frame.specs.Read.{byteAt, readOf, writtenOf}
 use Rattle.frame.specs.declared.read.Read.{Read}
 use Rattle.frame.specs.declared.read.Read.the-variants.{Fault, Control, Write}
-use Rattle.flash.specs.Bank.{withSector}
+use Rattle.flash.specs.Bank.{withSector, blankSector}
 use Rattle.flash.specs.Sector.{blanks, paddedOf}
 use Rattle.bank.specs.Layout.{sectorSize}
 use Rattle.demands.specs.Board.{Input, Initiate, Terminate, Datagram, Outcome, said}
@@ -51,3 +51,21 @@ abbrev pub shown : ℕ → List ℕ → List Input → List Outcome → List ℕ
 shown n image [] os = image
 shown n image (i ∷ is) [] = image
 shown n image (i ∷ is) (o ∷ os) = shown n (noted n image i o) is os
+
+-- ---- one sector of it, told by itself: as last accepted since the session began, else 0xFF
+
+abbrev pub packetFor : ℕ → List ℕ → List ℕ → Read → List ℕ
+packetFor k sector datagram Fault = sector
+packetFor k sector datagram (Control code n) = sector
+packetFor k sector datagram (Write number m footer) = cond (eqb number k) (paddedOf (writtenOf datagram m)) sector
+
+abbrev pub lately : ℕ → List ℕ → List ℕ → List ℕ → List ℕ
+lately k sector datagram answer =
+    cond (isBegin answer) blankSector (cond (isStored answer) (packetFor k sector datagram (readOf datagram)) sector)
+
+abbrev pub lastAccepted : ℕ → List ℕ → List Input → List Outcome → List ℕ
+lastAccepted k sector [] os = sector
+lastAccepted k sector (i ∷ is) [] = sector
+lastAccepted k sector (Initiate ∷ is) (o ∷ os) = lastAccepted k sector is os
+lastAccepted k sector (Terminate ∷ is) (o ∷ os) = lastAccepted k sector is os
+lastAccepted k sector (Datagram call ∷ is) (o ∷ os) = lastAccepted k (lately k sector (call .datagram) (said o)) is os
