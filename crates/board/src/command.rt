@@ -5,18 +5,9 @@ use crate::shows;
 use crate::state;
 use crate::state::Board;
 use crate::word;
-use crate::word::Show;
 use crate::word::Word;
 use script::say;
 use script::text;
-
-fn shown(board: Board, bank0: &mut [u8], bank1: &mut [u8], show: Show, fields: &[u8]) -> Board {
-    if shows::run(board, bank0, bank1, show, fields) {
-        board
-    } else {
-        state::unknown(board)
-    }
-}
 
 // A field that is missing is empty, and no command has an empty field; one too many stands in the last field, with a blank that no
 // field has.
@@ -24,12 +15,11 @@ fn run(board: Board, bank0: &mut [u8], bank1: &mut [u8], word: Word, fields: &[u
     match word {
         Word::Sets(setting) => settings::run(board, bank0, bank1, setting, fields),
         Word::Calls(call) => calls::run(board, bank0, bank1, call, fields),
-        Word::Shows(show) => shown(board, bank0, bank1, show, fields),
+        Word::Shows(show) => state::kept(board, shows::run(board, bank0, bank1, show, fields)),
         Word::Other => state::unknown(board),
     }
 }
 
-// A blank at the line's end has an empty field behind it, which would pass for no field.
 fn ends_in_blank(line: &[u8]) -> bool {
     if line.len() == 0 {
         return false;
@@ -38,11 +28,13 @@ fn ends_in_blank(line: &[u8]) -> bool {
     line[last] == b' '
 }
 
-fn command(board: Board, bank0: &mut [u8], bank1: &mut [u8], word: Word, line: &[u8]) -> Board {
+// A blank at the line's end has an empty field behind it, which would pass for no field: such a line stands as its own fields, with
+// a word where no command has one.
+fn fields(line: &[u8]) -> &[u8] {
     if ends_in_blank(line) {
-        return state::unknown(board);
+        return line;
     }
-    run(board, bank0, bank1, word, text::rest(line))
+    text::rest(line)
 }
 
 fn does_nothing(line: &[u8]) -> bool {
@@ -82,7 +74,7 @@ pub fn follow(
         return board;
     }
     let word = word::word_of(text::first(line));
-    let after = command(board, bank0, bank1, word, line);
+    let after = run(board, bank0, bank1, word, fields(line));
     say_unknown(after.known, word, number);
     after
 }

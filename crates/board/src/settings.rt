@@ -162,10 +162,6 @@ fn buffer(board: Board, fields: &[u8]) -> Board {
     b
 }
 
-fn filled(board: Board, known: bool) -> Board {
-    if known { board } else { state::unknown(board) }
-}
-
 pub fn run(
     board: Board,
     bank0: &mut [u8],
@@ -175,8 +171,8 @@ pub fn run(
 ) -> Board {
     match setting {
         Setting::Bank => bank(board, fields),
-        Setting::Fill => filled(board, fill(bank0, bank1, fields)),
-        Setting::Put => filled(board, put(bank0, bank1, fields)),
+        Setting::Fill => state::kept(board, fill(bank0, bank1, fields)),
+        Setting::Put => state::kept(board, put(bank0, bank1, fields)),
         Setting::Marks => marks(board, fields),
         Setting::Mark => mark(board, fields),
         Setting::Address => address(board, fields),

@@ -65,6 +65,11 @@ pub fn unknown(board: Board) -> Board {
     b
 }
 
+// After a line that left the board as it is.
+pub fn kept(board: Board, known: bool) -> Board {
+    if known { board } else { unknown(board) }
+}
+
 // The first bytes of a room; none, should it have fewer.
 pub fn front(room: &[u8], count: usize) -> &[u8] {
     if count > room.len() {
