@@ -19,7 +19,7 @@ stopOf s = s .from + s .size
 unfoldable pub fitsAt : ℕ → ℕ → Stretch → Bool
 fitsAt whole at s = leb 1 (s .size) && (leb at (s .from) && leb (stopOf s) whole)
 
--- each "starts at or after the end of what precedes it", the first at or after `at`, and ends within the first `whole` bytes
+-- each at or after the end of "what precedes it", the first at or after `at`, and ends within the first `whole` bytes
 unfoldable pub laidOut : ℕ → ℕ → List Stretch → Bool
 laidOut whole at [] = true
 laidOut whole at (s ∷ ss) = fitsAt whole at s && laidOut whole (stopOf s) ss

@@ -112,7 +112,13 @@ fn terminate(board: Board, fields: &[u8]) -> Board {
     hosted(board, client.terminate())
 }
 
-pub fn run(board: Board, bank0: &mut [u8], bank1: &mut [u8], call: Call, fields: &[u8]) -> Board {
+pub(crate) fn run(
+    board: Board,
+    bank0: &mut [u8],
+    bank1: &mut [u8],
+    call: Call,
+    fields: &[u8],
+) -> Board {
     match call {
         Call::Client => client(board, bank0, bank1, fields),
         Call::Initiate => initiate(board, fields),

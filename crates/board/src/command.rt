@@ -50,7 +50,7 @@ fn say_line(number: usize) {
     say::text(b": ");
 }
 
-pub fn too_long(board: Board, number: usize) -> Board {
+pub(crate) fn too_long(board: Board, number: usize) -> Board {
     say_line(number);
     say::text(b"too long\n");
     state::unknown(board)
@@ -63,7 +63,7 @@ fn say_unknown(known: bool, word: Word, number: usize) {
     }
 }
 
-pub fn follow(
+pub(crate) fn follow(
     board: Board,
     bank0: &mut [u8],
     bank1: &mut [u8],

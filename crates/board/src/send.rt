@@ -10,7 +10,7 @@ use client::step::Stepped;
 use script::say;
 use script::text;
 
-pub fn say_refused(number: usize) {
+pub(crate) fn say_refused(number: usize) {
     say::refused(number);
     say::end();
 }
@@ -147,7 +147,7 @@ fn with_banks(board: Board, bank0: &mut [u8], bank1: &mut [u8], datagram: &[u8])
     with_marks(board, &mut bank0[..lent0], &mut bank1[..lent1], datagram)
 }
 
-pub fn send(board: Board, bank0: &mut [u8], bank1: &mut [u8], fields: &[u8]) -> Board {
+pub(crate) fn send(board: Board, bank0: &mut [u8], bank1: &mut [u8], fields: &[u8]) -> Board {
     let mut datagram = [0u8; 2048];
     let got = text::bytes(fields, &mut datagram);
     if got < 0 {

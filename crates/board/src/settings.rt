@@ -162,7 +162,7 @@ fn buffer(board: Board, fields: &[u8]) -> Board {
     b
 }
 
-pub fn run(
+pub(crate) fn run(
     board: Board,
     bank0: &mut [u8],
     bank1: &mut [u8],

@@ -179,7 +179,13 @@ fn rest(board: Board, fields: &[u8]) -> bool {
     true
 }
 
-pub fn run<'a>(board: Board, bank0: &'a [u8], bank1: &'a [u8], asked: Show, fields: &[u8]) -> bool {
+pub(crate) fn run<'a>(
+    board: Board,
+    bank0: &'a [u8],
+    bank1: &'a [u8],
+    asked: Show,
+    fields: &[u8],
+) -> bool {
     match asked {
         Show::Body => body(board, bank0, bank1, fields),
         Show::Record => record(board, fields),

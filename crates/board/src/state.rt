@@ -41,7 +41,7 @@ fn sectors(n: usize) -> u32
 }
 
 // A new client's board but for its banks, which the caller fills.
-pub fn fresh(client: Client) -> Board {
+pub(crate) fn fresh(client: Client) -> Board {
     let lent = sectors(client.n);
     Board {
         client,
@@ -59,19 +59,19 @@ pub fn fresh(client: Client) -> Board {
 }
 
 // After a line that is none.
-pub fn unknown(board: Board) -> Board {
+pub(crate) fn unknown(board: Board) -> Board {
     let mut b = board;
     b.known = false;
     b
 }
 
 // After a line that left the board as it is.
-pub fn kept(board: Board, known: bool) -> Board {
+pub(crate) fn kept(board: Board, known: bool) -> Board {
     if known { board } else { unknown(board) }
 }
 
 // The first bytes of a room; none, should it have fewer.
-pub fn front(room: &[u8], count: usize) -> &[u8] {
+pub(crate) fn front(room: &[u8], count: usize) -> &[u8] {
     if count > room.len() {
         return &room[..0];
     }

@@ -84,7 +84,7 @@ fn setting_of(word: &[u8]) -> Word {
     call_of(word)
 }
 
-pub fn word_of(word: &[u8]) -> Word {
+pub(crate) fn word_of(word: &[u8]) -> Word {
     if check::same(word, b"bank") {
         return Word::Sets(Setting::Bank);
     }
@@ -128,7 +128,7 @@ fn show_takes(show: Show) {
     }
 }
 
-pub fn say_takes(word: Word) {
+pub(crate) fn say_takes(word: Word) {
     match word {
         Word::Sets(setting) => setting_takes(setting),
         Word::Calls(call) => call_takes(call),

@@ -28,7 +28,7 @@ versionBytes major minor revision = 0x06 ∷ 0x04 ∷ 0x00 ∷ major ∷ minor �
 abbrev pub writtenBytes : ℕ → ℕ → ℕ → List ℕ
 writtenBytes result write crc = result ∷ write ∷ bytesOf 4 crc
 
--- "A response is code, result, then the added fields"
+-- code, result, "then the added fields"
 unfoldable pub answerBytes : Answer → List ℕ
 answerBytes (Refused why) = []
 answerBytes FrameError = frameError
@@ -37,7 +37,7 @@ answerBytes (BankIs bank) = controlFrame 0x72 (0x06 ∷ bankNumber bank ∷ [])
 answerBytes (VersionIs major minor revision) = controlFrame 0x78 (versionBytes major minor revision)
 answerBytes (Written sector result write crc) = writeFrame sector (writtenBytes result write crc) End
 
--- "An answer fills the front of the buffer; the rest keeps its bytes"; it tells its length
+-- the answer at the front ("fills the front"), the bytes behind it as they were; it tells its length
 pub record Say (answer : Answer) (before after : List ℕ) (n : ℕ) : Type 0 where
   pub said : after ≡ frontOf before (answerBytes answer)
   pub told : n ≡ length (answerBytes answer)

@@ -12,7 +12,7 @@ use Rattle.bank.specs.Layout.{sectorSize, goodN}
 use Rattle.bank.specs.Sound.{bodyOf}
 use Rattle.client.specs.declared.record.Client.{Client}
 
--- "an empty stretch if the banks' lengths aren't 512·N, the record has a bad N, .."
+-- where there is no body to show: "an empty stretch if .."
 unfoldable pub banksGood : ℕ → ℕ → ℕ → Bool
 banksGood n bank0 bank1 = goodN n && (eqb bank0 (n * sectorSize) && eqb bank1 (n * sectorSize))
 

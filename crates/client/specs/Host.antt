@@ -28,7 +28,7 @@ isClosed Write = false
 abbrev pub hosted : Client → Told → Hosted
 hosted c told = record { client = c; told = told }
 
--- "One refused by 3 hands back that record all the same"
+-- a client with a bad N is made "all the same"
 unfoldable pub newOf : ℕ → Bank → ℕ → ℕ → ℕ → Hosted
 newOf n running major minor revision = hosted (newClient n running major minor revision) (cond (goodN n) Done BadN)
 

@@ -15,7 +15,7 @@ noticeWith kind result address = record { kind = kind; result = result; address 
 abbrev pub noNotice : Notice
 noNotice = noticeWith Nothing 0 (replicate 16 0)
 
--- 01 if the latest session "ended with 06, 02 if it ended otherwise, 03 if there was none"
+-- how the latest session ended: with 06, "otherwise", or "there was none"
 abbrev pub latestNumber : Latest → ℕ
 latestNumber latest.Nothing = 0x03
 latestNumber latest.Good = 0x01

@@ -22,7 +22,7 @@ use Rattle.client.specs.declared.record.Client.{Client}
 use Rattle.client.specs.declared.record.Latest.the-variants.{Good, Otherwise}
 use Rattle.client.specs.Record.{opened, closed, begun, marked, ended}
 
--- "sound gives 06 and makes the target the next-start bank; unsound gives 1E"
+-- a sound bank may start next, an unsound one may not ("unsound gives 1E")
 abbrev pub fitBy : Verdict → Bool
 fitBy verdict.Refused = false
 fitBy verdict.Sound = true
@@ -39,7 +39,7 @@ storeResult blank already = cond (blank || already) 0x1D 0x06
 abbrev pub Accepted : ℕ → Type 0
 Accepted write = (write ≡ 0x06) ⊎ (write ≡ 0x1D)
 
--- "over the whole 512-byte sector as it stands afterwards"
+-- of all 512 bytes, "as it stands afterwards"
 abbrev pub sectorCrc : List ℕ → ℕ → ℕ
 sectorCrc bank k = crcOf (sectorOf bank k)
 

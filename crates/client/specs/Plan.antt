@@ -38,7 +38,7 @@ anyWorn (mark ∷ marks) = isWorn mark || anyWorn marks
 abbrev pub parameterFault : Command → Answer
 parameterFault command = declinedOf command 0x05
 
--- value faults of a packet: "sector 0 or above N; M of 0, above 512 or not a multiple of 4"
+-- value faults of a packet: its sector ("0 or above N") and the number of its bytes
 unfoldable pub valuesGood : ℕ → ℕ → ℕ → Bool
 valuesGood n sector length =
     leb 1 sector && (leb sector n && (leb 1 length && (leb length sectorSize && eqb (length % 4) 0)))

@@ -24,7 +24,7 @@ pub record Stays (before after : Client) : Type 0 where
 unfoldable pub noneReceived : List Bool
 noneReceived = replicate mostSectors false
 
--- a new client: "closed, and its next-start bank is the running one"
+-- a new client is closed, and would start the bank that runs
 abbrev pub newClient : ℕ → Bank → ℕ → ℕ → ℕ → Client
 newClient n running major minor revision =
     record {
@@ -54,7 +54,7 @@ initiated c =
       received = c .received;
     }
 
--- host: to closed; "the session is lost, next-start bank and flash stay"
+-- host: to closed; "the session is lost"
 abbrev pub terminated : Client → Client
 terminated c =
     record {
@@ -99,7 +99,7 @@ closed c =
       received = noneReceived;
     }
 
--- 40: "to write; no sector received yet; next-start bank set to the running one"
+-- 40: to write state, "no sector received yet", and the running bank starts next
 abbrev pub begun : Client → Client
 begun c =
     record {

@@ -49,7 +49,7 @@ pub record Carried : Type 0 where
   pub target : List ℕ
   pub buffer : List ℕ
 
--- "An answer fills the front of the buffer; the rest keeps its bytes"
+-- the answer at the front of the buffer; "the rest keeps its bytes"
 abbrev pub saidOf : Done → Notice → List ℕ → Carried
 saidOf d notice buffer =
     record {
@@ -73,7 +73,7 @@ pub record Carried·Is (d : Carried) (r : Stepped) (after answered : List ℕ) :
   pub target : after ≡ d .target
   pub buffer : answered ≡ d .buffer
 
--- "One bank runs, the other is the target": the target of the two, and the two with another target
+-- the bank that does not run is the target: the target of the two, and the two with another target
 abbrev pub targetOf : Bank → List ℕ → List ℕ → List ℕ
 targetOf Zero bank0 bank1 = bank1
 targetOf One bank0 bank1 = bank0

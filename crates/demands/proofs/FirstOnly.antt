@@ -1,4 +1,4 @@
--- What demand 2 shuts out, from the demand alone: a machine that handles the first sector packet and only acknowledges the rest.
+-- What demand 2 shuts out, from the demand alone: a machine that takes the first packet of a session in and only answers the others.
 -- Assumes nothing.
 use mathlib.Core.Path.{_≡_, refl, sym, ap, subst, _∙_}
 use mathlib.Core.Logic.{_⊎_, inl, inr}

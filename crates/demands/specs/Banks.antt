@@ -24,7 +24,7 @@ pub record MeetsCheck (check : List ℕ → Verdict) : Type 0 where
 abbrev pub View : Type 0
 View = Client → List ℕ → List ℕ → ℕ → List ℕ
 
--- that stretch of the next-start bank, or an empty one "if the banks' lengths aren't 512·N, the record has a bad N, i is not below C or the bank is unsound"
+-- that stretch of the next-start bank, or an empty one: for banks of a wrong length, a bad N, an unsound bank, or no body of that number
 pub record MeetsBody (view : View) : Type 0 where
   pub there : (c : Client) (bank0 bank1 : List ℕ) (i : ℕ) → banksGood (c .n) (length bank0) (length bank1) ≡ true → Kept (chosen (c .next) bank0 bank1)
       → i < countOf (chosen (c .next) bank0 bank1)

@@ -26,7 +26,7 @@ pub record Board : Type 0 where
 abbrev pub board : Client → List ℕ → List ℕ → Board
 board c bank0 bank1 = record { client = c; bank0 = bank0; bank1 = bank1 }
 
--- "One bank runs, the other is the target"
+-- the bank that runs, and the other, "the target"
 abbrev pub runningBank : Board → List ℕ
 runningBank b = chosen (b .client .running) (b .bank0) (b .bank1)
 

@@ -112,7 +112,7 @@ wrongState s Fault = false
 wrongState s (Control code n) = not (acceptedIn s code)
 wrongState s (Write sector m footer) = not (takesPackets s)
 
--- "any address pair but the target's; sector 0 or above N; M of 0, above 512 or not a multiple of 4"
+-- value faults: addresses that are not the target's, a packet's sector, the number of its bytes
 abbrev pub wrongValues : Client → List ℕ → Read → Bool
 wrongValues c datagram Fault = false
 wrongValues c datagram (Control code n) = eqb code 0x40 && not (addressesGood c datagram)
@@ -158,7 +158,7 @@ stored b call c target answer =
       notice = noNotice;
     }
 
--- "The sector becomes the M data bytes followed by 0xFF up to 512, and counts as received", with 06 or 1D and the CRC of the sector
+-- the data and then 0xFF are the sector, which "counts as received", with 06 or 1D and the CRC of the sector
 abbrev pub packetStored : Board → Call → Read → Outcome
 packetStored b call Fault = answered b call []
 packetStored b call (Control code n) = answered b call []
@@ -174,7 +174,7 @@ packetWorn b call Fault = answered b call []
 packetWorn b call (Control code n) = answered b call []
 packetWorn b call (Write sector m footer) = answered b call (writeFrame sector (writtenBytes 0x06 0x1C 0) End)
 
--- "each sector not received in this session is erased to 0xFF"
+-- what was "not received in this session" is 0xFF
 abbrev pub sweptTarget : Board → Call → List ℕ
 sweptTarget b call = sweptOf (lentTarget b call) (b .client .n) (b .client .received)
 

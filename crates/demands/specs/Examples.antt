@@ -64,7 +64,7 @@ abbrev pub Verdict : Bool → Board → Call → ℕ → Type 0
 Verdict true b call sector = isStored (said (stepMachine b (Datagram call))) ≡ true
 Verdict false b call sector = said (stepMachine b (Datagram call)) ≡ writeFrame sector (writtenBytes 0x05 0x05 0) End
 
--- "M of 0, above 512 or not a multiple of 4" is wrong
+-- other numbers of bytes are wrong
 abbrev pub goodLength : ℕ → Bool
 goodLength m = leb 1 m && (leb m 512 && eqb (m % 4) 0)
 

@@ -1,4 +1,4 @@
--- What is asked of a reader of hex text, whatever it is (01, 'Hex text'; 'What comes back when it is no', "Hex reader: 3, 2, then the H faults").
+-- What is asked of a reader of hex text, whatever it is (01, 'Hex text'; 'What comes back when it is no', "then the H faults").
 -- Assumes nothing.
 use mathlib.Core.Path.{_≡_}
 use mathlib.Core.Logic.{_⊎_}
@@ -32,7 +32,7 @@ pub record MeetsHex (read : Reader) : Type 0 where
   -- else the text is accepted or refused
   pub either : (text : List ℕ) (bank : Bank) (n : ℕ) (image : List ℕ) → goodN n ≡ true → length image ≡ sectorSize * n
       → (read text bank n image .answer ≡ Accepted) ⊎ Refuses (read text bank n image .answer)
-  -- "The first faulty line is reported, counted from 1", and the image is all 0xFF
+  -- the first line with a fault is told, "counted from 1", and the image is all 0xFF
   pub faulted : (text : List ℕ) (bank : Bank) (n : ℕ) (image : List ℕ) (r : Refusal) → read text bank n image .answer ≡ Refused r
       → Faulted (startOf bank) (sectorSize * n) fresh 1 (lines text) r
   pub erased : (text : List ℕ) (bank : Bank) (n : ℕ) (image : List ℕ) (r : Refusal) → read text bank n image .answer ≡ Refused r

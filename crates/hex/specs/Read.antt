@@ -43,11 +43,11 @@ pub record Done : Type 0 where
   pub outcome : Outcome
   pub image : List ℕ
 
--- "A refused text leaves the image all 0xFF"
+-- a text that is refused leaves nothing but 0xFF
 abbrev pub refused : ℕ → Kind → ℕ → Done
 refused size k line = record { outcome = Stopped (record { kind = k; line = line }); image = replicate size 0xFF }
 
--- behind the last line: "no type 01 record (line number one past the last)"
+-- behind the last line: no end record, told with the number "one past the last"
 abbrev pub finishOf : State → ℕ → Outcome
 finishOf s line = cond (s .over) Through (Stopped (record { kind = H6; line = line }))
 
@@ -65,7 +65,7 @@ readLines base size s k image (l ∷ ls) =
     goes (foundOf base size s l) (λ f. refused size f k)
     (readLines base size (stateAfter (foundOf base size s l) s) (k + 1) (imageAfter base l (foundOf base size s l) image) ls)
 
--- "The upper half is 0 until a type 04 record"
+-- the upper half is 0 at first
 abbrev pub fresh : State
 fresh = record { upper = 0; last = 0; over = false }
 

@@ -24,7 +24,7 @@ madeNumber (Frame n) = 0
 unfoldable pub roomFor : ℕ → List ℕ → Made
 roomFor size bytes = cond (leb room size) (Frame (length bytes)) BadLength
 
--- the buffer then: "An answer fills the front of the buffer; the rest keeps its bytes", and a refusal changes nothing
+-- the buffer then: the frame at its front, "the rest keeps its bytes", and a refusal changes nothing
 abbrev pub standing : Made → List ℕ → List ℕ → List ℕ
 standing BadN before bytes = before
 standing BadLength before bytes = before

@@ -34,7 +34,7 @@ packetCount image n = length (sentOf image n)
 abbrev pub packetSector : List ℕ → ℕ → ℕ → ℕ
 packetSector image n p = getD (sentOf image n) p 0
 
--- "`03` on its last sector packet and `17` on the others"
+-- 03 "on its last sector packet", 17 on each before it
 unfoldable pub footerOf : ℕ → ℕ → Footer
 footerOf count p = cond (eqb (p + 1) count) End Continued
 

@@ -83,11 +83,11 @@ answerOf (Answers kind) parameters =
 abbrev pub controlOf : ℕ → List ℕ → Response
 controlOf code parameters = answerOf (kindOf code) parameters
 
--- "If the response result isn't 06, the write result repeats it"
+-- a response result other than 06: "the write result repeats it"
 unfoldable pub repeatsOf : ℕ → ℕ → Bool
 repeatsOf response write = eqb response 0x06 || eqb write response
 
--- "If either result is neither 06 nor 1D, the CRC field is 0"
+-- unless both results are 06 or 1D, "the CRC field is 0"
 unfoldable pub storedOf : ℕ → Bool
 storedOf result = eqb result 0x06 || eqb result 0x1D
 

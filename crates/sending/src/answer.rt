@@ -104,7 +104,7 @@ fn known(hex_text: &mut [u8], image: &mut [u8], held: Held, line: &[u8]) -> Answ
 }
 
 // What is held after the line.
-pub fn answer(hex_text: &mut [u8], image: &mut [u8], held: Held, line: &[u8]) -> Answered {
+pub(crate) fn answer(hex_text: &mut [u8], image: &mut [u8], held: Held, line: &[u8]) -> Answered {
     match known(hex_text, image, held, line) {
         Answered::No => {
             say::no_request();

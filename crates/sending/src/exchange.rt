@@ -45,7 +45,7 @@ fn write(fields: &[u8]) -> bool {
     false
 }
 
-pub fn request(fields: &[u8]) -> bool {
+pub(crate) fn request(fields: &[u8]) -> bool {
     let word = text::first(fields);
     let later = text::rest(fields);
     if check::same(word, b"start") {
@@ -138,7 +138,7 @@ fn say_response(datagram: &[u8]) {
     say::end();
 }
 
-pub fn response(fields: &[u8]) -> bool {
+pub(crate) fn response(fields: &[u8]) -> bool {
     let mut bytes = [0u8; 2048];
     let got = text::bytes(fields, &mut bytes);
     if got < 0 {

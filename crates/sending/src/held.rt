@@ -21,7 +21,7 @@ pub enum Answered {
 }
 
 // A request that leaves what is held.
-pub fn kept(known: bool, held: Held) -> Answered {
+pub(crate) fn kept(known: bool, held: Held) -> Answered {
     if known {
         Answered::Yes(held)
     } else {
@@ -30,7 +30,7 @@ pub fn kept(known: bool, held: Held) -> Answered {
 }
 
 // As much of a room as is held, by the contract by which that part can be lent without a proof.
-pub fn lent(room: &[u8], size: usize) -> usize
+pub(crate) fn lent(room: &[u8], size: usize) -> usize
     ensures { λ r. ⌜ Counts r (now (room .entry)) ⌝ }
 {
     if size > room.len() {

@@ -10,7 +10,7 @@ use script::say;
 use script::text;
 use sender::packet::Tally;
 
-pub fn image(image: &mut [u8], held: Held, fields: &[u8]) -> Answered {
+pub(crate) fn image(image: &mut [u8], held: Held, fields: &[u8]) -> Answered {
     let size = text::decimal(fields, 6);
     if size > LONGEST_IMAGE {
         return Answered::No;
@@ -42,7 +42,7 @@ fn put_bytes(image: &mut [u8], offset: usize, bytes: &[u8]) -> bool {
     true
 }
 
-pub fn put(image: &mut [u8], fields: &[u8]) -> bool {
+pub(crate) fn put(image: &mut [u8], fields: &[u8]) -> bool {
     let mut bytes = [0u8; 2048];
     let got = text::bytes(text::rest(fields), &mut bytes);
     if got < 0 {
@@ -57,7 +57,7 @@ fn say_count(count: usize) {
     say::decimal(count);
 }
 
-pub fn count(image: &[u8], fields: &[u8]) -> bool {
+pub(crate) fn count(image: &[u8], fields: &[u8]) -> bool {
     let n = text::decimal(fields, 6);
     if n > LARGEST_NUMBER {
         return false;
@@ -89,7 +89,7 @@ fn packet_of(image: &[u8], n: usize, p: usize, room: usize) -> bool {
     true
 }
 
-pub fn packet(image: &[u8], fields: &[u8]) -> bool {
+pub(crate) fn packet(image: &[u8], fields: &[u8]) -> bool {
     let n = text::decimal(text::first(fields), 6);
     if n > LARGEST_NUMBER {
         return false;

@@ -9,7 +9,7 @@ fn say_frame(size: usize) {
     say::decimal(size);
 }
 
-pub fn say_made(made: Made, buffer: &[u8]) {
+pub(crate) fn say_made(made: Made, buffer: &[u8]) {
     match made {
         Made::BadN => say::refused(3),
         Made::BadLength => say::refused(2),

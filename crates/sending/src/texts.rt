@@ -41,11 +41,11 @@ fn spelt(hex_text: &mut [u8], size: usize, fields: &[u8], image: usize) -> Answe
     put(hex_text, size, &bytes[..n], image)
 }
 
-pub fn text(hex_text: &mut [u8], held: Held, fields: &[u8]) -> Answered {
+pub(crate) fn text(hex_text: &mut [u8], held: Held, fields: &[u8]) -> Answered {
     spelt(hex_text, 0, fields, held.image)
 }
 
-pub fn more(hex_text: &mut [u8], held: Held, fields: &[u8]) -> Answered {
+pub(crate) fn more(hex_text: &mut [u8], held: Held, fields: &[u8]) -> Answered {
     spelt(hex_text, held.text, fields, held.image)
 }
 
@@ -90,7 +90,7 @@ fn read_bank(hex_text: &[u8], image: &mut [u8], held: Held, bank: Bank, fields: 
     })
 }
 
-pub fn read(hex_text: &[u8], image: &mut [u8], held: Held, fields: &[u8]) -> Answered {
+pub(crate) fn read(hex_text: &[u8], image: &mut [u8], held: Held, fields: &[u8]) -> Answered {
     let bank = text::first(fields);
     let later = text::rest(fields);
     if check::same(bank, b"0") {

@@ -91,7 +91,7 @@ fn known(line: &[u8]) -> bool {
     }
 }
 
-pub fn answer(line: &[u8]) {
+pub(crate) fn answer(line: &[u8]) {
     if !known(line) {
         say::no_request();
     }

@@ -27,7 +27,7 @@ fn say_layout(bank: Bank, n: usize) {
     say::end();
 }
 
-pub fn layout(fields: &[u8]) -> bool {
+pub(crate) fn layout(fields: &[u8]) -> bool {
     let n = text::decimal(text::rest(fields), 6);
     if n > LARGEST_NUMBER {
         return false;
@@ -50,7 +50,7 @@ fn say_sectors(n: usize) {
     say::end();
 }
 
-pub fn sectors(fields: &[u8]) -> bool {
+pub(crate) fn sectors(fields: &[u8]) -> bool {
     let length = text::decimal(fields, 6);
     if length > LARGEST_NUMBER {
         return false;
@@ -205,11 +205,11 @@ fn asked_by(fields: &[u8], ask: Ask) -> bool {
     )
 }
 
-pub fn verdict(fields: &[u8]) -> bool {
+pub(crate) fn verdict(fields: &[u8]) -> bool {
     asked_by(fields, Ask::Check)
 }
 
-pub fn body(fields: &[u8]) -> bool {
+pub(crate) fn body(fields: &[u8]) -> bool {
     let i = text::decimal(text::first(fields), 6);
     if i > LARGEST_NUMBER {
         return false;

@@ -61,7 +61,7 @@ fn say_read(datagram: &[u8]) {
     }
 }
 
-pub fn read(fields: &[u8]) -> bool {
+pub(crate) fn read(fields: &[u8]) -> bool {
     let mut bytes = [0u8; 2048];
     let got = text::bytes(fields, &mut bytes);
     if got < 0 {
@@ -95,7 +95,7 @@ fn control_in(room: usize, code: u8, parameters: &[u8]) -> bool {
     true
 }
 
-pub fn control(fields: &[u8]) -> bool {
+pub(crate) fn control(fields: &[u8]) -> bool {
     let code = text::number(text::first(fields), 2);
     if code > 255 {
         return false;
@@ -138,7 +138,7 @@ fn write_footed(sector: u16, data: &[u8], fields: &[u8]) -> bool {
     false
 }
 
-pub fn write(fields: &[u8]) -> bool {
+pub(crate) fn write(fields: &[u8]) -> bool {
     let sector = text::number(text::first(fields), 4);
     if sector > 65535 {
         return false;
@@ -158,7 +158,7 @@ fn put_error(buffer: &mut [u8]) {
     say_buffer(buffer);
 }
 
-pub fn error(fields: &[u8]) -> bool {
+pub(crate) fn error(fields: &[u8]) -> bool {
     let room = text::decimal(fields, 6);
     if room > LARGEST_BUFFER {
         return false;

@@ -11,7 +11,7 @@ fn say_crc(value: u32) {
     say::end();
 }
 
-pub fn crc(fields: &[u8]) -> bool {
+pub(crate) fn crc(fields: &[u8]) -> bool {
     let mut bytes = [0u8; 2048];
     let got = text::bytes(fields, &mut bytes);
     if got < 0 {
@@ -22,7 +22,7 @@ pub fn crc(fields: &[u8]) -> bool {
     true
 }
 
-pub fn more(fields: &[u8]) -> bool {
+pub(crate) fn more(fields: &[u8]) -> bool {
     let register = text::number(text::first(fields), 8);
     if register > 0xFFFF_FFFF {
         return false;
@@ -39,7 +39,7 @@ pub fn more(fields: &[u8]) -> bool {
     true
 }
 
-pub fn sum(fields: &[u8]) -> bool {
+pub(crate) fn sum(fields: &[u8]) -> bool {
     let mut bytes = [0u8; 2048];
     let got = text::bytes(fields, &mut bytes);
     if got < 0 {
@@ -66,7 +66,7 @@ fn byte_at(pattern: Pattern, at: usize) -> u8 {
 }
 
 // The piece of the message that starts at `from`.
-pub fn fill(piece: &mut [u8], pattern: Pattern, from: usize)
+pub(crate) fn fill(piece: &mut [u8], pattern: Pattern, from: usize)
     requires { ⌜ from ≤ 300000 ⌝ }
 {
     let mut i = 0;
@@ -128,7 +128,7 @@ fn long_crc(pattern: Pattern, count: usize) -> bool {
     true
 }
 
-pub fn run(fields: &[u8]) -> bool {
+pub(crate) fn run(fields: &[u8]) -> bool {
     let byte = text::number(text::first(fields), 2);
     if byte > 255 {
         return false;
@@ -139,6 +139,6 @@ pub fn run(fields: &[u8]) -> bool {
     )
 }
 
-pub fn ramp(fields: &[u8]) -> bool {
+pub(crate) fn ramp(fields: &[u8]) -> bool {
     long_crc(Pattern::Ramp, text::decimal(fields, 6))
 }
