@@ -12,6 +12,8 @@ use Rattle.buffer.specs.Place.{frontOf}
 use Rattle.buffer.proofs.Bools.{and-left, and-right, and-both}
 use Rattle.buffer.proofs.Places.{front-take, front-drop}
 use Rattle.frame.specs.Read.{readOf, writtenOf}
+use Rattle.frame.specs.declared.read.Read.{Read}
+use Rattle.frame.specs.declared.read.Read.the-variants.{Fault, Control, Write}
 use Rattle.frame.proofs.Writing.{length-write}
 use Rattle.bank.specs.Layout.{goodN}
 use Rattle.sender.specs.declared.made.Made.{Made}
@@ -21,7 +23,6 @@ use Rattle.sender.specs.Packet.{sectorOf, packetCount, packetSector, footerOf, 
 use Rattle.sender.proofs.Image.{packet-read, packet-bytes}
 use Rattle.sender.proofs.Packets.{Sent, sent-in, sector-length}
 use Rattle.demands.specs.Packets.{Made·Out, Maker, Packet, MeetsSender, packetMaker, InventsNumber}
-use Rattle.demands.proofs.FirstOnly.{sectorIn}
 use Rattle.demands.proofs.Witness.{image, image-size, two-packets, two-good, sectors-are}
 
 module _ (img : List ℕ) (n p : ℕ) (before : List ℕ) (g : goodN n ≡ true) (l : (imageGood img n && leb room (length before)) ≡ true) where
@@ -82,6 +83,11 @@ frame-size s t e = ap sizeOf e
     sizeOf BadLength = 0
     sizeOf PastLast = 0
     sizeOf (Frame k) = k
+
+sectorIn : Read → ℕ
+sectorIn Fault = 0
+sectorIn (Control code n) = 0
+sectorIn (Write sector m footer) = sector
 
 pub no-inventor : (s : Maker) → InventsNumber s → MeetsSender s → ⊥
 unfolding sectorIn
