@@ -1,3 +1,4 @@
+pub mod Acknowledging
 pub mod Asking
 pub mod Banks
 pub mod Bytes

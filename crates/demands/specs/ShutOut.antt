@@ -1,7 +1,7 @@
 -- Machines that a demand shuts out (01, 'How much each function must say', "Show that these are shut out").
 -- Assumes nothing.
 use mathlib.Core.Path.{_≡_}
-use mathlib.Core.Bool.{true}
+use mathlib.Core.Bool.{Bool, true, false, _&&_, _||_, cond}
 use mathlib.Core.List.{List, [], _∷_}
 use Prim.Native.Nat.{ℕ}
 use Rattle.frame.specs.Read.{byteAt, readOf}
@@ -10,7 +10,7 @@ use Rattle.frame.specs.declared.read.Read.the-variants.{Write}
 use Rattle.sender.specs.declared.request.Request.the-variants.{WriteEnd}
 use Rattle.sender.specs.Request.{requestFrame}
 use Rattle.client.specs.Step.{targetOf}
-use Rattle.demands.specs.Board.{Board, board, Call, Input, Datagram, Outcome, said, Machine, after, stepMachine}
+use Rattle.demands.specs.Board.{Board, board, Call, Input, Initiate, Terminate, Datagram, Outcome, said, Machine, after, stepMachine}
 use Rattle.demands.specs.Demand1.{isPacket}
 use Rattle.demands.specs.Session.{isBegin, isStored}
 
@@ -70,3 +70,19 @@ abbrev pub FirstOnly : Machine → Type 0
 FirstOnly m =
     (b : Board) (start first end : Call) (is js : List Input) → FirstHandled m b start first → end .datagram ≡ requestFrame WriteEnd → SameButBytes is js
     → targetAfter m b start first is end ≡ targetAfter m b start first js end
+
+-- one of them: the client, but behind the first packet of a session it answers each packet and leaves the board as it is
+abbrev pub anyOf : List Bool → Bool
+anyOf [] = false
+anyOf (x ∷ xs) = x || anyOf xs
+
+abbrev pub answeredOnly : Board → Outcome → Outcome
+answeredOnly b o = record { board = b; number = o .number; told = o .told; buffer = o .buffer; notice = o .notice }
+
+abbrev pub acknowledging : Machine
+acknowledging b Initiate = stepMachine b Initiate
+acknowledging b Terminate = stepMachine b Terminate
+acknowledging b (Datagram call) =
+    cond (anyOf (b .client .received) && isPacket (readOf (call .datagram)))
+    (answeredOnly b (stepMachine b (Datagram call)))
+    (stepMachine b (Datagram call))
