@@ -22,7 +22,7 @@ use Rattle.sender.specs.Made.{room, standing}
 use Rattle.sender.specs.Packet.{sectorOf, packetCount, packetSector, footerOf, packetFrame, imageGood, packetMade}
 use Rattle.sender.proofs.Image.{packet-read, packet-bytes}
 use Rattle.sender.proofs.Packets.{Sent, sent-in, sector-length}
-use Rattle.demands.specs.Packets.{Made·Out, Maker, Packet, MeetsSender, packetMaker, InventsNumber}
+use Rattle.demands.specs.Packets.{Made·Out, Maker, Packet, MeetsPackets, packetMaker, InventsNumber}
 use Rattle.demands.proofs.Witness.{image, image-size, two-packets, two-good, sectors-are}
 
 module _ (img : List ℕ) (n p : ℕ) (before : List ℕ) (g : goodN n ≡ true) (l : (imageGood img n && leb room (length before)) ≡ true) where
@@ -63,7 +63,7 @@ module _ (img : List ℕ) (n p : ℕ) (before : List ℕ) (g : goodN n ≡ true)
           rest = ap (drop (length (packetFrame img n p))) buffer-is ∙ front-drop before (packetFrame img n p) (omega (arith, frame-long));
         }
 
-pub packets-meet : MeetsSender packetMaker
+pub packets-meet : MeetsPackets packetMaker
 unfolding packetMade
 packets-meet =
     record {
@@ -89,7 +89,7 @@ sectorIn Fault = 0
 sectorIn (Control code n) = 0
 sectorIn (Write sector m footer) = sector
 
-pub no-inventor : (s : Maker) → InventsNumber s → MeetsSender s → ⊥
+pub no-inventor : (s : Maker) → InventsNumber s → MeetsPackets s → ⊥
 unfolding sectorIn
 no-inventor s invents meets =
     let before : List ℕ = replicate 519 0 in
