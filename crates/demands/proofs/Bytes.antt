@@ -61,9 +61,9 @@ pub ended-begin : (result : ℕ) → isBegin (answerBytes (Response 0x75 result)
 unfolding answerBytes controlFrame framed
 ended-begin result = refl
 
-pub ended-stored : (result : ℕ) → isStored (answerBytes (Response 0x75 result)) ≡ false
+pub response-stored : (code result : ℕ) → isStored (answerBytes (Response code result)) ≡ false
 unfolding answerBytes controlFrame framed
-ended-stored result = refl
+response-stored code result = refl
 
 pub written-begin : (sector result write crc : ℕ) → isBegin (answerBytes (Written sector result write crc)) ≡ false
 unfolding answerBytes writeFrame framed

@@ -1,269 +1,135 @@
--- What demand 2 shuts out, from the demand alone: a machine that takes the first packet of a session in and only answers the others.
+-- What demand 2 shuts out, from the demand alone: every machine that handles the first packet of a session and only acknowledges the rest.
+-- Two fit images of two sectors are alike in the second and not in the first. The second is sent first, so the machine leaves the same bank for
+-- both, and demand 2 wants each of them there.
 -- Assumes nothing.
 use mathlib.Core.Path.{_≡_, refl, sym, ap, subst, _∙_}
-use mathlib.Core.Logic.{_⊎_, inl, inr}
-use mathlib.Core.Bool.{Bool, true, false, _&&_, cond}
-use mathlib.Core.List.{List, _++_}
-use Prim.Native.Nat.{ℕ, _-_, _*_, _<_}
+use mathlib.Core.Bool.{true}
+use mathlib.Core.List.{List, [], _∷_, _++_}
+use Prim.Native.Nat.{ℕ}
 use native.Mathlib.Omega.{arith}
-use lib.ListN.{length, getD, take, drop, set, length-take, take-append-drop, List·getD-append}
-use lib.Seq.{getD-take}
-use Rattle.buffer.proofs.Bools.{split}
-use Rattle.frame.specs.Read.{readOf, writtenOf}
-use Rattle.frame.specs.declared.read.Read.{Read}
-use Rattle.frame.specs.declared.read.Read.the-variants.{Fault, Control, Write}
-use Rattle.flash.specs.Bank.{sectorOf, blankSector}
-use Rattle.flash.proofs.Sectors.{Has}
-use Rattle.flash.proofs.Sweeps.{length-sweep, swept-sector}
-use Rattle.flash.proofs.Writes.{length-written, written-other}
-use Rattle.bank.specs.declared.layout.Bank.{Bank}
-use Rattle.bank.specs.declared.layout.Bank.the-variants.{Zero, One}
-use Rattle.bank.specs.Layout.{sectorSize, goodN}
-use Rattle.bank.proofs.Layouts.{good-low}
+use lib.ListN.{length, getD, replicate}
+use Rattle.buffer.specs.Compare.{blankOf}
+use Rattle.buffer.specs.Number.{numberAt, numberOf}
+use Rattle.crc.specs.Crc.{feed, crcBit, crcBits, crcByte, crcMore, crcOf}
+use Rattle.frame.specs.Read.{readOf}
+use Rattle.frame.specs.declared.read.Read.the-variants.{Write}
+use Rattle.frame.specs.declared.read.Footer.the-variants.{End, Continued}
+use Rattle.bank.specs.declared.layout.Bank.the-variants.{One}
+use Rattle.bank.specs.Layout.{goodN, wholeLength, sectorOffset}
+use Rattle.bank.specs.Sound.{headerGood, tableGood, laidOutGood, bodyGood, allGood, bodiesGood, blankGood, listedGood, soundOf, verdictOf}
+use Rattle.bank.specs.Stretch.{fitsAt, laidOut, blankOutside}
+use Rattle.bank.specs.Table.{entryAt, entriesFrom, restOf, stretchesOf}
 use Rattle.sender.specs.declared.request.Request.the-variants.{WriteStart, WriteEnd}
-use Rattle.sender.specs.Packet.{packetCount, packetSector, footerOf, packetFrame}
+use Rattle.sender.specs.Packet.{sectorOf, sentOf, packetCount, packetSector, footerOf, packetFrame}
 use Rattle.sender.specs.Request.{requestFrame}
 use Rattle.sender.proofs.Image.{packet-read}
-use Rattle.client.specs.declared.record.Client.{Client}
-use Rattle.client.specs.Record.{noneReceived}
-use Rattle.client.specs.Step.{targetOf, oneOf}
-use Rattle.client.proofs.Courses.{Course, still, begins, stores, ends, step-course}
-use Rattle.demands.specs.Board.{Board, board, Call, Datagram, Outcome, backIn, lentTarget, called, stepMachine}
+use Rattle.client.specs.Perform.{fitOf}
+use Rattle.client.specs.Answer.{answerBytes}
+use Rattle.demands.specs.Board.{Call, Input, Datagram, Outcome, said, Machine}
 use Rattle.demands.specs.Demand1.{isPacket}
-use Rattle.demands.specs.Demand2.{Meets2}
-use Rattle.demands.specs.Session.{allBlank}
-use Rattle.demands.specs.ShutOut.{unstored, anyOf, firstOnly}
-use Rattle.demands.proofs.Asking.{request-read, start-read}
-use Rattle.demands.proofs.Demand2.{begun-is, begun-busy, stored-is}
-use Rattle.demands.proofs.Steps.{machine-stays}
-use Rattle.demands.proofs.Witness.{image, witness-board, calling, sending, lends, ready, image-size, two-packets, two-good, sectors-are}
-use Rattle.demands.proofs.ShutOut.{delivered, first-byte}
+use Rattle.demands.specs.Demand2.{Fit, Taken, AllTaken, more-taken, Delivered, Meets2}
+use Rattle.demands.specs.Session.{isBegin, isStored}
+use Rattle.demands.specs.ShutOut.{SameButBytes, none-alike, more-alike, FirstHandled, targetAfter, FirstOnly}
+use Rattle.demands.proofs.Bytes.{written-stored}
+use Rattle.demands.proofs.ShutOut.{delivered, fit}
+use Rattle.demands.proofs.Witness.{image, witness-board, calling, order, sending, image-size, two-packets, two-good, sectors-are}
 
--- the first byte of a bank that was zero is zero or erased
-abbrev Low : ℕ → Type 0
-Low x = (x ≡ 0) ⊎ (x ≡ 0xFF)
+-- the same sectors but for the table: it gives the body eight bytes instead of four
+unfoldable longer : List ℕ
+longer =
+    (0x04 ∷ 0x00 ∷ 0x01 ∷ 0x01 ∷ 0x00 ∷ 0x00 ∷ 0x02 ∷ 0x58 ∷ 0x00 ∷ 0x00 ∷ 0x00 ∷ 0x08 ∷ 0x93 ∷ 0xB8 ∷ 0x3A ∷ 0x53 ∷ 0x36 ∷ 0x6F ∷ 0x78 ∷ 0x66 ∷ [])
+    ++ replicate 580 0xFF ++ (0x01 ∷ 0x02 ∷ 0x03 ∷ 0x04 ∷ []) ++ replicate 420 0xFF
 
-first-of : (bank : List ℕ) → getD (sectorOf bank 1) 0 0 ≡ getD bank 0 0
-unfolding sectorOf
-first-of bank = getD-take 512 bank 0 0 (omega arith)
+longer-size : length longer ≡ 1024
+unfolding longer
+longer-size = refl
 
-blank-first : getD blankSector 0 0 ≡ 0xFF
-unfolding blankSector
-blank-first = refl
+longer-sound : fitOf longer ≡ true
+unfolding longer verdictOf wholeLength goodN soundOf headerGood tableGood listedGood laidOutGood bodiesGood blankGood bodyGood allGood laidOut fitsAt blankOutside entryAt entriesFrom restOf stretchesOf blankOf numberAt numberOf crcOf crcMore crcByte crcBits crcBit feed
+longer-sound = refl
 
-unfoldable pub sectorIn : Read → ℕ
-sectorIn Fault = 0
-sectorIn (Control code n) = 0
-sectorIn (Write sector m footer) = sector
+longer-packets : packetCount longer 2 ≡ 2
+unfolding longer sentOf sectorOf sectorOffset goodN blankOf
+longer-packets = refl
 
-module _ (b : Board) (runs : b .client .running ≡ Zero) (call : Call) (free : sectorIn (readOf (call .datagram)) ≡ 1 → ⊥) (low : Low (getD (b .bank1) 0 0)) where
-  abbrev lent : List ℕ
-  lent = lentTarget b call
+longer-sectors : (packetSector longer 2 0 ≡ 1) × (packetSector longer 2 1 ≡ 2)
+unfolding longer sentOf sectorOf sectorOffset goodN blankOf
+longer-sectors = (refl, refl)
 
-  abbrev came : List ℕ
-  came = called b call .target
+-- the packet that is sent first is the same
+same-sector : sectorOf longer 2 ≡ sectorOf image 2
+unfolding longer image sectorOf sectorOffset goodN
+same-sector = refl
 
-  -- what is lent of bank 1
-  lent-is : lent ≡ take (call .lent1) (b .bank1)
-  lent-is = ap (λ (x : Bank). targetOf x (take (call .lent0) (b .bank0)) (take (call .lent1) (b .bank1))) runs
+same-first : packetFrame longer 2 1 ≡ packetFrame image 2 1
+unfolding packetFrame
+same-first =
+    rw (longer-sectors .1, sectors-are .1, longer-packets, two-packets, same-sector)
 
-  bank-is : stepMachine b (Datagram call) .board .bank1 ≡ came ++ drop (call .lent1) (b .bank1)
-  bank-is = ap (λ (x : Bank). backIn (call .lent1) (b .bank1) (oneOf x (take (call .lent1) (b .bank1)) came)) runs
+not-same : image ≡ longer → ⊥
+unfolding longer image
+not-same e = absurd (omega (arith, ap (λ (l : List ℕ). getD l 11 0) e))
 
-  same-low : came ≡ lent → Low (getD (stepMachine b (Datagram call) .board .bank1) 0 0)
-  same-low e =
-      subst (λ (l : List ℕ). Low (getD l 0 0))
-      (sym (bank-is ∙ ap (λ (l : List ℕ). l ++ drop (call .lent1) (b .bank1)) (e ∙ lent-is) ∙ take-append-drop (call .lent1) (b .bank1))) low
+-- what the packets of an image of two packets, in its sectors 1 and 2, are read as
+module _ (img : List ℕ) (size : length img ≡ 1024) (two : packetCount img 2 ≡ 2) (sectors : (packetSector img 2 0 ≡ 1) × (packetSector img 2 1 ≡ 2)) where
+  reads-0 : readOf (packetFrame img 2 0) ≡ Write 1 512 Continued
+  unfolding footerOf
+  reads-0 = sym (packet-read img 2 0 two-good size (omega (arith, two))) ∙ rw (sectors .0, two)
 
-  -- a target of whole sectors: the first byte is that of sector 1
-  whole-low : goodN (b .client .n) ≡ true → length lent ≡ b .client .n * sectorSize → length came ≡ length lent → Low (getD (sectorOf came 1) 0 0)
-      → Low (getD (stepMachine b (Datagram call) .board .bank1) 0 0)
-  whole-low g w c l =
-      let some = good-low (b .client .n) g in
-      subst Low
-      (first-of came ∙ sym (List·getD-append came (drop (call .lent1) (b .bank1)) 0 0 (omega arith)) ∙ ap (λ (x : List ℕ). getD x 0 0) (sym bank-is)) l
+  reads-1 : readOf (packetFrame img 2 1) ≡ Write 2 512 End
+  unfolding footerOf
+  reads-1 = sym (packet-read img 2 1 two-good size (omega (arith, two))) ∙ rw (sectors .1, two)
 
-  lent-low : goodN (b .client .n) ≡ true → length lent ≡ b .client .n * sectorSize → Low (getD (sectorOf lent 1) 0 0)
-  lent-low g w =
-      let some = good-low (b .client .n) g in
-      let long = ap length lent-is in
-      subst Low
-      (sym
-      (first-of lent
-      ∙ ap (λ (l : List ℕ). getD l 0 0) lent-is
-      ∙ getD-take (call .lent1) (b .bank1) 0 0 (omega (arith, length-take (call .lent1) (b .bank1)))))
-      low
+-- a packet that is answered as demand 2 wants it has been handled
+taken-stored : (img : List ℕ) (n p : ℕ) (o : Outcome) → Taken img n p o → isStored (said o) ≡ true
+unfolding answerBytes
+taken-stored img n p o t = ap isStored (t .answer) ∙ written-stored (packetSector img n p) (t .write) _ (t .accepted)
 
-  has-first : goodN (b .client .n) ≡ true → length lent ≡ b .client .n * sectorSize → Has (length lent) 1
-  has-first g w = let some = good-low (b .client .n) g in record { first = omega arith; last = omega arith }
+first-taken : (img : List ℕ) (n p : ℕ) (ps : List ℕ) (o : Outcome) (os : List Outcome) → AllTaken img n (p ∷ ps) (o ∷ os) → Taken img n p o
+first-taken img n p ps o os (more-taken t rest) = t
 
-  low-stays : Low (getD (stepMachine b (Datagram call) .board .bank1) 0 0)
-  unfolding sectorIn
-  low-stays = by (step-course (b .client) _ _ (call .marks) (call .address) (call .buffer) (call .datagram))
-    where
-      swept-low : (received : Bool) → goodN (b .client .n) ≡ true → length lent ≡ b .client .n * sectorSize → Low (getD (cond received (sectorOf lent 1) blankSector) 0 0)
-      swept-low true g w = lent-low g w
-      swept-low false g w = inr blank-first
+longer-fit : Fit longer 2
+longer-fit = record { size = longer-size; sound = longer-sound }
 
-      by : Course (b .client) lent (call .datagram) (called b call) → Low (getD (stepMachine b (Datagram call) .board .bank1) 0 0)
-      by (still q t w) = same-low t
-      by (begins a t r h) = same-low t
-      by (stores sector m write h v a t k) =
-          let bytes : List ℕ = writtenOf (call .datagram) m in
-          let other : 1 ≡ sector → ⊥ = λ e. free (ap sectorIn (h .reads) ∙ sym e) in
-          whole-low (h .good) (h .whole) (ap length t ∙ length-written lent sector bytes)
-          (subst (λ (s : List ℕ). Low (getD s 0 0))
-          (sym (ap (λ (l : List ℕ). sectorOf l 1) t ∙ written-other lent sector bytes 1 (has-first (h .good) (h .whole)) other))
-          (lent-low (h .good) (h .whole)))
-      by (ends result u a t x h) =
-          let some = good-low (b .client .n) (h .good) in
-          whole-low (h .good) (h .whole) (ap length t ∙ length-sweep lent (b .client .n) (b .client .received))
-          (subst (λ (s : List ℕ). Low (getD s 0 0))
-          (sym
-          (ap (λ (l : List ℕ). sectorOf l 1) t
-          ∙ swept-sector lent (b .client .n) (b .client .received) 1 (has-first (h .good) (h .whole)) some))
-          (swept-low (getD (b .client .received) 0 false) (h .good) (h .whole)))
+-- what follows the first packet
+rest : List ℕ → List Input
+rest img = Datagram (calling (packetFrame img 2 0)) ∷ Datagram (calling (packetFrame img 2 1)) ∷ []
 
--- the same of the machine that stores the first packet only, whichever way it goes
-only-low : (b : Board) → b .client .running ≡ Zero → (call : Call) → (sectorIn (readOf (call .datagram)) ≡ 1 → ⊥) → Low (getD (b .bank1) 0 0)
-    → Low (getD (firstOnly b (Datagram call) .board .bank1) 0 0)
-only-low b runs call free low =
-    split (λ (o : Outcome). Low (getD (o .board .bank1) 0 0)) (anyOf (b .client .received) && isPacket (readOf (call .datagram)))
-    (λ _. low) (λ _. low-stays b runs call free low)
+rest-alike : SameButBytes (rest image) (rest longer)
+unfolding rest calling
+rest-alike =
+    more-alike 1 512 Continued (reads-0 image image-size two-packets sectors-are) (reads-0 longer longer-size longer-packets longer-sectors)
+    (more-alike 2 512 End (reads-1 image image-size two-packets sectors-are) (reads-1 longer longer-size longer-packets longer-sectors) none-alike)
 
-acknowledged : (b : Board) (call : Call) → anyOf (b .client .received) ≡ true → isPacket (readOf (call .datagram)) ≡ true → firstOnly b (Datagram call) .board .bank1 ≡ b .bank1
-acknowledged b call e f = rw (e, f)
-
-only-client : (b : Board) (call : Call) → firstOnly b (Datagram call) .board .client ≡ stepMachine b (Datagram call) .board .client
-only-client b call =
-    split (λ (o : Outcome). o .board .client ≡ stepMachine b (Datagram call) .board .client) (anyOf (b .client .received) && isPacket (readOf (call .datagram)))
-    (λ _. refl) (λ _. refl)
-
-only-runs : (b : Board) (call : Call) → b .client .running ≡ Zero → firstOnly b (Datagram call) .board .client .running ≡ Zero
-only-runs b call e = ap (λ (c : Client). c .running) (only-client b call) ∙ machine-stays b (Datagram call) .runs ∙ e
-
--- what the witness sends
-abbrev start-call : Call
-start-call = calling (requestFrame (WriteStart One 2))
-
-abbrev packet-call : ℕ → Call
-packet-call p = calling (packetFrame image 2 p)
-
-abbrev end-call : Call
-end-call = calling (requestFrame WriteEnd)
-
-start-is : readOf (start-call .datagram) ≡ Control 0x40 8
-unfolding calling
-start-is = start-read One 2
-
-end-is : readOf (end-call .datagram) ≡ Control 0x45 0
-unfolding calling
-end-is = request-read WriteEnd
-
-packet-is : (p : ℕ) → p < 2 → readOf (packet-call p .datagram) ≡ Write (packetSector image 2 p) 512 (footerOf (packetCount image 2) p)
-unfolding calling
-packet-is p h = sym (packet-read image 2 p two-good image-size (omega (arith, two-packets)))
-
-free-of : (call : Call) (r : Read) → readOf (call .datagram) ≡ r → (sectorIn r ≡ 1 → ⊥) → sectorIn (readOf (call .datagram)) ≡ 1 → ⊥
-free-of call r e f x = f (sym (ap sectorIn e) ∙ x)
-
-start-free : sectorIn (readOf (start-call .datagram)) ≡ 1 → ⊥
-unfolding sectorIn
-start-free = free-of start-call (Control 0x40 8) start-is (λ x. absurd (omega arith))
-
-end-free : sectorIn (readOf (end-call .datagram)) ≡ 1 → ⊥
-unfolding sectorIn
-end-free = free-of end-call (Control 0x45 0) end-is (λ x. absurd (omega arith))
-
-second-free : sectorIn (readOf (packet-call 1 .datagram)) ≡ 1 → ⊥
-unfolding sectorIn
-second-free = free-of (packet-call 1) _ (packet-is 1 (omega arith)) (λ x. absurd (omega (arith, sectors-are .1)))
-
--- the board after the start, and after the first packet
-none-any : anyOf noneReceived ≡ false
-unfolding noneReceived
-none-any = refl
-
-one-any : anyOf (set noneReceived 1 true) ≡ true
-unfolding noneReceived
-one-any = refl
-
-abbrev started-board : Board
-started-board = stepMachine witness-board (Datagram start-call) .board
-
-started-received : started-board .client .received ≡ noneReceived
-unfolding witness-board calling
-started-received = ap (λ (o : Outcome). o .board .client .received) (begun-is witness-board ready start-call refl (lends (requestFrame (WriteStart One 2))))
-
-first-stored : stepMachine started-board (Datagram (packet-call 1)) .board .client .received ≡ set noneReceived 1 true
-unfolding witness-board calling
-first-stored =
-    ap (λ (o : Outcome). o .board .client .received)
-    (stored-is 2 Zero two-good image image-size 1 (omega (arith, two-packets)) started-board (allBlank 2)
-    (begun-busy witness-board ready start-call refl (lends (requestFrame (WriteStart One 2)))) (packet-call 1) refl (lends (packetFrame image 2 1)))
-    ∙ ap (λ (k : ℕ). set (started-board .client .received) (k - 1) true) (sectors-are .1)
-    ∙ ap (λ (l : List Bool). set l 1 true) started-received
-
-abbrev only-started : Board
-only-started = firstOnly witness-board (Datagram start-call) .board
-
-only-started-is : only-started ≡ started-board
-unfolding witness-board
-only-started-is =
-    ap (λ (t : Bool). cond (t && isPacket (readOf (start-call .datagram))) (unstored witness-board (stepMachine witness-board (Datagram start-call))) (stepMachine witness-board (Datagram start-call)) .board)
-    none-any
-
-abbrev only-one : Board
-only-one = firstOnly only-started (Datagram (packet-call 1)) .board
-
-one-received : anyOf (only-one .client .received) ≡ true
-one-received =
-    ap (λ (c : Client). anyOf (c .received)) (only-client only-started (packet-call 1))
-    ∙ ap (λ (b : Board). anyOf (stepMachine b (Datagram (packet-call 1)) .board .client .received)) only-started-is
-    ∙ ap anyOf first-stored
-    ∙ one-any
-
--- the packet of sector 1 is only acknowledged
-abbrev only-two : Board
-only-two = firstOnly only-one (Datagram (packet-call 0)) .board
-
-second-kept : only-two .bank1 ≡ only-one .bank1
-second-kept = acknowledged only-one (packet-call 0) one-received (ap isPacket (packet-is 0 (omega arith)))
-
-pub no-first-only : Meets2 firstOnly → ⊥
-unfolding witness-board sending
-no-first-only meets = by last-low
+pub no-first-only : (m : Machine) → FirstOnly m → Meets2 m → ⊥
+unfolding witness-board order sending calling rest
+no-first-only m only meets = not-same (sym (one .bank) ∙ same ∙ subst Leaves same-first (two .bank))
   where
-    started-low : Low (getD (only-started .bank1) 0 0)
-    started-low = only-low witness-board refl start-call start-free (inl refl)
+    start : Call
+    start = calling (requestFrame (WriteStart One 2))
 
-    started-runs : only-started .client .running ≡ Zero
-    started-runs = only-runs witness-board start-call refl
+    first : Call
+    first = calling (packetFrame image 2 1)
 
-    one-low : Low (getD (only-one .bank1) 0 0)
-    one-low = only-low only-started started-runs (packet-call 1) second-free started-low
+    end : Call
+    end = calling (requestFrame WriteEnd)
 
-    one-runs : only-one .client .running ≡ Zero
-    one-runs = only-runs only-started (packet-call 1) started-runs
+    one : Delivered m witness-board image (calling (requestFrame (WriteStart One 2))) order (sending image) (calling (requestFrame WriteEnd))
+    one = delivered m meets image fit two-packets
 
-    two-low : Low (getD (only-two .bank1) 0 0)
-    two-low = subst (λ (l : List ℕ). Low (getD l 0 0)) (sym second-kept) one-low
+    two : Delivered m witness-board longer (calling (requestFrame (WriteStart One 2))) order (sending longer) (calling (requestFrame WriteEnd))
+    two = delivered m meets longer longer-fit longer-packets
 
-    two-runs : only-two .client .running ≡ Zero
-    two-runs = only-runs only-one (packet-call 0) one-runs
+    handled : FirstHandled m witness-board start first
+    handled =
+        record {
+          begins = ap isBegin (one .started);
+          packet = ap isPacket (reads-1 image image-size two-packets sectors-are);
+          handled = taken-stored image 2 1 _ (first-taken image 2 1 _ _ _ (one .taken));
+        }
 
-    three : Board
-    three = firstOnly only-two (Datagram (packet-call 1)) .board
+    same : targetAfter m witness-board start first (rest image) end ≡ targetAfter m witness-board start first (rest longer) end
+    same = only witness-board start first end (rest image) (rest longer) handled refl rest-alike
 
-    three-low : Low (getD (three .bank1) 0 0)
-    three-low = only-low only-two two-runs (packet-call 1) second-free two-low
-
-    last-low : Low (getD (firstOnly three (Datagram end-call) .board .bank1) 0 0)
-    last-low = only-low three (only-runs only-two (packet-call 1) two-runs) end-call end-free three-low
-
-    is-four : getD (firstOnly three (Datagram end-call) .board .bank1) 0 0 ≡ 0x04
-    is-four = ap (λ (l : List ℕ). getD l 0 0) (delivered firstOnly meets .bank) ∙ first-byte
-
-    by : Low (getD (firstOnly three (Datagram end-call) .board .bank1) 0 0) → ⊥
-    by (inl e) = absurd (omega (arith, sym e ∙ is-four))
-    by (inr e) = absurd (omega (arith, sym e ∙ is-four))
+    Leaves : List ℕ → Type 0
+    Leaves datagram = targetAfter m witness-board start (calling datagram) (rest longer) end ≡ longer

@@ -20,7 +20,7 @@ use Rattle.client.specs.Answer.{answerBytes}
 use Rattle.client.proofs.Courses.{Course, still, begins, stores, ends, fits-stored, step-course}
 use Rattle.demands.specs.Board.{Board, Call, Input, Initiate, Terminate, Datagram, said, outcomes, lentTarget, called, stepMachine}
 use Rattle.demands.specs.Session.{allBlank, exchanged, shown, lately, lastAccepted}
-use Rattle.demands.proofs.Bytes.{quiet-begin, quiet-stored, response-begin, ended-begin, ended-stored, written-begin, written-stored}
+use Rattle.demands.proofs.Bytes.{quiet-begin, quiet-stored, response-begin, ended-begin, response-stored, written-begin, written-stored}
 use Rattle.demands.proofs.Sessions.{said-is}
 use Rattle.demands.proofs.Steps.{machine-stays}
 
@@ -56,7 +56,7 @@ module _ (n k : ℕ) (low : 1 ≤ k) (high : k ≤ n) where
           let whole : length image ≡ length (lentTarget b call) = at .size ∙ ap (λ (x : ℕ). x * sectorSize) (sym sectors) ∙ sym (h .whole) in
           rw (a, written-begin number 0x06 write (crcOf (paddedOf bytes)), written-stored number write (crcOf (paddedOf bytes)) v, h .reads)
           (put-at number (paddedOf bytes) (has-still whole (f .inside)) (length-padded bytes (f .short)))
-      step-at (ends result u a t x h) = rw (a, ended-begin result, ended-stored result) at
+      step-at (ends result u a t x h) = rw (a, ended-begin result, response-stored 0x75 result) at
 
       call-at : At n k (exchanged n image (call .datagram) (said (stepMachine b (Datagram call)))) (lately k sector (call .datagram) (said (stepMachine b (Datagram call))))
       call-at =

@@ -1,6 +1,8 @@
+pub mod Acknowledging
 pub mod Asking
 pub mod Banks
 pub mod Bytes
+pub mod Counting
 pub mod Demand1
 pub mod Demand2
 pub mod Demand3
@@ -12,6 +14,8 @@ pub mod Latest
 pub mod Lending
 pub mod Packets
 pub mod Reading
+pub mod Requests
+pub mod Responses
 pub mod Rows
 pub mod Sessions
 pub mod ShutOut

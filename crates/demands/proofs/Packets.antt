@@ -12,6 +12,8 @@ use Rattle.buffer.specs.Place.{frontOf}
 use Rattle.buffer.proofs.Bools.{and-left, and-right, and-both}
 use Rattle.buffer.proofs.Places.{front-take, front-drop}
 use Rattle.frame.specs.Read.{readOf, writtenOf}
+use Rattle.frame.specs.declared.read.Read.{Read}
+use Rattle.frame.specs.declared.read.Read.the-variants.{Fault, Control, Write}
 use Rattle.frame.proofs.Writing.{length-write}
 use Rattle.bank.specs.Layout.{goodN}
 use Rattle.sender.specs.declared.made.Made.{Made}
@@ -20,8 +22,7 @@ use Rattle.sender.specs.Made.{room, standing}
 use Rattle.sender.specs.Packet.{sectorOf, packetCount, packetSector, footerOf, packetFrame, imageGood, packetMade}
 use Rattle.sender.proofs.Image.{packet-read, packet-bytes}
 use Rattle.sender.proofs.Packets.{Sent, sent-in, sector-length}
-use Rattle.demands.specs.Packets.{Made·Out, Maker, Packet, MeetsSender, packetMaker, InventsNumber}
-use Rattle.demands.proofs.FirstOnly.{sectorIn}
+use Rattle.demands.specs.Packets.{Made·Out, Maker, Packet, MeetsPackets, packetMaker, InventsNumber}
 use Rattle.demands.proofs.Witness.{image, image-size, two-packets, two-good, sectors-are}
 
 module _ (img : List ℕ) (n p : ℕ) (before : List ℕ) (g : goodN n ≡ true) (l : (imageGood img n && leb room (length before)) ≡ true) where
@@ -62,7 +63,7 @@ module _ (img : List ℕ) (n p : ℕ) (before : List ℕ) (g : goodN n ≡ true)
           rest = ap (drop (length (packetFrame img n p))) buffer-is ∙ front-drop before (packetFrame img n p) (omega (arith, frame-long));
         }
 
-pub packets-meet : MeetsSender packetMaker
+pub packets-meet : MeetsPackets packetMaker
 unfolding packetMade
 packets-meet =
     record {
@@ -83,7 +84,12 @@ frame-size s t e = ap sizeOf e
     sizeOf PastLast = 0
     sizeOf (Frame k) = k
 
-pub no-inventor : (s : Maker) → InventsNumber s → MeetsSender s → ⊥
+sectorIn : Read → ℕ
+sectorIn Fault = 0
+sectorIn (Control code n) = 0
+sectorIn (Write sector m footer) = sector
+
+pub no-inventor : (s : Maker) → InventsNumber s → MeetsPackets s → ⊥
 unfolding sectorIn
 no-inventor s invents meets =
     let before : List ℕ = replicate 519 0 in

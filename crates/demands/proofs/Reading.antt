@@ -45,7 +45,8 @@ use Rattle.client.proofs.Courses.{accepted, answer-short}
 use Rattle.client.proofs.Planning.{lent, lent-buffer}
 use Rattle.demands.specs.Board.{Board, Call, Datagram, Outcome, said, lentTarget, stepMachine}
 use Rattle.demands.specs.Demand1.{Row, firstOf, responseCode, isFault, refused, answered, afterFrame, callRows}
-use Rattle.demands.specs.EndToEnd.{codeOf, spelled, Readable, MeetsRead}
+use Rattle.demands.specs.EndToEnd.{Readable, MeetsRead}
+use Rattle.demands.specs.Responses.{codeOf, spelled}
 use Rattle.demands.proofs.Demand1.{table}
 use Rattle.demands.proofs.Demand2.{said-back, control-short, written-short}
 use Rattle.demands.proofs.Rows.{given, comes}

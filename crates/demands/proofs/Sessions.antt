@@ -60,7 +60,7 @@ none-received : (i : ℕ) → i < 491 → getD noneReceived i false ≡ false
 unfolding noneReceived
 none-received i h = getD-replicate {A = Bool} 491 i false false h
 
-length-none : length noneReceived ≡ 491
+pub length-none : length noneReceived ≡ 491
 unfolding noneReceived
 length-none = length-replicate {A = Bool} 491 false
 

@@ -2,41 +2,46 @@
 -- Assumes nothing.
 use mathlib.Core.Path.{_≡_, refl, sym, ap, _∙_}
 use mathlib.Core.List.{List}
-use Prim.Native.Nat.{ℕ, _-_}
+use Prim.Native.Nat.{ℕ}
 use native.Mathlib.Omega.{arith}
 use lib.ListN.{getD}
 use Rattle.frame.specs.Read.{byteAt}
 use Rattle.bank.specs.declared.layout.Bank.the-variants.{One}
 use Rattle.sender.specs.declared.request.Request.the-variants.{WriteStart, WriteEnd}
+use Rattle.sender.specs.Packet.{packetCount}
 use Rattle.sender.specs.Request.{requestFrame}
 use Rattle.demands.specs.Board.{Machine}
-use Rattle.demands.specs.Demand2.{Delivered, Meets2}
+use Rattle.demands.specs.Demand2.{Fit, Delivered, Meets2}
 use Rattle.demands.specs.ShutOut.{RefusesAll, Fixed, NeverStores}
-use Rattle.demands.proofs.Witness.{image, witness-board, calling, order, sending, delivery, ready, image-size, image-fit}
+use Rattle.demands.proofs.Witness.{image, witness-board, calling, order, sending, delivery, ready, image-size, image-fit, two-packets}
 
--- what a machine that meets demand 2 does with the witness
-pub delivered : (m : Machine) → Meets2 m → Delivered m witness-board image (calling (requestFrame (WriteStart One 2))) order sending (calling (requestFrame WriteEnd))
+-- what a machine that meets demand 2 does with a fit image of two packets
+pub delivered : (m : Machine) → Meets2 m → (img : List ℕ) → Fit img 2 → packetCount img 2 ≡ 2
+    → Delivered m witness-board img (calling (requestFrame (WriteStart One 2))) order (sending img) (calling (requestFrame WriteEnd))
 unfolding witness-board
-delivered m meets = meets witness-board image ready (record { size = image-size; sound = image-fit }) _ _ _ _ delivery
+delivered m meets img fit two = meets witness-board img ready fit _ _ _ _ (delivery img two)
+
+pub fit : Fit image 2
+fit = record { size = image-size; sound = image-fit }
 
 pub no-refuser : (m : Machine) → RefusesAll m → Meets2 m → ⊥
-no-refuser m r meets = r _ _ (ap (λ (l : List ℕ). byteAt l 3) (delivered m meets .started))
+no-refuser m r meets = r _ _ (ap (λ (l : List ℕ). byteAt l 3) (delivered m meets image fit two-packets .started))
 
 pub no-fixed : (m : Machine) → Fixed m → Meets2 m → ⊥
 no-fixed m f meets =
-    let d = delivered m meets in
+    let d = delivered m meets image fit two-packets in
     let e = ap (λ (l : List ℕ). byteAt l 2) (sym (d .started) ∙ f .always _ _ ∙ sym (f .always _ _) ∙ d .ended) in
     absurd (omega (arith, e))
 
 -- the first byte of the image
-pub first-byte : getD image 0 0 ≡ 0x04
+first-byte : getD image 0 0 ≡ 0x04
 unfolding image
 first-byte = refl
 
 pub no-keeper : (m : Machine) → NeverStores m → Meets2 m → ⊥
 unfolding witness-board sending
 no-keeper m k meets =
-    let d = delivered m meets in
+    let d = delivered m meets image fit two-packets in
     let kept = k .one _ _ ∙ k .one _ _ ∙ k .one _ _ ∙ k .one _ _ ∙ k .one witness-board _ in
     let e = ap (λ (l : List ℕ). getD l 0 0) (sym kept ∙ d .bank) ∙ first-byte in
     absurd (omega (arith, e))

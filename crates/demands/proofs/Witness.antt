@@ -87,8 +87,8 @@ lends datagram =
 unfoldable pub order : List ℕ
 order = 1 ∷ 0 ∷ 1 ∷ []
 
-unfoldable pub sending : List Input
-sending = Datagram (calling (packetFrame image 2 1)) ∷ Datagram (calling (packetFrame image 2 0)) ∷ Datagram (calling (packetFrame image 2 1)) ∷ []
+unfoldable pub sending : List ℕ → List Input
+sending img = Datagram (calling (packetFrame img 2 1)) ∷ Datagram (calling (packetFrame img 2 0)) ∷ Datagram (calling (packetFrame img 2 1)) ∷ []
 
 each-sent : (p : ℕ) → p < 2 → List·Memᴰ p order
 unfolding order
@@ -96,17 +96,19 @@ each-sent zero h = List·Memᴰ·tail (List·Memᴰ·head refl)
 each-sent (suc zero) h = List·Memᴰ·head refl
 each-sent (suc (suc p)) h = absurd (omega arith)
 
-pub delivery : Delivery witness-board image (calling (requestFrame (WriteStart One 2))) order sending (calling (requestFrame WriteEnd))
+-- any image of two packets
+pub delivery : (img : List ℕ) → packetCount img 2 ≡ 2
+    → Delivery witness-board img (calling (requestFrame (WriteStart One 2))) order (sending img) (calling (requestFrame WriteEnd))
 unfolding witness-board calling order sending
-delivery =
+delivery img two =
     record {
       start-sent = refl;
       start-lends = lends (requestFrame (WriteStart One 2));
       packets =
-          more {p = 1} (omega (arith, two-packets)) refl (lends (packetFrame image 2 1))
-          (more {p = 0} (omega (arith, two-packets)) refl (lends (packetFrame image 2 0))
-          (more {p = 1} (omega (arith, two-packets)) refl (lends (packetFrame image 2 1)) none));
-      each = λ p h. each-sent p (omega (arith, two-packets));
+          more {p = 1} (omega (arith, two)) refl (lends (packetFrame img 2 1))
+          (more {p = 0} (omega (arith, two)) refl (lends (packetFrame img 2 0))
+          (more {p = 1} (omega (arith, two)) refl (lends (packetFrame img 2 1)) none));
+      each = λ p h. each-sent p (omega (arith, two));
       end-sent = refl;
       end-lends = lends (requestFrame WriteEnd);
     }
@@ -115,6 +117,6 @@ pub ready : Ready witness-board
 unfolding witness-board goodN
 ready = record { good = refl; control = refl; zero = length-replicate {A = ℕ} 1024 0; one = length-replicate {A = ℕ} 1024 0 }
 
-pub witness : Delivered stepMachine witness-board image (calling (requestFrame (WriteStart One 2))) order sending (calling (requestFrame WriteEnd))
+pub witness : Delivered stepMachine witness-board image (calling (requestFrame (WriteStart One 2))) order (sending image) (calling (requestFrame WriteEnd))
 unfolding witness-board
-witness = demand2 witness-board image ready (record { size = image-size; sound = image-fit }) _ _ _ _ delivery
+witness = demand2 witness-board image ready (record { size = image-size; sound = image-fit }) _ _ _ _ (delivery image two-packets)

@@ -5,15 +5,12 @@
 use mathlib.Core.Path.{_≡_}
 use mathlib.Core.Logic.{_⊎_}
 use mathlib.Core.Bool.{true}
-use mathlib.Core.List.{List, [], _∷_, _++_}
+use mathlib.Core.List.{List, [], _∷_}
 use Prim.Native.Nat.{ℕ, _+_, _-_, _*_, _^_, _≤_, _<_}
 use lib.ListN.{length, getD, drop}
-use Rattle.buffer.specs.Number.{bytesOf}
-use Rattle.frame.specs.Frame.{controlFrame, writeFrame}
 use Rattle.frame.specs.Read.{byteAt}
-use Rattle.frame.specs.declared.read.Footer.the-variants.{End}
 use Rattle.bank.specs.declared.layout.Bank.{Bank}
-use Rattle.bank.specs.Layout.{sectorSize, bankNumber, otherOf, startOf}
+use Rattle.bank.specs.Layout.{sectorSize, otherOf, startOf}
 use Rattle.hex.specs.declared.read.Answer.the-variants.{Accepted}
 use Rattle.hex.specs.declared.record.Found.the-variants.{Data}
 use Rattle.hex.specs.Digit.{bytesOf as digitsOf}
@@ -21,16 +18,12 @@ use Rattle.hex.specs.Line.{lines}
 use Rattle.hex.specs.Meaning.{saysAt}
 use Rattle.hex.specs.Read.{fresh, readOf}
 use Rattle.hex.specs.Record.{dataOf}
-use Rattle.sender.specs.declared.response.Kind.{Kind}
-use Rattle.sender.specs.declared.response.Kind.the-variants.{ModeStart, BankInfo, Version, WriteStart, Packet, WriteEnd, ModeEnd, Error}
-use Rattle.sender.specs.declared.response.Response.{Response}
-use Rattle.sender.specs.declared.response.Response.the-variants.{Unreadable, Plain, Target, Firmware, Written}
-use Rattle.sender.specs.Response.{responseOf, responseNumber}
-use Rattle.client.specs.Answer.{writtenBytes}
+use Rattle.sender.specs.Response.{responseOf}
 use Rattle.client.specs.Perform.{fitOf}
 use Rattle.client.specs.Step.{targetOf}
 use Rattle.demands.specs.Board.{Board, Call, Input, Datagram, said, Machine, after}
 use Rattle.demands.specs.Demand2.{Ready, Delivery}
+use Rattle.demands.specs.Responses.{ReadBack}
 
 -- ---- the text's bytes at their addresses
 
@@ -61,27 +54,8 @@ MeetsText m =
 
 -- ---- answers, read
 
-abbrev pub codeOf : Kind → ℕ
-codeOf ModeStart = 0x71
-codeOf BankInfo = 0x72
-codeOf Version = 0x78
-codeOf WriteStart = 0x70
-codeOf Packet = 0
-codeOf WriteEnd = 0x75
-codeOf ModeEnd = 0x74
-codeOf Error = 0xE0
-
--- a response written out again
-abbrev pub spelled : Response → List ℕ
-spelled Unreadable = []
-spelled (Plain kind result) = controlFrame (codeOf kind) (result ∷ [])
-spelled (Target bank) = controlFrame 0x72 (0x06 ∷ bankNumber bank ∷ [])
-spelled (Firmware id major minor revision) = controlFrame 0x78 (0x06 ∷ bytesOf 2 id ++ major ∷ minor ∷ bytesOf 4 revision)
-spelled (Written sector response write crc) = writeFrame sector (writtenBytes response write crc) End
-
-pub record Readable (answer : List ℕ) : Type 0 where
-  pub number : responseNumber (responseOf answer) ≡ 0
-  pub whole : spelled (responseOf answer) ≡ answer
+abbrev pub Readable : List ℕ → Type 0
+Readable answer = ReadBack answer (responseOf answer)
 
 -- what the machine's types say: a datagram's bytes are bytes, the record's revision has 32 bits
 abbrev pub MeetsRead : Machine → Type 0

@@ -1,5 +1,6 @@
 pub mod Banks
 pub mod Board
+pub mod Counting
 pub mod Demand1
 pub mod Demand2
 pub mod Demand3
@@ -8,6 +9,8 @@ pub mod EndToEnd
 pub mod Examples
 pub mod Fresh
 pub mod Packets
+pub mod Requests
+pub mod Responses
 pub mod Session
 pub mod ShutOut
 pub mod Texts

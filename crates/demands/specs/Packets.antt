@@ -36,7 +36,7 @@ pub record Packet (image : List ℕ) (n p : ℕ) (before : List ℕ) (o : Made·
   pub rest : drop size (o .buffer) ≡ drop size before
 
 -- 3, 2, 5, and then the packet
-pub record MeetsSender (s : Maker) : Type 0 where
+pub record MeetsPackets (s : Maker) : Type 0 where
   pub bad-n : (image : List ℕ) (n p : ℕ) (before : List ℕ) → goodN n ≡ false → s image n p before ≡ out BadN before
   pub bad-length : (image : List ℕ) (n p : ℕ) (before : List ℕ) → goodN n ≡ true → (imageGood image n && leb room (length before)) ≡ false
       → s image n p before ≡ out BadLength before

@@ -1,0 +1,35 @@
+-- What is asked of a counter of packets, whatever it is (01, 'Hex text', "The sender sends, lowest first"; 'What comes back when it is no',
+-- "Sender: 3, 2, 5").
+-- Assumes nothing.
+use mathlib.Core.Path.{_≡_}
+use mathlib.Core.Bool.{true, false}
+use mathlib.Core.List.{List}
+use Prim.Native.Nat.{ℕ, suc, _*_}
+use lib.ListN.{length}
+use Rattle.flash.specs.Bank.{blankSector}
+use Rattle.bank.specs.Layout.{sectorSize, goodN}
+use Rattle.sender.specs.declared.packet.Tally.{Tally}
+use Rattle.sender.specs.declared.packet.Tally.the-variants.{BadN, BadLength, Packets}
+use Rattle.sender.specs.Packet.{sectorOf}
+
+-- image, N
+abbrev pub Counter : Type 0
+Counter = List ℕ → ℕ → Tally
+
+-- of the first k sectors, so many have a byte other than 0xFF
+pub data Used (image : List ℕ) : ℕ → ℕ → Type 0 where
+  none-used : Used image 0 0
+  blank-one : {k count : ℕ} → sectorOf image (suc k) ≡ blankSector → Used image k count → Used image (suc k) count
+  used-one : {k count : ℕ} → (sectorOf image (suc k) ≡ blankSector → ⊥) → Used image k count → Used image (suc k) (suc count)
+
+-- they are counted
+pub record Counted (image : List ℕ) (n : ℕ) (answer : Tally) : Type 0 where
+  pub count : ℕ
+  pub counts : answer ≡ Packets count
+  pub used : Used image n count
+
+-- 3, 2, and then the number of packets
+pub record MeetsCounter (s : Counter) : Type 0 where
+  pub bad-n : (image : List ℕ) (n : ℕ) → goodN n ≡ false → s image n ≡ BadN
+  pub bad-length : (image : List ℕ) (n : ℕ) → goodN n ≡ true → (length image ≡ sectorSize * n → ⊥) → s image n ≡ BadLength
+  pub counted : (image : List ℕ) (n : ℕ) → goodN n ≡ true → length image ≡ sectorSize * n → Counted image n (s image n)

@@ -1,0 +1,36 @@
+-- What is asked of a maker of requests, whatever it is (01, 'The client, step by step', the table of codes; 'What comes back when it is no',
+-- "Sender: 3, 2, 5").
+-- Assumes nothing.
+use mathlib.Core.Path.{_≡_}
+use mathlib.Core.Bool.{true, false}
+use mathlib.Core.List.{List}
+use Prim.Native.Nat.{ℕ, _≤_, _<_}
+use lib.ListN.{length, take, drop}
+use Rattle.bank.specs.declared.layout.Bank.{Bank}
+use Rattle.bank.specs.Layout.{goodN}
+use Rattle.sender.specs.declared.made.Made.the-variants.{BadN, BadLength, Frame}
+use Rattle.sender.specs.declared.request.Request.{Request}
+use Rattle.sender.specs.declared.request.Request.the-variants.{WriteStart}
+use Rattle.sender.specs.Made.{room, standing}
+use Rattle.sender.specs.Request.{requestFrame, givenGood, requestMade}
+use Rattle.demands.specs.Packets.{Made·Out, out}
+
+-- request, buffer
+abbrev pub Asker : Type 0
+Asker = Request → List ℕ → Made·Out
+
+-- a request as it should be: its frame at the front, and the rest stays
+pub record Asked (request : Request) (before : List ℕ) (o : Made·Out) : Type 0 where
+  pub made : o .answer ≡ Frame (length (requestFrame request))
+  pub front : take (length (requestFrame request)) (o .buffer) ≡ requestFrame request
+  pub rest : drop (length (requestFrame request)) (o .buffer) ≡ drop (length (requestFrame request)) before
+
+-- 3 where a write start is given a bad N, then 2 where there is no room, and then the request
+pub record MeetsRequests (s : Asker) : Type 0 where
+  pub bad-n : (bank : Bank) (n : ℕ) (before : List ℕ) → goodN n ≡ false → s (WriteStart bank n) before ≡ out BadN before
+  pub bad-length : (request : Request) (before : List ℕ) → givenGood request ≡ true → length before < room → s request before ≡ out BadLength before
+  pub request : (request : Request) (before : List ℕ) → givenGood request ≡ true → room ≤ length before → Asked request before (s request before)
+
+-- the maker of the contracts
+abbrev pub requestMaker : Asker
+requestMaker request before = out (requestMade request (length before)) (standing (requestMade request (length before)) before (requestFrame request))
