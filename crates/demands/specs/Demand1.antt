@@ -174,7 +174,7 @@ packetWorn b call Fault = answered b call []
 packetWorn b call (Control code n) = answered b call []
 packetWorn b call (Write sector m footer) = answered b call (writeFrame sector (writtenBytes 0x06 0x1C 0) End)
 
--- what was "not received in this session" is 0xFF
+-- what was not received since the write start is 0xFF
 abbrev pub sweptTarget : Board → Call → List ℕ
 sweptTarget b call = sweptOf (lentTarget b call) (b .client .n) (b .client .received)
 
