@@ -6,7 +6,7 @@ use Prim.Native.Nat.{ℕ, _+_, _-_, _*_, _/_, _%_, _≤_, _<_}
 use native.Mathlib.Nat.{mul-comm}
 use native.Mathlib.Omega.{arith}
 use lib.Dec.{eqb, leb}
-use borrow.Author.Tests.{eq-eqb, ne-eqb, le-leb, lt-leb, leb-true, eqb-true}
+use borrow.Author.Tests.{eq-eqb, ne-eqb, le-leb, lt-leb, leb-true}
 use Rattle.buffer.proofs.Bools.{and-left, and-right, and-both}
 use Rattle.bank.specs.declared.layout.Bank.{Bank}
 use Rattle.bank.specs.declared.layout.Bank.the-variants.{Zero, One}
@@ -40,11 +40,6 @@ module _ (n : ℕ) where
   pub good-below : goodN n ≡ true → (k : ℕ) → 1 ≤ k → k ≤ n → goodN k ≡ true
   unfolding goodN
   good-below e k l h = and-both (leb 1 k) (leb k 491) (le-leb 1 k l) (le-leb k 491 (omega (arith, good-high e)))
-
-  -- what the length of a bank tells
-  pub whole-sectors : wholeLength n ≡ true → n / 512 * 512 ≡ n
-  unfolding wholeLength
-  whole-sectors e = let z : n % 512 ≡ 0 = eqb-true (n % 512) 0 (and-left (eqb (n % 512) 0) (goodN (n / 512)) e) in omega arith
 
   pub whole-good : wholeLength n ≡ true → goodN (n / 512) ≡ true
   unfolding wholeLength

@@ -9,7 +9,7 @@ use lib.ListN.{length, take, drop, length-replicate, getD-replicate, replicate-a
 use lib.Seq.{ext-getD, getD-take, getD-drop}
 use borrow.Author.Tests.{not-true}
 use Rattle.buffer.specs.Compare.{blankOf}
-use Rattle.buffer.proofs.Comparing.{blank-true, blank-filled}
+use Rattle.buffer.proofs.Comparing.{blank-true}
 use Rattle.flash.specs.Sector.{sectorBytes, blanks, erasedOf, paddedOf}
 use Rattle.flash.specs.Bank.{startOf, hasSector, sectorOf, blankSector, blankAt, SectorBlank·Is}
 use Rattle.flash.proofs.Sectors.{Has, has, length-sector, lent-out}
@@ -18,14 +18,6 @@ pub length-blanks : (n : ℕ) → length (blanks n) ≡ n
 length-blanks n = length-replicate n 0xFF
 
 -- ---- a blank sector
-
-pub length-blank : length blankSector ≡ sectorBytes
-unfolding blankSector
-length-blank = length-blanks sectorBytes
-
-pub blank-sector : blankOf blankSector ≡ true
-unfolding blankSector
-blank-sector = blank-filled sectorBytes
 
 -- a sector of which every byte is 0xFF
 pub blank-whole : (sector : List ℕ) → length sector ≡ sectorBytes → blankOf sector ≡ true → sector ≡ blankSector
@@ -66,10 +58,6 @@ module _ (bank : List ℕ) (k : ℕ) where
   pub blank-here : Has (length bank) k → blankAt bank k ≡ blankOf (sectorOf bank k)
   unfolding blankAt
   blank-here h = rw (has (length bank) k h)
-
-  -- what it tells
-  pub blank-told : Has (length bank) k → blankAt bank k ≡ true → sectorOf bank k ≡ blankSector
-  blank-told h e = blank-whole (sectorOf bank k) (length-sector bank k h) (sym (blank-here h) ∙ e)
 
   -- each way out of it
   pub blank-outside : (r : Bool) → r ≡ hasSector (length bank) k → not r ≡ true → SectorBlank·Is bank k true
