@@ -16,28 +16,19 @@ use Rattle.client.specs.declared.command.Command.the-variants.{ModeStart
 use Rattle.client.specs.declared.record.State.{State}
 use Rattle.client.specs.declared.record.State.the-variants as state
 
--- the table's second column
-abbrev pub wantedOf : Command → ℕ
-wantedOf ModeStart = 0
-wantedOf BankInfo = 0
-wantedOf VersionInfo = 0
-wantedOf WriteStart = 8
-wantedOf WriteEnd = 0
-wantedOf ModeEnd = 0
-wantedOf (Packet sector length) = 0
+-- "parameter length (control)": as many bytes as the request wants, or others
+abbrev pub counted : Command → ℕ → ℕ → Asked
+counted command wanted parameters = cond (eqb parameters wanted) (Right command) (WrongLength command)
 
-abbrev pub counted : Command → ℕ → Asked
-counted command parameters = cond (eqb parameters (wantedOf command)) (Right command) (WrongLength command)
-
--- the table's first column: "one of the six requests", and then "parameter length (control)"
+-- the table's first two columns: "one of the six requests", and the bytes of its parameters
 unfoldable pub byCode : ℕ → ℕ → Asked
 byCode code parameters =
-    cond (eqb code 0x61) (counted ModeStart parameters)
-    (cond (eqb code 0x62) (counted BankInfo parameters)
-    (cond (eqb code 0x68) (counted VersionInfo parameters)
-    (cond (eqb code 0x40) (counted WriteStart parameters)
-    (cond (eqb code 0x45) (counted WriteEnd parameters)
-    (cond (eqb code 0x64) (counted ModeEnd parameters) NoRequest)))))
+    cond (eqb code 0x61) (counted ModeStart 0 parameters)
+    (cond (eqb code 0x62) (counted BankInfo 0 parameters)
+    (cond (eqb code 0x68) (counted VersionInfo 0 parameters)
+    (cond (eqb code 0x40) (counted WriteStart 8 parameters)
+    (cond (eqb code 0x45) (counted WriteEnd 0 parameters)
+    (cond (eqb code 0x64) (counted ModeEnd 0 parameters) NoRequest)))))
 
 -- "The client reads both footers alike"
 unfoldable pub askedBy : Read → Asked

@@ -3,7 +3,7 @@ use crate::answer::Answer;
 use crate::record::State;
 use frame::read::Read;
 ghost use mathlib.Core.Path.{_≡_};
-ghost use Rattle.client.specs.Command.{wantedOf, counted, byCode, askedOf, fitsState, declinedOf};
+ghost use Rattle.client.specs.Command.{counted, byCode, askedOf, fitsState, declinedOf};
 
 pub(crate) enum Command {
     ModeStart,
@@ -24,28 +24,11 @@ pub(crate) enum Asked {
     Right(Command),
 }
 
-// How many bytes of parameters a request has.
-fn wanted(command: Command) -> usize
-    ensures { λ r. ⌜ r ≡ wantedOf command ⌝ }
+// A request with as many bytes of parameters as it wants, or with others.
+fn counted_as(command: Command, wanted: usize, parameters: usize) -> Asked
+    ensures { λ r. ⌜ r ≡ counted command wanted parameters ⌝ }
 {
-    match command {
-        Command::ModeStart => 0,
-        Command::BankInfo => 0,
-        Command::VersionInfo => 0,
-        Command::WriteStart => 8,
-        Command::WriteEnd => 0,
-        Command::ModeEnd => 0,
-        Command::Packet {
-            sector: _,
-            length: _,
-        } => 0,
-    }
-}
-
-fn counted_as(command: Command, parameters: usize) -> Asked
-    ensures { λ r. ⌜ r ≡ counted command parameters ⌝ }
-{
-    if parameters == wanted(command) {
+    if parameters == wanted {
         Asked::Right(command)
     } else {
         Asked::WrongLength(command)
@@ -56,22 +39,22 @@ fn by_code(code: u8, parameters: usize) -> Asked
     ensures { λ r. ⌜ r ≡ byCode code parameters ⌝ }
 {
     if code == 0x61 {
-        return counted_as(Command::ModeStart, parameters);
+        return counted_as(Command::ModeStart, 0, parameters);
     }
     if code == 0x62 {
-        return counted_as(Command::BankInfo, parameters);
+        return counted_as(Command::BankInfo, 0, parameters);
     }
     if code == 0x68 {
-        return counted_as(Command::VersionInfo, parameters);
+        return counted_as(Command::VersionInfo, 0, parameters);
     }
     if code == 0x40 {
-        return counted_as(Command::WriteStart, parameters);
+        return counted_as(Command::WriteStart, 8, parameters);
     }
     if code == 0x45 {
-        return counted_as(Command::WriteEnd, parameters);
+        return counted_as(Command::WriteEnd, 0, parameters);
     }
     if code == 0x64 {
-        return counted_as(Command::ModeEnd, parameters);
+        return counted_as(Command::ModeEnd, 0, parameters);
     }
     Asked::NoRequest
 }

@@ -126,13 +126,12 @@ impl Client {
     fn plan_start(self, datagram: &[u8]) -> Plan
         ensures { λ r. ⌜ r ≡ planStart self (now (datagram .entry)) ⌝ }
     {
-        let n = self.n;
         let running = self.running;
         let target = bank::layout::other(running);
         if buffer::number::number4(datagram, 3) != bank::layout::start_address(target) {
             return Plan::Keep(crate::command::declined(Command::WriteStart, 0x05));
         }
-        if buffer::number::number4(datagram, 7) != bank::layout::end_address(target, n) {
+        if buffer::number::number4(datagram, 7) != bank::layout::end_address(target, self.n) {
             return Plan::Keep(crate::command::declined(Command::WriteStart, 0x05));
         }
         Plan::Begin
@@ -143,12 +142,8 @@ impl Client {
         requires { ⌜ length (now marks) ≡ self .n ⌝ }
         ensures { λ r. ⌜ r ≡ planCommand self command (now (marks .entry)) (now (datagram .entry)) ⌝ }
     {
-        let n = self.n;
         let state = self.state;
         let running = self.running;
-        let major = self.major;
-        let minor = self.minor;
-        let revision = self.revision;
         if !crate::command::fits_state(state, command) {
             return Plan::Keep(crate::command::declined(command, 0x15));
         }
@@ -156,14 +151,14 @@ impl Client {
             Command::ModeStart => Plan::Open,
             Command::BankInfo => Plan::Keep(Answer::BankIs(bank::layout::other(running))),
             Command::VersionInfo => Plan::Keep(Answer::VersionIs {
-                major,
-                minor,
-                revision,
+                major: self.major,
+                minor: self.minor,
+                revision: self.revision,
             }),
             Command::WriteStart => self.plan_start(datagram),
             Command::WriteEnd => plan_end(marks),
             Command::ModeEnd => Plan::Close,
-            Command::Packet { sector, length } => plan_packet(n, marks, sector, length),
+            Command::Packet { sector, length } => plan_packet(self.n, marks, sector, length),
         }
     }
 
@@ -194,12 +189,11 @@ impl Client {
     ) -> Plan
         ensures { λ r. ⌜ r ≡ planOf self bank0 bank1 (now (marks .entry)) address buffer (now (datagram .entry)) ⌝ }
     {
-        let n = self.n;
         let state = self.state;
-        if !bank::layout::good_n(n) {
+        if !bank::layout::good_n(self.n) {
             return Plan::Keep(Answer::Refused(Refusal::BadN));
         }
-        if !lent_good(n, bank0, bank1, marks.len(), address, buffer) {
+        if !lent_good(self.n, bank0, bank1, marks.len(), address, buffer) {
             return Plan::Keep(Answer::Refused(Refusal::BadLength));
         }
         if crate::host::is_closed(state) {
