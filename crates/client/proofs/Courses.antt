@@ -3,8 +3,8 @@
 use mathlib.Core.Path.{_≡_, refl, sym, ap, ap₂, _∙_}
 use mathlib.Core.Logic.{_⊎_, inl, inr}
 use mathlib.Core.Bool.{Bool, true, false, not, _&&_, _||_, false≢true}
-use mathlib.Core.List.{List, [], _∷_}
-use Prim.Native.Nat.{ℕ, _-_, _*_, _%_, _≤_}
+use mathlib.Core.List.{List}
+use Prim.Native.Nat.{ℕ, _*_, _%_, _≤_}
 use native.Mathlib.Omega.{arith}
 use lib.Dec.{eqb, leb}
 use lib.ListN.{length}
@@ -13,9 +13,6 @@ use Rattle.buffer.specs.Compare.{blankOf}
 use Rattle.buffer.proofs.Bools.{split, and-left, and-right}
 use Rattle.crc.specs.Crc.{crcOf}
 use Rattle.frame.specs.Read.{writtenOf}
-use Rattle.frame.specs.Write.{putControl, putWrite}
-use Rattle.frame.specs.Frame.{frameError}
-use Rattle.frame.specs.declared.read.Footer.the-variants.{End}
 use Rattle.buffer.specs.Place.{frontOf}
 use Rattle.flash.specs.Bank.{writtenAt, alreadyAt, sweptOf}
 use Rattle.flash.specs.Sector.{paddedOf}
@@ -23,15 +20,15 @@ use Rattle.flash.proofs.Sweeps.{length-sweep}
 use Rattle.flash.proofs.Writes.{FitsAt, length-written, written-here}
 use Rattle.bank.specs.declared.layout.Bank.{Bank}
 use Rattle.bank.specs.declared.layout.Bank.the-variants.{Zero, One}
-use Rattle.bank.specs.Layout.{sectorSize, goodN, bankNumber}
+use Rattle.bank.specs.Layout.{sectorSize, goodN}
 use Rattle.client.specs.declared.answer.Answer.{Answer}
-use Rattle.client.specs.declared.answer.Answer.the-variants.{Refused, FrameError, Response, BankIs, VersionIs, Written}
+use Rattle.client.specs.declared.answer.Answer.the-variants.{Response, Written}
 use Rattle.client.specs.declared.plan.Plan.{Plan}
 use Rattle.client.specs.declared.plan.Plan.the-variants.{Keep, Open, Close, Begin, Store, Wear, Finish}
 use Rattle.client.specs.declared.record.Client.{Client}
 use Rattle.client.specs.declared.record.State.{State}
 use Rattle.client.specs.declared.record.State.the-variants as state
-use Rattle.client.specs.Answer.{versionBytes, writtenBytes, answerBytes}
+use Rattle.client.specs.Answer.{answerBytes}
 use Rattle.client.specs.Command.{askedOf}
 use Rattle.client.specs.Plan.{lentGood, valuesGood, planAsked, planOf}
 use Rattle.client.specs.Perform.{fitOf, Accepted, storeResult, sectorCrc, Done, storeOf, checkedOf, servedOf}
@@ -39,7 +36,7 @@ use Rattle.client.specs.Host.{isClosed}
 use Rattle.client.specs.Record.{Stays, noneReceived, marked}
 use Rattle.client.specs.Step.{noticeOf, Carried, carriedOf, saidOf, targetOf, planned, stepOf}
 use Rattle.client.proofs.Planning.{values-low, values-high}
-use Rattle.client.proofs.Saying.{say-refused, say-error, say-response, say-bank, say-version, say-written}
+use Rattle.client.proofs.Saying.{answer-short}
 use Rattle.client.proofs.Leading.{Quiet, Storing, Beginning, Finishing, Leads, leads}
 
 -- ---- a packet that is stored fits its sector
@@ -71,22 +68,6 @@ fits-stored c target datagram sector m s =
       short = omega arith;
       words = ap (λ (x : ℕ). x % 4) sent ∙ words;
     }
-
--- ---- how long an answer is
-
-pub answer-short : (answer : Answer) → length (answerBytes answer) ≤ 14
-answer-short (Refused why) = omega (arith, say-refused [] why .told)
-answer-short FrameError = omega (arith, say-error [] (frontOf [] frameError) refl .told)
-answer-short (Response code result) = omega (arith, say-response [] (putControl [] code (result ∷ [])) code result refl .told)
-answer-short (BankIs bank) = omega (arith, say-bank [] (putControl [] 0x72 (0x06 ∷ bankNumber bank ∷ [])) bank (bankNumber bank) refl refl .told)
-answer-short (VersionIs major minor revision) =
-    omega (arith, say-version [] (putControl [] 0x78 (versionBytes major minor revision)) major minor revision (versionBytes major minor revision) refl refl .told)
-answer-short (Written sector result write crc) =
-    omega (arith, say-written [] (putWrite [] sector (writtenBytes result write crc) End) sector result write crc (writtenBytes result write crc) refl refl .told)
-
-pub written-long : (sector result write crc : ℕ) → length (answerBytes (Written sector result write crc)) ≡ 13
-written-long sector result write crc =
-    sym (say-written [] (putWrite [] sector (writtenBytes result write crc) End) sector result write crc (writtenBytes result write crc) refl refl .told)
 
 -- ---- one target
 

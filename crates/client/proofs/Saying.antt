@@ -1,8 +1,8 @@
--- Each way out of the saying of an answer, and the fields of the longer ones.
+-- How long an answer is, and each way out of the saying of one.
 -- Assumes nothing.
 use mathlib.Core.Path.{_≡_, refl, sym, ap, _∙_}
-use mathlib.Core.List.{List, [], _∷_, _++_}
-use Prim.Native.Nat.{ℕ, _+_, _≤_}
+use mathlib.Core.List.{List, [], _∷_}
+use Prim.Native.Nat.{ℕ, _≤_}
 use native.Mathlib.Omega.{arith}
 use lib.ListN.{length}
 use Rattle.buffer.specs.Number.{bytesOf}
@@ -15,23 +15,37 @@ use Rattle.frame.specs.declared.read.Footer.the-variants.{End}
 use Rattle.frame.proofs.Writing.{control-fits, write-fits, length-control, length-write}
 use Rattle.bank.specs.Layout.{bankNumber}
 use Rattle.bank.specs.declared.layout.Bank.{Bank}
+use Rattle.client.specs.declared.answer.Answer.{Answer}
 use Rattle.client.specs.declared.answer.Answer.the-variants.{Refused, FrameError, Response, BankIs, VersionIs, Written}
 use Rattle.client.specs.declared.answer.Refusal.{Refusal}
 use Rattle.client.specs.Answer.{versionBytes, writtenBytes, answerBytes, Say}
 
--- ---- fields
+-- ---- how long an answer is
 
-length-version : (major minor revision : ℕ) → length (versionBytes major minor revision) ≡ 9
-length-version major minor revision = omega (arith, length-bytes 4 revision)
+response-long : (code result : ℕ) → length (answerBytes (Response code result)) ≡ 6
+unfolding answerBytes
+response-long code result = length-control code (result ∷ [])
 
-length-written : (result write crc : ℕ) → length (writtenBytes result write crc) ≡ 6
-length-written result write crc = omega (arith, length-bytes 4 crc)
+bank-long : (bank : Bank) → length (answerBytes (BankIs bank)) ≡ 7
+unfolding answerBytes
+bank-long bank = length-control 0x72 (0x06 ∷ bankNumber bank ∷ [])
 
-pub version-put : (major minor revision : ℕ) → placeOf (0x06 ∷ 0x04 ∷ 0x00 ∷ major ∷ minor ∷ 0 ∷ 0 ∷ 0 ∷ 0 ∷ []) 5 (bytesOf 4 revision) ≡ versionBytes major minor revision
-version-put major minor revision = place-last (0x06 ∷ 0x04 ∷ 0x00 ∷ major ∷ minor ∷ []) (0 ∷ 0 ∷ 0 ∷ 0 ∷ []) (bytesOf 4 revision) (length-bytes 4 revision)
+version-long : (major minor revision : ℕ) → length (answerBytes (VersionIs major minor revision)) ≡ 14
+unfolding answerBytes
+version-long major minor revision = omega (arith, length-control 0x78 (versionBytes major minor revision), length-bytes 4 revision)
 
-pub written-put : (result write crc : ℕ) → placeOf (result ∷ write ∷ 0 ∷ 0 ∷ 0 ∷ 0 ∷ []) 2 (bytesOf 4 crc) ≡ writtenBytes result write crc
-written-put result write crc = place-last (result ∷ write ∷ []) (0 ∷ 0 ∷ 0 ∷ 0 ∷ []) (bytesOf 4 crc) (length-bytes 4 crc)
+pub written-long : (sector result write crc : ℕ) → length (answerBytes (Written sector result write crc)) ≡ 13
+unfolding answerBytes
+written-long sector result write crc = omega (arith, length-write sector (writtenBytes result write crc) End, length-bytes 4 crc)
+
+pub answer-short : (answer : Answer) → length (answerBytes answer) ≤ 14
+unfolding answerBytes
+answer-short (Refused why) = omega arith
+answer-short FrameError = omega arith
+answer-short (Response code result) = omega (arith, response-long code result)
+answer-short (BankIs bank) = omega (arith, bank-long bank)
+answer-short (VersionIs major minor revision) = omega (arith, version-long major minor revision)
+answer-short (Written sector result write crc) = omega (arith, written-long sector result write crc)
 
 -- ---- each way out
 
@@ -48,34 +62,34 @@ module _ (before : List ℕ) where
     pub say-response : (code result : ℕ) → after ≡ putControl before code (result ∷ []) → Say (Response code result) before after 6
     unfolding answerBytes
     say-response code result e =
-        record { said = e ∙ control-fits before code (result ∷ []) (omega arith); told = sym (length-control code (result ∷ [])) }
+        record { said = e ∙ control-fits before code (result ∷ []) (omega arith); told = sym (response-long code result) }
 
     pub say-bank : (bank : Bank) (number : ℕ) → number ≡ bankNumber bank → after ≡ putControl before 0x72 (0x06 ∷ number ∷ []) → Say (BankIs bank) before after 7
     unfolding answerBytes
     say-bank bank number b e =
-        let f : List ℕ = 0x06 ∷ bankNumber bank ∷ [] in
         record {
-          said = e ∙ ap (λ (n : ℕ). putControl before 0x72 (0x06 ∷ n ∷ [])) b ∙ control-fits before 0x72 f (omega arith);
-          told = sym (length-control 0x72 f);
+          said = e ∙ ap (λ (n : ℕ). putControl before 0x72 (0x06 ∷ n ∷ [])) b ∙ control-fits before 0x72 (0x06 ∷ bankNumber bank ∷ []) (omega arith);
+          told = sym (bank-long bank);
         }
 
-    pub say-version : (major minor revision : ℕ) (fields : List ℕ) → fields ≡ versionBytes major minor revision → after ≡ putControl before 0x78 fields
-        → Say (VersionIs major minor revision) before after 14
+    pub say-version : (major minor revision : ℕ) (fields : List ℕ) → fields ≡ placeOf (0x06 ∷ 0x04 ∷ 0x00 ∷ major ∷ minor ∷ 0 ∷ 0 ∷ 0 ∷ 0 ∷ []) 5 (bytesOf 4 revision)
+        → after ≡ putControl before 0x78 fields → Say (VersionIs major minor revision) before after 14
     unfolding answerBytes
     say-version major minor revision fields f e =
-        let v : List ℕ = versionBytes major minor revision in
-        let n : length v ≡ 9 = length-version major minor revision in
-        let m : length v + 5 ≡ 14 = omega arith in
-        record { said = e ∙ ap (putControl before 0x78) f ∙ control-fits before 0x78 v (omega arith); told = sym (length-control 0x78 v ∙ m) }
+        let n = length-bytes 4 revision in
+        let put = f ∙ place-last (0x06 ∷ 0x04 ∷ 0x00 ∷ major ∷ minor ∷ []) (0 ∷ 0 ∷ 0 ∷ 0 ∷ []) (bytesOf 4 revision) n in
+        record {
+          said = e ∙ ap (putControl before 0x78) put ∙ control-fits before 0x78 (versionBytes major minor revision) (omega (arith, n));
+          told = sym (version-long major minor revision);
+        }
 
-    pub say-written : (sector result write crc : ℕ) (fields : List ℕ) → fields ≡ writtenBytes result write crc → after ≡ putWrite before sector fields End
-        → Say (Written sector result write crc) before after 13
+    pub say-written : (sector result write crc : ℕ) (fields : List ℕ) → fields ≡ placeOf (result ∷ write ∷ 0 ∷ 0 ∷ 0 ∷ 0 ∷ []) 2 (bytesOf 4 crc)
+        → after ≡ putWrite before sector fields End → Say (Written sector result write crc) before after 13
     unfolding answerBytes
     say-written sector result write crc fields f e =
-        let v : List ℕ = writtenBytes result write crc in
-        let n : length v ≡ 6 = length-written result write crc in
-        let m : length v + 7 ≡ 13 = omega arith in
+        let n = length-bytes 4 crc in
+        let put = f ∙ place-last (result ∷ write ∷ []) (0 ∷ 0 ∷ 0 ∷ 0 ∷ []) (bytesOf 4 crc) n in
         record {
-          said = e ∙ ap (λ (l : List ℕ). putWrite before sector l End) f ∙ write-fits before sector v End (omega arith);
-          told = sym (length-write sector v End ∙ m);
+          said = e ∙ ap (λ (l : List ℕ). putWrite before sector l End) put ∙ write-fits before sector (writtenBytes result write crc) End (omega (arith, n));
+          told = sym (written-long sector result write crc);
         }

@@ -1,7 +1,7 @@
 -- What a client answers, as bytes (01, 'Frames', 'The client, step by step', 'What comes back when it is no').
 -- Assumes nothing.
 use mathlib.Core.Path.{_≡_}
-use mathlib.Core.List.{List, [], _∷_, _++_}
+use mathlib.Core.List.{List, [], _∷_}
 use Prim.Native.Nat.{ℕ}
 use lib.ListN.{length}
 use Rattle.buffer.specs.Number.{bytesOf}

@@ -1,6 +1,6 @@
 -- What a datagram asks of a client (01, 'The client, step by step', the table; 'What comes back when it is no').
 -- Assumes nothing.
-use mathlib.Core.Bool.{Bool, true, false, cond}
+use mathlib.Core.Bool.{Bool, cond}
 use mathlib.Core.List.{List}
 use Prim.Native.Nat.{ℕ}
 use lib.Dec.{eqb}
@@ -15,6 +15,7 @@ use Rattle.client.specs.declared.command.Command.{Command}
 use Rattle.client.specs.declared.command.Command.the-variants.{ModeStart, BankInfo, VersionInfo, WriteStart, WriteEnd, ModeEnd, Packet}
 use Rattle.client.specs.declared.record.State.{State}
 use Rattle.client.specs.declared.record.State.the-variants as state
+use Rattle.client.specs.Record.{stateNumber}
 
 -- "parameter length (control)": as many bytes as the request wants, or others
 abbrev pub counted : Command → ℕ → ℕ → Asked
@@ -40,29 +41,18 @@ abbrev pub askedOf : List ℕ → Asked
 askedOf datagram = askedBy (readOf datagram)
 
 -- the table's third column, and "Write packet in write state"
+abbrev pub stateFor : Command → State
+stateFor ModeStart = state.Idle
+stateFor BankInfo = state.Control
+stateFor VersionInfo = state.Control
+stateFor WriteStart = state.Control
+stateFor WriteEnd = state.Write
+stateFor ModeEnd = state.Control
+stateFor (Packet sector length) = state.Write
+
+-- whether a command is accepted in a state
 abbrev pub fitsState : State → Command → Bool
-fitsState state.Closed command = false
-fitsState state.Idle ModeStart = true
-fitsState state.Idle BankInfo = false
-fitsState state.Idle VersionInfo = false
-fitsState state.Idle WriteStart = false
-fitsState state.Idle WriteEnd = false
-fitsState state.Idle ModeEnd = false
-fitsState state.Idle (Packet sector length) = false
-fitsState state.Control ModeStart = false
-fitsState state.Control BankInfo = true
-fitsState state.Control VersionInfo = true
-fitsState state.Control WriteStart = true
-fitsState state.Control WriteEnd = false
-fitsState state.Control ModeEnd = true
-fitsState state.Control (Packet sector length) = false
-fitsState state.Write ModeStart = false
-fitsState state.Write BankInfo = false
-fitsState state.Write VersionInfo = false
-fitsState state.Write WriteStart = false
-fitsState state.Write WriteEnd = true
-fitsState state.Write ModeEnd = false
-fitsState state.Write (Packet sector length) = true
+fitsState s command = eqb (stateNumber s) (stateNumber (stateFor command))
 
 -- a result other than 06 "in the command's own response"; of a write packet "the write result repeats it" and the CRC field is 0
 abbrev pub declinedOf : Command → ℕ → Answer

@@ -21,6 +21,13 @@ pub record Stays (before after : Client) : Type 0 where
   pub minor : after .minor ≡ before .minor
   pub revision : after .revision ≡ before .revision
 
+-- states by number, so that two can be compared
+abbrev pub stateNumber : State → ℕ
+stateNumber Closed = 0
+stateNumber Idle = 1
+stateNumber Control = 2
+stateNumber Write = 3
+
 -- "no sector received yet"
 unfoldable pub noneReceived : List Bool
 noneReceived = replicate mostSectors false

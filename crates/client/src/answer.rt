@@ -1,9 +1,9 @@
 // What a client answers, and the notices that it gives its host.
 use bank::layout::Bank;
 ghost use mathlib.Core.Path.{_≡_};
-ghost use Prim.Native.Nat.{_≤_};
 ghost use lib.ListN.{length};
-ghost use Rattle.client.specs.Answer.{Say, writtenBytes, versionBytes};
+ghost use Rattle.client.specs.Answer.{Say};
+ghost use Rattle.client.specs.declared.answer.Answer.the-variants.{Response, BankIs, VersionIs, Written};
 ghost use Rattle.client.specs.Notice.{noNotice, noticeWith};
 
 // Why there is no answer.
@@ -72,22 +72,41 @@ pub(crate) fn notice_of(kind: Kind, result: u8, address: &[u8]) -> Notice
     }
 }
 
-// The ID, and the version behind it.
-fn version_bytes(major: u8, minor: u8, revision: u32) -> [u8; 9]
-    ensures { λ r. ⌜ r ≡ versionBytes major minor revision ⌝ }
+fn say_response(buffer: &mut [u8], code: u8, result: u8) -> usize
+    ensures { λ r. ⌜ Say (Response code result) (now (buffer .entry)) (now (buffer .exit)) r ⌝ }
 {
-    let mut bytes = [0x06, 0x04, 0x00, major, minor, 0, 0, 0, 0];
-    buffer::number::put_number4(&mut bytes, 5, revision);
-    bytes
+    let field = [result];
+    frame::write::put_control(buffer, code, &field);
+    6
+}
+
+fn say_bank(buffer: &mut [u8], bank: Bank) -> usize
+    ensures { λ r. ⌜ Say (BankIs bank) (now (buffer .entry)) (now (buffer .exit)) r ⌝ }
+{
+    let number = bank::layout::bank_number(bank);
+    let fields = [0x06, number];
+    frame::write::put_control(buffer, 0x72, &fields);
+    7
+}
+
+// The ID, and the version behind it.
+fn say_version(buffer: &mut [u8], major: u8, minor: u8, revision: u32) -> usize
+    ensures { λ r. ⌜ Say (VersionIs major minor revision) (now (buffer .entry)) (now (buffer .exit)) r ⌝ }
+{
+    let mut fields = [0x06, 0x04, 0x00, major, minor, 0, 0, 0, 0];
+    buffer::number::put_number4(&mut fields, 5, revision);
+    frame::write::put_control(buffer, 0x78, &fields);
+    14
 }
 
 // Both results and the CRC-32.
-fn written_bytes(result: u8, write: u8, crc: u32) -> [u8; 6]
-    ensures { λ r. ⌜ r ≡ writtenBytes result write crc ⌝ }
+fn say_written(buffer: &mut [u8], sector: u16, result: u8, write: u8, crc: u32) -> usize
+    ensures { λ r. ⌜ Say (Written sector result write crc) (now (buffer .entry)) (now (buffer .exit)) r ⌝ }
 {
-    let mut bytes = [result, write, 0, 0, 0, 0];
-    buffer::number::put_number4(&mut bytes, 2, crc);
-    bytes
+    let mut fields = [result, write, 0, 0, 0, 0];
+    buffer::number::put_number4(&mut fields, 2, crc);
+    frame::write::put_write(buffer, sector, &fields, frame::read::Footer::End);
+    13
 }
 
 // The answer's bytes to the front of the buffer, and how many they are.
@@ -100,35 +119,18 @@ pub(crate) fn say(answer: Answer, buffer: &mut [u8]) -> usize
             frame::write::put_error(buffer);
             6
         }
-        Answer::Response { code, result } => {
-            let field = [result];
-            frame::write::put_control(buffer, code, &field);
-            6
-        }
-        Answer::BankIs(bank) => {
-            let number = bank::layout::bank_number(bank);
-            let fields = [0x06, number];
-            frame::write::put_control(buffer, 0x72, &fields);
-            7
-        }
+        Answer::Response { code, result } => say_response(buffer, code, result),
+        Answer::BankIs(bank) => say_bank(buffer, bank),
         Answer::VersionIs {
             major,
             minor,
             revision,
-        } => {
-            let fields = version_bytes(major, minor, revision);
-            frame::write::put_control(buffer, 0x78, &fields);
-            14
-        }
+        } => say_version(buffer, major, minor, revision),
         Answer::Written {
             sector,
             result,
             write,
             crc,
-        } => {
-            let fields = written_bytes(result, write, crc);
-            frame::write::put_write(buffer, sector, &fields, frame::read::Footer::End);
-            13
-        }
+        } => say_written(buffer, sector, result, write, crc),
     }
 }

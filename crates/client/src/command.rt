@@ -3,7 +3,7 @@ use crate::answer::Answer;
 use crate::record::State;
 use frame::read::Read;
 ghost use mathlib.Core.Path.{_≡_};
-ghost use Rattle.client.specs.Command.{counted, byCode, askedOf, fitsState, declinedOf};
+ghost use Rattle.client.specs.Command.{counted, byCode, askedOf, stateFor, fitsState, declinedOf};
 
 pub(crate) enum Command {
     ModeStart,
@@ -73,49 +73,28 @@ pub(crate) fn read_command(datagram: &[u8]) -> Asked
     }
 }
 
-// Whether a command is accepted in a state.
+// The state in which a command is accepted.
+fn state_for(command: Command) -> State
+    ensures { λ r. ⌜ r ≡ stateFor command ⌝ }
+{
+    match command {
+        Command::ModeStart => State::Idle,
+        Command::BankInfo => State::Control,
+        Command::VersionInfo => State::Control,
+        Command::WriteStart => State::Control,
+        Command::WriteEnd => State::Write,
+        Command::ModeEnd => State::Control,
+        Command::Packet {
+            sector: _,
+            length: _,
+        } => State::Write,
+    }
+}
+
 pub(crate) fn fits_state(state: State, command: Command) -> bool
     ensures { λ r. ⌜ r ≡ fitsState state command ⌝ }
 {
-    match state {
-        State::Closed => false,
-        State::Idle => match command {
-            Command::ModeStart => true,
-            Command::BankInfo => false,
-            Command::VersionInfo => false,
-            Command::WriteStart => false,
-            Command::WriteEnd => false,
-            Command::ModeEnd => false,
-            Command::Packet {
-                sector: _,
-                length: _,
-            } => false,
-        },
-        State::Control => match command {
-            Command::ModeStart => false,
-            Command::BankInfo => true,
-            Command::VersionInfo => true,
-            Command::WriteStart => true,
-            Command::WriteEnd => false,
-            Command::ModeEnd => true,
-            Command::Packet {
-                sector: _,
-                length: _,
-            } => false,
-        },
-        State::Write => match command {
-            Command::ModeStart => false,
-            Command::BankInfo => false,
-            Command::VersionInfo => false,
-            Command::WriteStart => false,
-            Command::WriteEnd => true,
-            Command::ModeEnd => false,
-            Command::Packet {
-                sector: _,
-                length: _,
-            } => true,
-        },
-    }
+    crate::record::state_number(state) == crate::record::state_number(state_for(command))
 }
 
 // A result other than 06 in the command's own response.

@@ -44,7 +44,8 @@ use Rattle.client.specs.Perform.{Accepted, fitOf, storeResult}
 use Rattle.client.specs.Plan.{isWorn, anyWorn, valuesGood, addressesGood}
 use Rattle.client.specs.Record.{begun, ended}
 use Rattle.client.specs.Step.{targetOf}
-use Rattle.client.proofs.Courses.{accepted, not-write, answer-short}
+use Rattle.client.proofs.Courses.{accepted, not-write}
+use Rattle.client.proofs.Saying.{answer-short}
 use Rattle.client.proofs.Planning.{lent-buffer, values-words}
 use Rattle.demands.specs.Board.{Board, board, Call, Input, Datagram, Outcome, said, after, outcomes, targetBank, sectorsIn, lentTarget, stepMachine}
 use Rattle.demands.specs.Session.{isEnd, allBlank, exchanged, noted}

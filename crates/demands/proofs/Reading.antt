@@ -41,7 +41,8 @@ use Rattle.client.specs.Answer.{versionBytes, writtenBytes, answerBytes}
 use Rattle.client.specs.Host.{isClosed}
 use Rattle.client.specs.Perform.{Accepted, storeResult}
 use Rattle.client.specs.Plan.{lentGood}
-use Rattle.client.proofs.Courses.{accepted, answer-short}
+use Rattle.client.proofs.Courses.{accepted}
+use Rattle.client.proofs.Saying.{answer-short}
 use Rattle.client.proofs.Planning.{lent, lent-buffer}
 use Rattle.demands.specs.Board.{Board, Call, Datagram, Outcome, said, lentTarget, stepMachine}
 use Rattle.demands.specs.Demand1.{Row, firstOf, responseCode, isFault, refused, answered, afterFrame, callRows}

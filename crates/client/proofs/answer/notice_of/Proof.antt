@@ -1,6 +1,6 @@
 -- `client::answer::notice_of` meets its contract.
 -- Assumes nothing.
-use mathlib.Core.Path.{_≡_, refl, sym, ap, _∙_}
+use mathlib.Core.Path.{ap, _∙_}
 use Rattle.buffer.proofs.Places.{front-whole}
 use Rattle.client.specs.Notice.{noticeWith}
 use borrow.Author.Needs.{needs}

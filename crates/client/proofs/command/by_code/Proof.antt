@@ -1,7 +1,7 @@
 -- `client::command::by_code` meets its contract.
 -- Assumes nothing.
-use mathlib.Core.Path.{_≡_, refl, sym, ap, _∙_}
-use borrow.Author.Tests.{eq-eqb, ne-eqb, not-true, not-false}
+use mathlib.Core.Path.{_∙_}
+use borrow.Author.Tests.{eq-eqb, ne-eqb}
 use Rattle.client.proofs.Commands.{code-61, code-62, code-68, code-40, code-45, code-64, code-other}
 use borrow.Author.Needs.{needs}
 use Rattle.client.proofs.command.by_code.Statement.{statement}

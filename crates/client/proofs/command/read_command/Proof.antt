@@ -1,6 +1,6 @@
 -- `client::command::read_command` meets its contract.
 -- Assumes nothing.
-use mathlib.Core.Path.{_≡_, refl, sym, ap, _∙_}
+use mathlib.Core.Path.{sym, ap, _∙_}
 use Rattle.client.specs.Command.{askedBy}
 use borrow.Author.Needs.{needs}
 use Rattle.client.proofs.command.read_command.Statement.{statement}
