@@ -4,17 +4,17 @@ use Prim.Native.Nat.{ℕ, zero, suc, _+_, _-_, _≤_, _<_}
 use native.Mathlib.Omega.{arith}
 use native.Mathlib.Decide.{decLt}
 use mathlib.Core.Path.{_≡_, refl, _∙_}
-use mathlib.Core.Bool.{Bool, true, false, _&&_}
+use mathlib.Core.Bool.{Bool, true, false}
 use mathlib.Core.List.{List}
 use lib.Dec.{eqb, leb}
 use lib.ListN.{length, take}
 use borrow.Author.Tests.{leb-true, eqb-true, eq-eqb, le-leb}
 use Rattle.crc.specs.Crc.{crcOf}
 use Rattle.bank.specs.Stretch.{laidOut, held}
-use Rattle.bank.specs.Table.{byteAt, idOf, editionOf, countOf, crcPlace, tableEnd, entryAt, restOf, entriesOf, stretchOf, stretchesOf}
+use Rattle.bank.specs.Table.{idOf, editionOf, countOf, crcPlace, tableEnd, entryAt, restOf, entriesOf, stretchOf, stretchesOf}
 use Rattle.bank.specs.Sound.{mostBodies, headerGood, tableGood, laidOutGood, stretchBytes, bodyGood, allGood, bodiesGood, blankGood, soundOf}
 use Rattle.bank.specs.Meaning.{bodyStart, bodyEnd, Kept, Place, in-table, in-body, outside}
-use Rattle.buffer.specs.Number.{numberAt}
+use Rattle.buffer.specs.Number.{byteAt, numberAt}
 use Rattle.buffer.proofs.Bools.{and-left, and-right, and-both}
 use Rattle.bank.proofs.Stretches.{fits-back, held-once, outside-blank, blank-outside}
 use Rattle.bank.proofs.Tables.{ahead, parts, parts-back, entry-fits, laid-nth, laid-rest, laid-more, laid-done, body-more, body-done, rest-more}

@@ -21,11 +21,6 @@ unfolding blankOf
 blank-append [] b = refl
 blank-append (x ∷ a) b = ap (λ (r : Bool). eqb x 0xFF && r) (blank-append a b) ∙ sym (and-assoc (eqb x 0xFF) (blankOf a) (blankOf b))
 
-pub blank-filled : (n : ℕ) → blankOf (replicate n 0xFF) ≡ true
-unfolding blankOf
-blank-filled zero = refl
-blank-filled (suc n) = blank-filled n
-
 pub blank-true : (l : List ℕ) → blankOf l ≡ true → l ≡ replicate (length l) 0xFF
 unfolding blankOf
 blank-true [] e = refl

@@ -8,7 +8,7 @@ use lib.ListN.{take, drop}
 use Rattle.buffer.specs.Compare.{blankOf}
 use Rattle.buffer.proofs.Parts.{part-out}
 use Rattle.crc.specs.Crc.{crcOf}
-use Rattle.flash.specs.Bank.{startOf, WriteAt·Is}
+use Rattle.flash.specs.Bank.{sectorStart, WriteAt·Is}
 use Rattle.flash.specs.Sector.{sectorBytes}
 use Rattle.flash.proofs.Sectors.{lent-out}
 use Rattle.bank.specs.declared.layout.Bank.{Bank}
@@ -21,7 +21,7 @@ use Rattle.client.specs.Record.{marked, ended}
 use Rattle.client.specs.Perform.{fitOf, storeResult, sectorCrc, done, storeOf, checkedOf, served, Served·Is}
 
 -- the part that is handed on is the sector
-pub crc-part : (bank : List ℕ) (k start r : ℕ) → start ≡ startOf k → r ≡ crcOf (take ((start + sectorBytes) - start) (drop start bank)) → r ≡ sectorCrc bank k
+pub crc-part : (bank : List ℕ) (k start r : ℕ) → start ≡ sectorStart k → r ≡ crcOf (take ((start + sectorBytes) - start) (drop start bank)) → r ≡ sectorCrc bank k
 crc-part bank k start r e c = c ∙ ap crcOf (lent-out bank k start e)
 
 -- the part that is handed on is the bytes sent

@@ -9,12 +9,12 @@ use lib.ListN.{length, getD, take, drop, replicate, getD-replicate}
 use lib.Seq.{take-at, length-take-le}
 use borrow.Author.Tests.{not-true, eq-eqb}
 use Rattle.buffer.specs.Compare.{sameOf, blankOf}
-use Rattle.buffer.specs.Number.{bytesOf}
+use Rattle.buffer.specs.Number.{bytesOf, byteAt}
 use Rattle.buffer.proofs.Comparing.{same-self}
 use Rattle.crc.specs.Crc.{crcOf}
 use Rattle.frame.specs.Checksum.{checksumOf}
 use Rattle.frame.specs.Frame.{framed, controlFrame, writeFrame, frameError}
-use Rattle.frame.specs.Read.{byteAt, readOf, writtenOf, readControl}
+use Rattle.frame.specs.Read.{readOf, writtenOf, readControl}
 use Rattle.frame.specs.declared.read.Footer.{Footer}
 use Rattle.frame.specs.declared.read.Footer.the-variants.{End}
 use Rattle.frame.specs.declared.read.Read.the-variants.{Fault, Control, Write}

@@ -10,12 +10,12 @@ use lib.Dec.{eqb}
 use lib.ListN.{length, take, drop, length-take, List·getD-eq-default}
 use lib.Seq.{take-all, getD-take, getD-drop}
 use borrow.Author.Tests.{eqb-true}
-use Rattle.buffer.specs.Number.{bytesOf, numberAt}
+use Rattle.buffer.specs.Number.{bytesOf, byteAt, numberAt}
 use Rattle.buffer.proofs.Bools.{split}
 use Rattle.buffer.proofs.Numbers.{number-two, number-four, bytes-two, bytes-four}
 use Rattle.buffer.proofs.Parts.{part-next}
 use Rattle.frame.specs.Frame.{controlFrame, writeFrame}
-use Rattle.frame.specs.Read.{byteAt, parametersOf, readOf}
+use Rattle.frame.specs.Read.{parametersOf, readOf}
 use Rattle.frame.specs.Read.{writtenOf as bytesIn}
 use Rattle.frame.specs.declared.read.Footer.the-variants.{End, Continued}
 use Rattle.frame.specs.declared.read.Read.{Read}

@@ -8,7 +8,7 @@ use mathlib.Core.Bool.{true}
 use mathlib.Core.List.{List, [], _∷_}
 use Prim.Native.Nat.{ℕ, _+_, _-_, _*_, _^_, _≤_, _<_}
 use lib.ListN.{length, getD, drop}
-use Rattle.frame.specs.Read.{byteAt}
+use Rattle.buffer.specs.Number.{byteAt}
 use Rattle.bank.specs.declared.layout.Bank.{Bank}
 use Rattle.bank.specs.Layout.{sectorSize, otherOf, startOf}
 use Rattle.hex.specs.declared.read.Answer.the-variants.{Accepted}

@@ -5,9 +5,8 @@ use mathlib.Core.Path.{_≡_}
 use mathlib.Core.Bool.{true, false}
 use mathlib.Core.List.{List, [], _∷_, _++_}
 use Prim.Native.Nat.{ℕ, _<_}
-use Rattle.buffer.specs.Number.{bytesOf}
+use Rattle.buffer.specs.Number.{bytesOf, byteAt}
 use Rattle.frame.specs.Frame.{controlFrame, writeFrame}
-use Rattle.frame.specs.Read.{byteAt}
 use Rattle.frame.specs.declared.read.Footer.the-variants.{End}
 use Rattle.bank.specs.Layout.{bankNumber}
 use Rattle.sender.specs.declared.response.Kind.{Kind}

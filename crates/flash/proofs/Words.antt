@@ -13,7 +13,7 @@ use borrow.Author.Tests.{eqb-true, leb-true, le-leb, lt-leb, eq-eqb, ne-eqb}
 use Rattle.buffer.specs.Compare.{sameOf, blankOf}
 use Rattle.buffer.specs.Place.{placeOf}
 use Rattle.buffer.proofs.Bools.{and-left, and-right}
-use Rattle.buffer.proofs.Comparing.{blank-true, blank-filled, blank-part, same-append, same-filled, same-true}
+use Rattle.buffer.proofs.Comparing.{blank-true, blank-part, same-append, same-filled, same-true}
 use Rattle.buffer.proofs.Parts.{part-next, part-length}
 use Rattle.buffer.proofs.Places.{place-next}
 use Rattle.flash.specs.Sector.{sectorBytes, wordBytes, blanks, erasedOf, paddedOf, fitsSector, writtenOf, alreadyOf, WriteSector·Is}
@@ -28,7 +28,8 @@ length-padded bytes h = omega (arith, length-append bytes (blanks (sectorBytes -
 
 -- a sector that was erased is no bytes, followed by 0xFF
 pub padded-none : (sector : List ℕ) → length sector ≡ sectorBytes → erasedOf sector ≡ paddedOf []
-padded-none sector e = erased-blank sector e ∙ sym (padded-blanks [] (omega arith) (blank-filled 0))
+unfolding blankOf
+padded-none sector e = erased-blank sector e ∙ sym (padded-blanks [] (omega arith) refl)
 
 -- 0xFF over and over is some of it and the rest
 filled-parts : (n w m : ℕ) → n ≡ w + m → blanks n ≡ blanks w ++ blanks m

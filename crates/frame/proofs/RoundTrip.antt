@@ -9,12 +9,13 @@ use native.Mathlib.Numerals.{add-one}
 use lib.ListN.{length, take, drop, drop-of-length-le}
 use lib.Seq.{take-at, getD-at, getD-append-add, drop-cons}
 use borrow.Author.Tests.{eq-eqb, ne-eqb}
-use Rattle.buffer.specs.Number.{bytesOf}
+use Rattle.buffer.specs.Number.{bytesOf, byteAt}
+use Rattle.buffer.proofs.Bools.{no-way}
 use Rattle.buffer.proofs.Numbers.{number-two, bytes-two}
 use Rattle.buffer.proofs.Parts.{part-next, part-rest, part-length}
 use Rattle.frame.specs.Checksum.{checksumOf}
 use Rattle.frame.specs.Frame.{footerByte, framed, controlFrame, writeFrame, frameError}
-use Rattle.frame.specs.Read.{byteAt, checkedAt, parametersOf, writtenOf, readOf}
+use Rattle.frame.specs.Read.{checkedAt, parametersOf, writtenOf, readOf}
 use Rattle.frame.specs.declared.read.Footer.{Footer}
 use Rattle.frame.specs.declared.read.Read.the-variants.{Fault, Control, Write}
 use Rattle.frame.proofs.Cases.{control-good, write-good, read-control, read-write}
@@ -176,10 +177,10 @@ write-read d sector m footer b t =
 
 -- so a fault is neither kind of frame
 pub fault-control : (d : List ℕ) (code n : ℕ) → Fault ≡ readOf d → ControlIn d code n → ⊥
-fault-control d code n e t = let r = control-read d code n t in let z : _≡_ {A = ℕ} 0 1 = cc in omega arith
+fault-control d code n e t = let r = control-read d code n t in no-way cc
 
 pub fault-write : (d : List ℕ) (sector m : ℕ) (footer : Footer) → ((i : ℕ) → byteAt d i < 256) → Fault ≡ readOf d → WriteIn d sector m footer → ⊥
-fault-write d sector m footer b e t = let r = write-read d sector m footer b t in let z : _≡_ {A = ℕ} 0 1 = cc in omega arith
+fault-write d sector m footer b e t = let r = write-read d sector m footer b t in no-way cc
 
 -- the frame error is the control frame of E0 and 07
 pub error-frame : frameError ≡ controlFrame 0xE0 (0x07 ∷ [])

@@ -8,7 +8,7 @@ use native.Mathlib.Omega.{arith}
 use lib.Dec.{leb, ltb}
 use lib.ListN.{length}
 use borrow.Author.Tests.{ltb-false}
-use Rattle.bank.specs.Layout.{goodN}
+use Rattle.bank.specs.Layout.{sectorSize, goodN}
 use Rattle.sender.specs.declared.made.Made.the-variants.{BadN, BadLength, PastLast, Frame}
 use Rattle.sender.specs.declared.packet.Tally.the-variants.{BadN as NoBank, BadLength as NoImage, Packets}
 use Rattle.sender.specs.declared.request.Request.{Request}
@@ -59,5 +59,5 @@ module _ (image : List ℕ) (n p size : ℕ) where
       by false false false t q = ltb-false p (packetCount image n) t
 
   -- and always there, where nothing else is refused
-  pub five-always : goodN n ≡ true → length image ≡ 512 * n → 519 ≤ size → packetCount image n ≤ p → madeNumber (packetMade image n p size) ≡ 5
+  pub five-always : goodN n ≡ true → length image ≡ sectorSize * n → room ≤ size → packetCount image n ≤ p → madeNumber (packetMade image n p size) ≡ 5
   five-always g e h q = sym (ap madeNumber (made-past image n p size g e h q))

@@ -8,9 +8,9 @@ use native.Mathlib.Omega.{arith}
 use lib.Dec.{eqb}
 use lib.ListN.{length}
 use borrow.Author.Tests.{eq-eqb, ne-eqb}
-use Rattle.buffer.specs.Number.{numberAt}
+use Rattle.buffer.specs.Number.{byteAt, numberAt}
 use Rattle.buffer.proofs.Bools.{split}
-use Rattle.frame.specs.Read.{byteAt, parametersOf, readOf}
+use Rattle.frame.specs.Read.{parametersOf, readOf}
 use Rattle.frame.specs.Read.{writtenOf as bytesIn}
 use Rattle.frame.specs.declared.read.Footer.the-variants.{End, Continued}
 use Rattle.frame.specs.declared.read.Read.the-variants.{Fault, Control, Write}

@@ -8,9 +8,9 @@ use native.Mathlib.Omega.{arith}
 use lib.Dec.{eqb, ltb}
 use lib.ListN.{length}
 use borrow.Author.Tests.{eqb-true, eqb-false, lt-ltb, le-ltb}
-use Rattle.buffer.specs.Number.{numberAt}
+use Rattle.buffer.specs.Number.{byteAt, numberAt}
 use Rattle.buffer.proofs.Bools.{and-false}
-use Rattle.frame.specs.Read.{byteAt, readOf}
+use Rattle.frame.specs.Read.{readOf}
 use Rattle.frame.specs.Read.{writtenOf as bytesIn}
 use Rattle.frame.specs.declared.read.Footer.the-variants.{End, Continued}
 use Rattle.frame.specs.declared.read.Read.{Read}

@@ -5,9 +5,9 @@ use mathlib.Core.List.{List}
 use Prim.Native.Nat.{ℕ, zero, suc, _+_, _*_}
 use lib.Dec.{eqb, ltb}
 use lib.ListN.{length, replicate}
-use Rattle.buffer.specs.Number.{numberAt}
+use Rattle.buffer.specs.Number.{byteAt, numberAt}
 use Rattle.buffer.specs.Place.{placeOf}
-use Rattle.frame.specs.Read.{byteAt, parametersOf, readOf}
+use Rattle.frame.specs.Read.{parametersOf, readOf}
 use Rattle.frame.specs.Read.{writtenOf as bytesIn}
 use Rattle.frame.specs.declared.read.Footer.{Footer}
 use Rattle.frame.specs.declared.read.Footer.the-variants.{End, Continued}

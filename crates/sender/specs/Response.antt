@@ -6,8 +6,8 @@ use mathlib.Core.List.{List}
 use Prim.Native.Nat.{ℕ, _+_}
 use lib.Dec.{eqb}
 use lib.ListN.{length}
-use Rattle.buffer.specs.Number.{numberAt}
-use Rattle.frame.specs.Read.{byteAt, parametersOf, readOf}
+use Rattle.buffer.specs.Number.{byteAt, numberAt}
+use Rattle.frame.specs.Read.{parametersOf, readOf}
 use Rattle.frame.specs.Read.{writtenOf as bytesIn}
 use Rattle.frame.specs.declared.read.Footer.the-variants.{End, Continued}
 use Rattle.frame.specs.declared.read.Read.{Read}

@@ -1,5 +1,4 @@
 // The requests that make a request of the exchange or read a response.
-use crate::held::LARGEST_NUMBER;
 use crate::made;
 use crate::made::LARGEST_BUFFER;
 use bank::layout::Bank;
@@ -27,7 +26,7 @@ fn make(request: Request, fields: &[u8]) -> bool {
 
 fn write_start(bank: Bank, fields: &[u8]) -> bool {
     let n = text::decimal(text::first(fields), 6);
-    if n > LARGEST_NUMBER {
+    if n > text::LARGEST_NUMBER {
         return false;
     }
     make(Request::WriteStart { bank, n }, text::rest(fields))

@@ -62,37 +62,37 @@ same-length : tie.Need-same-length
 same-length c = search needs
 
 returns : tie.Need-returns
-returns c = request-control ModeStart ((c .before .before .before .before .before .enum-told .given .1)) refl refl ((c .before .before .control .ensures))
+returns c = request-control ModeStart (c .before .before .before .before .before .enum-told .given .1) refl refl (c .before .before .control .ensures)
 
 same-length-2 : tie.Need-same-length-2
 same-length-2 c = search needs
 
 returns-2 : tie.Need-returns-2
-returns-2 c = request-control BankInfo ((c .before .before .before .before .before .enum-told2 .given .1)) refl refl ((c .before .before .control2 .ensures))
+returns-2 c = request-control BankInfo (c .before .before .before .before .before .enum-told2 .given .1) refl refl (c .before .before .control2 .ensures)
 
 same-length-3 : tie.Need-same-length-3
 same-length-3 c = search needs
 
 returns-3 : tie.Need-returns-3
-returns-3 c = request-control Version ((c .before .before .before .before .before .enum-told3 .given .1)) refl refl ((c .before .before .control3 .ensures))
+returns-3 c = request-control Version (c .before .before .before .before .before .enum-told3 .given .1) refl refl (c .before .before .control3 .ensures)
 
 same-length-4 : tie.Need-same-length-4
 same-length-4 c = search needs
 
 returns-4 : tie.Need-returns-4
-returns-4 c = request-told (c .before .before .before .before .before .request .given .1) ((c .before .before .write-start .ensures))
+returns-4 c = request-told (c .before .before .before .before .before .request .given .1) (c .before .before .write-start .ensures)
 
 same-length-5 : tie.Need-same-length-5
 same-length-5 c = search needs
 
 returns-5 : tie.Need-returns-5
-returns-5 c = request-control WriteEnd ((c .before .before .before .before .before .enum-told4 .given .1)) refl refl ((c .before .before .control4 .ensures))
+returns-5 c = request-control WriteEnd (c .before .before .before .before .before .enum-told4 .given .1) refl refl (c .before .before .control4 .ensures)
 
 same-length-6 : tie.Need-same-length-6
 same-length-6 c = search needs
 
 returns-6 : tie.Need-returns-6
-returns-6 c = request-control ModeEnd ((c .before .before .before .before .before .enum-told5 .given .1)) refl refl ((c .before .before .control5 .ensures))
+returns-6 c = request-control ModeEnd (c .before .before .before .before .before .enum-told5 .given .1) refl refl (c .before .before .control5 .ensures)
 
 pub make-spec : {M : Type 1} → statement M
 make-spec =

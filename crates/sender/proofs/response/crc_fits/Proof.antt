@@ -16,7 +16,7 @@ stored-requires-2 c κs = search needs
 
 returns : tie.Need-returns
 unfolding crcFits
-returns c = ap₂ (λ (a b : Bool). eqb ((c .before .before .args .crc)) 0 || (a && b)) ((c .before .stored .ensures)) ((c .stored2 .ensures))
+returns c = ap₂ (λ (a b : Bool). eqb (c .before .before .args .crc) 0 || (a && b)) (c .before .stored .ensures) (c .stored2 .ensures)
 
 pub crc-fits-spec : {M : Type 1} → statement M
 crc-fits-spec = tie.close (tie.spec stored-requires stored-requires-2 returns)

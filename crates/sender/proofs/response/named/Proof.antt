@@ -7,15 +7,15 @@ use Rattle.sender.proofs.response.named.Tie as tie
 
 returns : tie.Need-returns
 unfolding targetOf
-returns c = simp (eq-eqb _ _ ((c .if1 .taken)))
+returns c = simp (eq-eqb _ _ (c .if1 .taken))
 
 returns-2 : tie.Need-returns-2
 unfolding targetOf
-returns-2 c = simp (ne-eqb _ _ ((c .before .if1 .left)), eq-eqb _ _ ((c .if2 .taken)))
+returns-2 c = simp (ne-eqb _ _ (c .before .if1 .left), eq-eqb _ _ (c .if2 .taken))
 
 returns-3 : tie.Need-returns-3
 unfolding targetOf
-returns-3 c = simp (ne-eqb _ _ ((c .before .if1 .left)), ne-eqb _ _ ((c .if2 .left)))
+returns-3 c = simp (ne-eqb _ _ (c .before .if1 .left), ne-eqb _ _ (c .if2 .left))
 
 pub named-spec : {M : Type 1} → statement M
 named-spec = tie.close (tie.spec returns returns-2 returns-3)
