@@ -29,13 +29,13 @@ use Rattle.flash.specs.Bank.{sectorOf}
 use Rattle.flash.specs.Sector.{paddedOf}
 use Rattle.bank.specs.declared.layout.Bank.{Bank}
 use Rattle.bank.specs.Layout.{goodN, bankNumber, otherOf}
-use Rattle.sender.specs.declared.response.Coded.the-variants.{Answers}
-use Rattle.sender.specs.declared.response.Kind.{Kind}
-use Rattle.sender.specs.declared.response.Kind.the-variants.{ModeStart, BankInfo, Version, WriteStart, Packet, WriteEnd, ModeEnd, Error}
-use Rattle.sender.specs.declared.response.Response.{Response}
-use Rattle.sender.specs.declared.response.Response.the-variants.{Plain, Target, Firmware, Written}
-use Rattle.sender.specs.Response.{kindOf, mayCarry, addedOf, repeatsOf, storedOf, crcFits, responseOf, responseNumber}
-use Rattle.sender.proofs.Answers.{plain-back, bank-back, version-back, written-back}
+use Rattle.response.specs.declared.read.Coded.the-variants.{Answers}
+use Rattle.response.specs.declared.read.Kind.{Kind}
+use Rattle.response.specs.declared.read.Kind.the-variants.{ModeStart, BankInfo, Version, WriteStart, Packet, WriteEnd, ModeEnd, Error}
+use Rattle.response.specs.declared.read.Response.{Response}
+use Rattle.response.specs.declared.read.Response.the-variants.{Plain, Target, Firmware, Written}
+use Rattle.response.specs.Response.{kindOf, mayCarry, addedOf, repeatsOf, storedOf, crcFits, responseOf, responseNumber}
+use Rattle.response.proofs.Answers.{plain-back, bank-back, version-back, written-back}
 use Rattle.client.specs.declared.answer.Answer.the-variants.{BankIs, VersionIs}
 use Rattle.client.specs.Answer.{versionBytes, writtenBytes, answerBytes}
 use Rattle.client.specs.Host.{isClosed}

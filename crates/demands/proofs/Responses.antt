@@ -22,15 +22,15 @@ use Rattle.frame.specs.declared.read.Read.{Read}
 use Rattle.frame.specs.declared.read.Read.the-variants.{Fault, Control, Write}
 use Rattle.frame.proofs.RoundTrip.{control-only, write-only}
 use Rattle.frame.proofs.Told.{Told, told}
-use Rattle.sender.specs.declared.response.Coded.{Coded}
-use Rattle.sender.specs.declared.response.Coded.the-variants.{Unknown, Answers}
-use Rattle.sender.specs.declared.response.Kind.{Kind}
-use Rattle.sender.specs.declared.response.Kind.the-variants.{ModeStart, BankInfo, Version, WriteStart, Packet, WriteEnd, ModeEnd, Error}
-use Rattle.sender.specs.declared.response.Response.{Response}
-use Rattle.sender.specs.declared.response.Response.the-variants.{Unreadable, Plain, Target, Firmware, Written}
-use Rattle.sender.specs.Response.{kindOf, mayCarry, addsOf, addedOf, targetOf, acceptedOf, answerOf, repeatsOf, crcFits, writtenOf, responseIn, responseOf, responseNumber}
-use Rattle.sender.proofs.Responses.{adds-none, adds-some}
-use Rattle.sender.proofs.Six.{six-exactly}
+use Rattle.response.specs.declared.read.Coded.{Coded}
+use Rattle.response.specs.declared.read.Coded.the-variants.{Unknown, Answers}
+use Rattle.response.specs.declared.read.Kind.{Kind}
+use Rattle.response.specs.declared.read.Kind.the-variants.{ModeStart, BankInfo, Version, WriteStart, Packet, WriteEnd, ModeEnd, Error}
+use Rattle.response.specs.declared.read.Response.{Response}
+use Rattle.response.specs.declared.read.Response.the-variants.{Unreadable, Plain, Target, Firmware, Written}
+use Rattle.response.specs.Response.{kindOf, mayCarry, addsOf, addedOf, targetOf, acceptedOf, answerOf, repeatsOf, crcFits, writtenOf, responseIn, responseOf, responseNumber}
+use Rattle.response.proofs.Responses.{adds-none, adds-some}
+use Rattle.response.proofs.Six.{six-exactly}
 use Rattle.demands.specs.Responses.{codeOf, spelled, MeetsReader}
 
 -- ---- the bytes of a short list

@@ -30,7 +30,7 @@ use Rattle.hex.specs.Read.{KindNumber·Is}
 use Rattle.hex.specs.Read.{Read·Is as ReadText·Is}
 use Rattle.sender.specs.Packet.{Count·Is, Packet·Is}
 use Rattle.sender.specs.Request.{Request·Is}
-use Rattle.sender.specs.Response.{Response·Is}
+use Rattle.response.specs.Response.{Response·Is}
 use Rattle.client.specs.Body.{Body·Is as NextBody·Is}
 use Rattle.client.specs.Host.{New·Is, Initiate·Is, Terminate·Is}
 use Rattle.client.specs.Step.{Step·Is}

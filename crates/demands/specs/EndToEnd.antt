@@ -18,7 +18,7 @@ use Rattle.hex.specs.Line.{lines}
 use Rattle.hex.specs.Meaning.{saysAt}
 use Rattle.hex.specs.Read.{fresh, readOf}
 use Rattle.hex.specs.Record.{dataOf}
-use Rattle.sender.specs.Response.{responseOf}
+use Rattle.response.specs.Response.{responseOf}
 use Rattle.client.specs.Perform.{fitOf}
 use Rattle.client.specs.Step.{targetOf}
 use Rattle.demands.specs.Board.{Board, Call, Input, Datagram, said, Machine, after}

@@ -2,11 +2,11 @@
 use crate::made;
 use crate::made::LARGEST_BUFFER;
 use bank::layout::Bank;
+use response::read::Kind;
+use response::read::Response;
 use script::say;
 use script::text;
 use sender::request::Request;
-use sender::response::Kind;
-use sender::response::Response;
 
 fn make_in(request: Request, buffer: &mut [u8]) {
     let made = sender::request::make(request, buffer);
@@ -117,7 +117,7 @@ fn say_written(sector: u16, response: u8, write: u8, crc: u32) {
 }
 
 fn say_response(datagram: &[u8]) {
-    match sender::response::read_response(datagram) {
+    match response::read::read_response(datagram) {
         Response::Unreadable => say::refused(6),
         Response::Plain { kind, result } => say_plain(kind, result),
         Response::Target { bank } => say_bank(bank),
