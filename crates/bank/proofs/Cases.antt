@@ -63,7 +63,7 @@ by-refused false s e = refl
 
 -- v is what the check said
 module _ (b : List ℕ) (v : Verdict) (is : v ≡ verdictOf b) where
-  pub sound-is : v ≡ Sound → (wholeLength (length b) ≡ true) × (soundOf b ≡ true)
+  sound-is : v ≡ Sound → (wholeLength (length b) ≡ true) × (soundOf b ≡ true)
   unfolding verdictOf
   sound-is e = by-sound (wholeLength (length b)) (soundOf b) (sym e ∙ is)
 

@@ -29,7 +29,7 @@ module _ (b : List ℕ) where
       let e : i + suc k ≡ i + 1 + k = omega arith in
       rw e (laid-at size k (i + 1) (bodyEnd b i) (omega arith) (laid-rest b i (entryAt b i) refl (omega arith) size at o))
 
-  pub apart : laidOutGood b ≡ true → (i j : ℕ) → i < j → j < countOf b → bodyEnd b i ≤ bodyStart b j
+  apart : laidOutGood b ≡ true → (i j : ℕ) → i < j → j < countOf b → bodyEnd b i ≤ bodyStart b j
   unfolding laidOutGood
   apart o i j l h =
       let z : 0 + i ≡ i = omega arith in

@@ -55,7 +55,7 @@ sector-blanks n k a l =
 -- ---- the look at sector k
 
 module _ (bank : List ℕ) (k : ℕ) where
-  pub blank-here : Has (length bank) k → blankAt bank k ≡ blankOf (sectorOf bank k)
+  blank-here : Has (length bank) k → blankAt bank k ≡ blankOf (sectorOf bank k)
   unfolding blankAt
   blank-here h = rw (has (length bank) k h)
 

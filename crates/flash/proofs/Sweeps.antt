@@ -103,7 +103,7 @@ module _ (bank : List ℕ) (n : ℕ) (received : List Bool) where
       by false e = first-past received bank k h n (leb-false k n e)
 
   -- not received
-  pub swept-missed : (k : ℕ) → Has (length bank) k → k ≤ n → getD received (k - 1) false ≡ false → sectorOf (sweptOf bank n received) k ≡ blankSector
+  swept-missed : (k : ℕ) → Has (length bank) k → k ≤ n → getD received (k - 1) false ≡ false → sectorOf (sweptOf bank n received) k ≡ blankSector
   swept-missed k h l r =
       swept-sector k h l ∙ ap (λ (t : Bool). cond t (sectorOf bank k) blankSector) r
 

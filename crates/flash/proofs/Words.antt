@@ -27,7 +27,7 @@ unfolding paddedOf
 length-padded bytes h = omega (arith, length-append bytes (blanks (sectorBytes - length bytes)), length-blanks (sectorBytes - length bytes))
 
 -- a sector that was erased is no bytes, followed by 0xFF
-pub padded-none : (sector : List ℕ) → length sector ≡ sectorBytes → erasedOf sector ≡ paddedOf []
+padded-none : (sector : List ℕ) → length sector ≡ sectorBytes → erasedOf sector ≡ paddedOf []
 unfolding blankOf
 padded-none sector e = erased-blank sector e ∙ sym (padded-blanks [] (omega arith) refl)
 
@@ -41,7 +41,7 @@ module _ (begun word : List ℕ) (h : length begun + length word ≤ sectorBytes
   left-over = omega (arith, length-append begun word)
 
   -- bytes stored right behind others
-  pub padded-put : placeOf (paddedOf begun) (length begun) word ≡ paddedOf (begun ++ word)
+  padded-put : placeOf (paddedOf begun) (length begun) word ≡ paddedOf (begun ++ word)
   unfolding paddedOf
   padded-put =
       let n : ℕ = sectorBytes - length begun in
@@ -53,7 +53,7 @@ module _ (begun word : List ℕ) (h : length begun + length word ≤ sectorBytes
       ∙ drop-at (blanks (length word)) (blanks m) (length word) (length-blanks (length word)))
 
   -- blank bytes behind others are there already
-  pub padded-blank : blankOf word ≡ true → paddedOf begun ≡ paddedOf (begun ++ word)
+  padded-blank : blankOf word ≡ true → paddedOf begun ≡ paddedOf (begun ++ word)
   unfolding paddedOf
   padded-blank b =
       let m : ℕ = sectorBytes - length (begun ++ word) in
@@ -84,7 +84,7 @@ module _ (sector bytes : List ℕ) (s : length sector ≡ sectorBytes) (h : leng
 
 -- ---- the words
 
-pub all-append : (a b : List Store) (sector : List ℕ) → allMade (a ++ b) sector ≡ allMade b (allMade a sector)
+all-append : (a b : List Store) (sector : List ℕ) → allMade (a ++ b) sector ≡ allMade b (allMade a sector)
 unfolding allMade
 all-append [] b sector = refl
 all-append (x ∷ a) b sector = all-append a b _
@@ -167,7 +167,7 @@ module _ (sector bytes : List ℕ) where
         words = eqb-true (length bytes % wordBytes) 0 (and-right s v r);
       }
 
-  pub fits : Fits sector bytes → fitsSector sector bytes ≡ true
+  fits : Fits sector bytes → fitsSector sector bytes ≡ true
   unfolding fitsSector
   fits f = rw (eq-eqb (length sector) sectorBytes (f .whole), le-leb (length bytes) sectorBytes (f .short), eq-eqb (length bytes % wordBytes) 0 (f .words))
 

@@ -23,7 +23,7 @@ abbrev write : List ℕ → List ℕ → List ℕ
 write bytes sector = writtenOf sector bytes
 
 module _ (sector bytes : List ℕ) where
-  pub written-unfit : fitsSector sector bytes ≡ false → writtenOf sector bytes ≡ sector
+  written-unfit : fitsSector sector bytes ≡ false → writtenOf sector bytes ≡ sector
   unfolding writtenOf
   written-unfit e = rw e
 
@@ -35,7 +35,7 @@ module _ (sector bytes : List ℕ) where
       written-fits sector bytes f
       ∙ sym (same-true sector (paddedOf bytes) (and-right (fitsSector sector bytes) (sameOf sector (paddedOf bytes)) e))
 
-pub keeps-written : (bytes : List ℕ) → Keeps (λ (sector : List ℕ). writtenOf sector bytes)
+keeps-written : (bytes : List ℕ) → Keeps (λ (sector : List ℕ). writtenOf sector bytes)
 keeps-written bytes sector = by (fitsSector sector bytes) refl
   where
     by : (t : Bool) → fitsSector sector bytes ≡ t → length (writtenOf sector bytes) ≡ length sector
@@ -60,7 +60,7 @@ module _ (bank : List ℕ) (k : ℕ) (bytes : List ℕ) where
   length-written = length-at (write bytes) (keeps-written bytes) k bank
 
   -- it fits as it did
-  pub fits-still : FitsAt bank k bytes → FitsAt (writtenAt bank k bytes) k bytes
+  fits-still : FitsAt bank k bytes → FitsAt (writtenAt bank k bytes) k bytes
   fits-still f = record { inside = has-still length-written (f .inside); short = f .short; words = f .words }
 
   -- sector k becomes the bytes followed by 0xFF

@@ -59,7 +59,7 @@ behind buffer a b c =
     drop-drop c b (drop a buffer) ∙ drop-drop (b + c) a buffer ∙ ap (λ (n : ℕ). drop n buffer) e
 
 module _ (buffer : List ℕ) (first : ℕ) (begun bytes : List ℕ) (footer : ℕ) where
-  pub pieces : length begun + length bytes + 3 ≤ length buffer
+  pieces : length begun + length bytes + 3 ≤ length buffer
       → closedAt (placeOf (frontOf buffer (first ∷ begun)) (suc (length begun)) bytes) (suc (length begun) + length bytes) footer
       ≡ frontOf buffer (framed first (begun ++ bytes) footer)
   pieces h =

@@ -25,13 +25,13 @@ use Rattle.response.specs.Response.{kindOf, mayCarry, addsOf, addedOf, a
 use Rattle.response.proofs.Responses.{adds-some, is-plain, is-accepted, is-written, from-control, from-write}
 
 -- a control frame, by its code and parameters
-pub control-read : (code : ℕ) (parameters : List ℕ) → controlOf code parameters ≡ responseOf (controlFrame code parameters)
+control-read : (code : ℕ) (parameters : List ℕ) → controlOf code parameters ≡ responseOf (controlFrame code parameters)
 control-read code parameters =
     ap (controlOf code) (sym (control-parameters code parameters))
     ∙ from-control (controlFrame code parameters) code (length parameters) (control-back code parameters)
 
 -- a write frame with footer 03, by its sector and bytes
-pub write-read : (sector : ℕ) (bytes : List ℕ) → sector < 65536 → length bytes < 65536 → writtenOf sector bytes ≡ responseOf (writeFrame sector bytes End)
+write-read : (sector : ℕ) (bytes : List ℕ) → sector < 65536 → length bytes < 65536 → writtenOf sector bytes ≡ responseOf (writeFrame sector bytes End)
 write-read sector bytes s l =
     ap (writtenOf sector) (sym (write-bytes sector bytes End))
     ∙ from-write (writeFrame sector bytes End) sector (length bytes) (write-back sector bytes End s l)

@@ -24,11 +24,11 @@ use Rattle.sender.specs.Made.{room, roomFor, standing}
 use Rattle.sender.specs.Request.{codeOf, asksFor, givenGood, requestFrame, requestMade, Request·Is, Control·Is}
 
 module _ (size : ℕ) (bytes : List ℕ) where
-  pub no-room : size < room → BadLength ≡ roomFor size bytes
+  no-room : size < room → BadLength ≡ roomFor size bytes
   unfolding roomFor
   no-room h = rw (lt-leb room size h)
 
-  pub has-room : (n : ℕ) → n ≡ length bytes → room ≤ size → Frame n ≡ roomFor size bytes
+  has-room : (n : ℕ) → n ≡ length bytes → room ≤ size → Frame n ≡ roomFor size bytes
   unfolding roomFor
   has-room n e h = rw (le-leb room size h) (ap Frame e)
 

@@ -35,7 +35,7 @@ sector-from k g =
     ap (λ (j : ℕ). j * sectorSize) less ∙ offset-good (k + 1) g
 
 module _ (image : List ℕ) (n : ℕ) (g : goodN n ≡ true) (e : length image ≡ sectorSize * n) where
-  pub sector-end : (k : ℕ) → 1 ≤ k → k ≤ n → sectorOffset k + sectorSize ≤ length image
+  sector-end : (k : ℕ) → 1 ≤ k → k ≤ n → sectorOffset k + sectorSize ≤ length image
   sector-end k l u =
       let o : (k - 1) * sectorSize ≡ sectorOffset k = offset-good k (good-below n g k l u) in
       omega arith
@@ -205,7 +205,7 @@ module _ (image : List ℕ) (n p : ℕ) where
       unfolding packetMade
       made-past h q = rw (g, eq-eqb (length image) (sectorSize * n) e, le-leb room size h, le-ltb p (packetCount image n) q)
 
-      pub made-frame : room ≤ size → p < packetCount image n → Frame (sectorSize + 7) ≡ packetMade image n p size
+      made-frame : room ≤ size → p < packetCount image n → Frame (sectorSize + 7) ≡ packetMade image n p size
       unfolding packetMade
       made-frame h q = rw (g, eq-eqb (length image) (sectorSize * n) e, le-leb room size h, lt-ltb p (packetCount image n) q) (ap Frame (sym (frame-length g e q)))
 
