@@ -19,7 +19,7 @@ wide-requires : tie.Need-wide-requires
 wide-requires c κs = search needs
 
 returns : tie.Need-returns
-returns c = ((c .wide .ensures .0) ∙ (c .before .value-at .ensures .1) (sym (c .before .before .before .pair-at .ensures) ∙ (c .before .before .if1 .taken)), omega arith)
+returns c = ((c .wide .ensures .0) ∙ (c .before .value-at .ensures) (sym (c .before .before .before .pair-at .ensures) ∙ (c .before .before .if1 .taken)), omega arith)
 
 returns-2 : tie.Need-returns-2
 returns-2 c =
