@@ -30,7 +30,7 @@ in-range a b c e = (leb-true a c (and-left (leb a c) (leb c b) e), leb-true c b 
 -- ---- two digits
 
 module _ (a b : ℕ) where
-  pub pair-none : (isDigit a && isDigit b) ≡ false → byteOf a b ≡ 256
+  pair-none : (isDigit a && isDigit b) ≡ false → byteOf a b ≡ 256
   unfolding byteOf
   pair-none e = rw e
 
@@ -62,7 +62,7 @@ module _ (a b : ℕ) where
 
 -- ---- the bytes from a position on, one more at a time
 
-pub bytes-one : (t : List ℕ) (p k : ℕ) → 0 < k → bytesAt t p k ≡ byteAt t p ∷ bytesAt t (p + 2) (k - 1)
+bytes-one : (t : List ℕ) (p k : ℕ) → 0 < k → bytesAt t p k ≡ byteAt t p ∷ bytesAt t (p + 2) (k - 1)
 unfolding bytesAt
 bytes-one t p zero h = absurd (omega arith)
 bytes-one t p (suc k) h = let e : suc k - 1 ≡ k = omega arith in rw e

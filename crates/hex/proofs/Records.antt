@@ -8,7 +8,7 @@ use native.Mathlib.Nat.{zero-add}
 use native.Mathlib.Numerals.{add-one}
 use native.Mathlib.Omega.{arith}
 use lib.Dec.{eqb, leb, ltb}
-use lib.ListN.{length, getD, take, drop, length-take, length-drop}
+use lib.ListN.{length, getD, take, drop, length-take, length-drop, List·getD-append}
 use lib.Seq.{take-append-le, drop-append-le, take-at, sets, sets-eq, slice, slice-cons, slice-empty, length-slice}
 use borrow.Author.Tests.{eq-eqb, ne-eqb, eqb-true, eqb-false, lt-ltb, ltb-true, leb-true}
 use Rattle.buffer.proofs.Bools.{and-left, and-right, and-both, not-so, same-tests, split}
@@ -19,8 +19,8 @@ use Rattle.hex.specs.declared.record.Found.{Found}
 use Rattle.hex.specs.declared.record.Found.the-variants.{Fault, Data, Upper, End, Other}
 use Rattle.hex.specs.Digit.{isDigit, byteOf, bytesOf}
 use Rattle.hex.specs.Record.{Whole, digitsIn, countOf, addressOf, typeOf, dataOf, dueOf, digitsWhole, recordOf, total, inBank, dataAt, typed, says, foundOf}
-use Rattle.hex.specs.Places.{byteAt, bytesAt, allBytes, checkFrom, Looked}
-use Rattle.hex.proofs.Digits.{pair-small, pair-so, bytes-one}
+use Rattle.hex.specs.Places.{bytesAt, allBytes, checkFrom, Looked}
+use Rattle.hex.proofs.Digits.{pair-small, pair-so}
 use Rattle.hex.proofs.Lines.{no-way}
 
 not-both : (a b c d : ℕ) → (a ≡ b → c ≡ d → ⊥) → (eqb a b && eqb c d) ≡ false
@@ -175,46 +175,35 @@ module _ (t : List ℕ) (from to : ℕ) (k : to ≤ length t) where
   line-digits : from < to → drop 1 (slice from to t) ≡ slice (from + 1) to t
   line-digits h = rw (add-one, slice-cons from to t 0 h k)
 
-  -- a record's line is as long as its countOf says
-  record-length : isRecord (slice from to t) ≡ true → to - from ≡ 11 + 2 * countOf (spelledBy (slice from to t))
-  record-length e =
-      let f = record-fields (slice from to t) e in
+  -- a record's line is as long as its count says
+  length-not : ((n : ℕ) → n < 256 → to - from ≡ 11 + 2 * n → ⊥) → isRecord (slice from to t) ≡ false
+  length-not d =
+      not-so _
+      (λ r.
+      let f = record-fields (slice from to t) r in
       let a = all-even (drop 1 (slice from to t)) (f .1 .0) in
       let b = length-drop 1 (slice from to t) in
       let c = length-slice from to t k in
-      omega (arith, f .1 .1)
-
-  record-countOf : from + 3 ≤ to → countOf (spelledBy (slice from to t)) ≡ byteAt t (from + 1)
-  unfolding bytesOf
-  record-countOf h = rw (line-digits (omega arith), slice-cons (from + 1) to t 0 (omega arith) k, slice-cons (suc (from + 1)) to t 0 (omega arith) k, add-one (from + 1))
-
-  short-not : to - from < 11 → isRecord (slice from to t) ≡ false
-  short-not h = not-so _ (λ e. let l = record-length e in omega arith)
+      d (countOf (spelledBy (slice from to t))) (all-small (spelledBy (slice from to t)) (f .1 .0) 0) (omega (arith, f .1 .1)))
 
   colon-not : from < to → (getD t from 0 ≡ 0x3A → ⊥) → isRecord (slice from to t) ≡ false
   colon-not h n = not-so _ (λ e. n (sym (line-colon h) ∙ record-fields (slice from to t) e .0))
 
-  length-not : {n : ℕ} → n ≡ byteAt t (from + 1) → from + 3 ≤ to → (to - from ≡ 11 + 2 * n → ⊥) → isRecord (slice from to t) ≡ false
-  length-not {n} e h d = not-so _ (λ r. d (record-length r ∙ ap (λ (m : ℕ). 11 + 2 * m) (record-countOf h ∙ sym e)))
-
-  module _ (n : ℕ) (len : to - from ≡ 11 + 2 * n) where
-    record-at : spelledBy (slice from to t) ≡ bytesAt t (from + 1) (n + 5)
+  module _ (m : ℕ) (len : to - from ≡ 2 * m + 1) where
+    record-at : spelledBy (slice from to t) ≡ bytesAt t (from + 1) m
     record-at =
-        let e : to ≡ from + 1 + 2 * (n + 5) = omega arith in
-        ap bytesOf (line-digits (omega arith)) ∙ rw e (bytes-slice t (from + 1) (n + 5) (omega arith))
+        let e : to ≡ from + 1 + 2 * m = omega arith in
+        ap bytesOf (line-digits (omega arith)) ∙ rw e (bytes-slice t (from + 1) m (omega arith))
 
-    bytes-not : allBytes (bytesAt t (from + 1) (n + 5)) ≡ false → isRecord (slice from to t) ≡ false
+    bytes-not : allBytes (bytesAt t (from + 1) m) ≡ false → isRecord (slice from to t) ≡ false
     bytes-not a = not-so _ (λ r. let b = record-fields (slice from to t) r .1 .0 in let z : _≡_ {A = ℕ} 0 1 = cc record-at in omega arith)
 
-    is-record : n ≡ byteAt t (from + 1) → getD t from 0 ≡ 0x3A → allBytes (bytesAt t (from + 1) (n + 5)) ≡ true → isRecord (slice from to t) ≡ true
+    count-not : (m ≡ countOf (bytesAt t (from + 1) m) + 5 → ⊥) → isRecord (slice from to t) ≡ false
+    count-not n = not-so _ (λ r. n (sym (bytes-length t (from + 1) m) ∙ (rw record-at at (record-fields (slice from to t) r .1 .1))))
+
+    is-record : getD t from 0 ≡ 0x3A → allBytes (bytesAt t (from + 1) m) ≡ true → m ≡ countOf (bytesAt t (from + 1) m) + 5 → isRecord (slice from to t) ≡ true
     unfolding isRecord
-    is-record e c a =
-        simp (
-          eq-eqb _ 0x3A (line-colon (omega arith) ∙ c),
-          record-at,
-          a,
-          eq-eqb _ _ (bytes-length t (from + 1) (n + 5) ∙ ap (λ (m : ℕ). m + 5) (e ∙ sym (record-countOf (omega arith)) ∙ ap countOf record-at)),
-        )
+    is-record c a e = simp (eq-eqb _ 0x3A (line-colon (omega arith) ∙ c), record-at, a, eq-eqb _ _ (bytes-length t (from + 1) m ∙ e))
 
 -- WHAT A LINE SAYS, CASE BY CASE
 
@@ -362,29 +351,26 @@ upper-in base size s line u e = rw e at (told base size s line)
 
 -- WHAT WAS LOOKED AT, CASE BY CASE
 
-abbrev recordAt : List ℕ → ℕ → ℕ → List ℕ
-recordAt t from n = bytesAt t (from + 1) (n + 5)
+-- the bytes of a record at the front of what the code holds
+module _ (t : List ℕ) (p m : ℕ) {held : List ℕ} (before : List ℕ) (room : m ≤ length before) (put : held ≡ sets before 0 (bytesAt t p m)) where
+  held-is : held ≡ bytesAt t p m ++ drop m before
+  held-is = let l = bytes-length t p m in put ∙ sets-eq (bytesAt t p m) before 0 (omega arith) ∙ rw (zero-add, l)
 
--- the record's bytes at the front of what the code holds
-module _ (t : List ℕ) (from n : ℕ) {held : List ℕ} (before : List ℕ) (room : n + 5 ≤ length before) (put : held ≡ sets before 0 (recordAt t from n)) where
-  held-is : held ≡ recordAt t from n ++ drop (n + 5) before
-  held-is = let l = bytes-length t (from + 1) (n + 5) in put ∙ sets-eq (recordAt t from n) before 0 (omega arith) ∙ rw (zero-add, l)
+  front-is : take m held ≡ bytesAt t p m
+  front-is = rw held-is (take-at (bytesAt t p m) _ m (bytes-length t p m))
 
-  front-is : take (n + 5) held ≡ recordAt t from n
-  front-is = rw held-is (take-at (recordAt t from n) _ (n + 5) (bytes-length t (from + 1) (n + 5)))
+  front-count : 0 < m → countOf held ≡ countOf (bytesAt t p m)
+  front-count h = let l = bytes-length t p m in rw held-is (List·getD-append (bytesAt t p m) (drop m before) 0 0 (omega arith))
 
-  pub front-counted : n ≡ byteAt t (from + 1) → countOf (take (n + 5) held) + 5 ≤ length (take (n + 5) held)
-  front-counted e =
-      let l = bytes-length t (from + 1) (n + 5) in
-      let c : countOf (recordAt t from n) ≡ n = rw (bytes-one t (from + 1) (n + 5) (omega arith)) (sym e) in
-      rw front-is (omega arith)
+  pub front-counted : {n : ℕ} → n ≡ countOf held → m ≡ n + 5 → countOf (take m held) + 5 ≤ length (take m held)
+  front-counted e f = let l = bytes-length t p m in let c = front-count (omega arith) in rw front-is (omega arith)
 
-  front-data : (m : ℕ) → length (dataOf m (recordAt t from n)) ≡ m → dataOf m held ≡ dataOf m (recordAt t from n)
-  front-data m w =
-      let l = bytes-length t (from + 1) (n + 5) in
+  front-data : (n : ℕ) → 4 ≤ m → length (dataOf n (bytesAt t p m)) ≡ n → dataOf n held ≡ dataOf n (bytesAt t p m)
+  front-data n h w =
+      let l = bytes-length t p m in
       let w' = simp (length-take, length-drop) at w in
-      rw (held-is, drop-append-le 4 (recordAt t from n) (drop (n + 5) before) (omega arith))
-      (take-append-le m (drop 4 (recordAt t from n)) (drop (n + 5) before) (simp length-drop (omega arith)))
+      rw (held-is, drop-append-le 4 (bytesAt t p m) (drop m before) (omega arith))
+      (take-append-le n (drop 4 (bytesAt t p m)) (drop m before) (simp length-drop (omega arith)))
 
 module _ (t : List ℕ) (from to : ℕ) (k : to ≤ length t) (base size : ℕ) (s : State) (held : List ℕ) where
   looked-fault : (f : Kind) → foundOf base size s (slice from to t) ≡ Fault f → Looked t from to base size s held (Fault f)
@@ -397,39 +383,43 @@ module _ (t : List ℕ) (from to : ℕ) (k : to ≤ length t) (base size : ℕ) 
     looked-1 : isRecord (slice from to t) ≡ false → Looked t from to base size s held (Fault H1)
     looked-1 r = looked-fault H1 (found-1 base size s (slice from to t) o r)
 
-    pub looked-short : to - from < 11 → Looked t from to base size s held (Fault H1)
-    looked-short h = looked-1 (short-not t from to k h)
+    pub looked-length : ((n : ℕ) → n < 256 → to - from ≡ 11 + 2 * n → ⊥) → Looked t from to base size s held (Fault H1)
+    looked-length d = looked-1 (length-not t from to k d)
 
     pub looked-colon : from < to → (getD t from 0 ≡ 0x3A → ⊥) → Looked t from to base size s held (Fault H1)
     looked-colon h n = looked-1 (colon-not t from to k h n)
 
-    pub looked-length : {n : ℕ} → n ≡ byteAt t (from + 1) → from + 3 ≤ to → (to - from ≡ 11 + 2 * n → ⊥) → Looked t from to base size s held (Fault H1)
-    looked-length e h d = looked-1 (length-not t from to k e h d)
-
-    module _ (n : ℕ) (len : to - from ≡ 11 + 2 * n) {sum : ℕ} (added : sum ≡ checkFrom 0 (recordAt t from n)) where
+    module _ (m : ℕ) (len : to - from ≡ 2 * m + 1) {sum : ℕ} (added : sum ≡ checkFrom 0 (bytesAt t (from + 1) m)) where
       pub looked-bytes : sum ≡ 256 → Looked t from to base size s held (Fault H1)
-      looked-bytes z = looked-1 (bytes-not t from to k n len (sum-bad _ (sym added ∙ z)))
+      looked-bytes z = looked-1 (bytes-not t from to k m len (sum-bad _ (sym added ∙ z)))
 
-      module _ (e : n ≡ byteAt t (from + 1)) (colon : getD t from 0 ≡ 0x3A) (g : sum ≡ 256 → ⊥) where
-        good : (allBytes (recordAt t from n) ≡ true) × (checkFrom 0 (recordAt t from n) ≡ total (recordAt t from n) % 256)
-        good = sum-good (recordAt t from n) (λ z. g (added ∙ z))
+      module _
+          (g : sum ≡ 256 → ⊥) (before : List ℕ) (room : m ≤ length before) (put : held ≡ sets before 0 (bytesAt t (from + 1) m)) (some : 4 ≤ m)
+          {n : ℕ} (e : n ≡ countOf held) where
+        count-is : n ≡ countOf (bytesAt t (from + 1) m)
+        count-is = e ∙ front-count t (from + 1) m before room put (omega arith)
 
-        whole : isRecord (slice from to t) ≡ true
-        whole = is-record t from to k n len e colon (good .0)
+        pub looked-count : (m ≡ n + 5 → ⊥) → Looked t from to base size s held (Fault H1)
+        looked-count d = looked-1 (count-not t from to k m len (λ z. let c = count-is in d (omega arith)))
 
-        added-is : sum ≡ total (spelledBy (slice from to t)) % 256
-        added-is = rw (record-at t from to k n len) (added ∙ good .1)
+        module _ (colon : getD t from 0 ≡ 0x3A) (fit : m ≡ n + 5) where
+          good : (allBytes (bytesAt t (from + 1) m) ≡ true) × (checkFrom 0 (bytesAt t (from + 1) m) ≡ total (bytesAt t (from + 1) m) % 256)
+          good = sum-good (bytesAt t (from + 1) m) (λ z. g (added ∙ z))
 
-        pub looked-sum : (sum ≡ 0 → ⊥) → Looked t from to base size s held (Fault H2)
-        looked-sum h = looked-fault H2 (found-2 base size s (slice from to t) o whole (λ z. h (added-is ∙ z)))
+          whole : isRecord (slice from to t) ≡ true
+          whole = is-record t from to k m len colon (good .0) (let c = count-is in omega arith)
 
-        pub looked-typed :
-            (before : List ℕ) (room : n + 5 ≤ length before) (put : held ≡ sets before 0 (recordAt t from n)) {r : Found}
-            → sum ≡ 0 → r ≡ typed base size (s .upper) (s .last) (take (n + 5) held) → Looked t from to base size s held r
-        looked-typed before room put z q =
-            let b = record-at t from to k n len in
-            let f = q ∙ ap (typed base size (s .upper) (s .last)) (front-is t from n before room put ∙ sym b) ∙ sym (found-typed base size s (slice from to t) o whole (sym added-is ∙ z)) in
-            record { is = f; holds = λ start m h. rw b (front-data t from n before room put m (rw b at (data-in base size s (slice from to t) start m (sym f ∙ h) .whole))) }
+          added-is : sum ≡ total (spelledBy (slice from to t)) % 256
+          added-is = rw (record-at t from to k m len) (added ∙ good .1)
+
+          pub looked-sum : (sum ≡ 0 → ⊥) → Looked t from to base size s held (Fault H2)
+          looked-sum h = looked-fault H2 (found-2 base size s (slice from to t) o whole (λ z. h (added-is ∙ z)))
+
+          pub looked-typed : {r : Found} → sum ≡ 0 → r ≡ typed base size (s .upper) (s .last) (take m held) → Looked t from to base size s held r
+          looked-typed z q =
+              let b = record-at t from to k m len in
+              let f = q ∙ ap (typed base size (s .upper) (s .last)) (front-is t (from + 1) m before room put ∙ sym b) ∙ sym (found-typed base size s (slice from to t) o whole (sym added-is ∙ z)) in
+              record { is = f; holds = λ start n h. rw b (front-data t (from + 1) m before room put n some (rw b at (data-in base size s (slice from to t) start n (sym f ∙ h) .whole))) }
 
 -- data that were found: where they belong, and that they lie within the record
 module _ {t : List ℕ} {from to base size : ℕ} {s : State} {held : List ℕ} {start n : ℕ} (l : Looked t from to base size s held (Data start n)) where

@@ -14,9 +14,6 @@ ghost use Rattle.hex.specs.Line.{lines};
 ghost use Rattle.hex.specs.Read.{readLines, fresh, finishOf, Read·Is};
 ghost use Rattle.hex.specs.Places.{LookFits, Took, Came};
 
-// Room for a record: a count that isn't spelled says 256.
-const LONGEST: usize = 261;
-
 // What comes back of a text.
 pub enum Answer {
     // The number of sectors is no bank's.
@@ -51,7 +48,7 @@ fn take_line(
     requires { ⌜ LookFits (now text) from to base (length (now image)) state ⌝ }
     ensures { λ r. ⌜ Took base state (slice from to (now (text .entry))) (now (image .entry)) (now (image .exit)) r ⌝ }
 {
-    let mut bytes = [0u8; LONGEST];
+    let mut bytes = [0u8; crate::record::LONGEST];
     let seen = crate::record::look(text, from, to, base, image.len(), state, &mut bytes);
     match seen {
         Found::Fault(kind) => Step::Stop(kind),

@@ -1,5 +1,4 @@
 // The record of a line, and what it says.
-use crate::digit::byte_at;
 use crate::digit::pair_at;
 use crate::digit::value_at;
 use crate::digit::wide;
@@ -10,6 +9,9 @@ ghost use Prim.Native.Nat.{_+_, _*_, _<_, _≤_};
 ghost use lib.ListN.{length};
 ghost use Rattle.hex.specs.Record.{countOf, dataAt, typed};
 ghost use Rattle.hex.specs.Places.{SpelledAt, LookFits, Looked};
+
+// As many bytes as a record has at most: a count of 255, and 5 beside the data.
+pub(crate) const LONGEST: usize = 260;
 
 // Where the reading stands: the upper half of addresses, the end of earlier data, whether the end record was seen.
 pub struct State {
@@ -123,7 +125,7 @@ pub(crate) fn look(
     state: State,
     bytes: &mut [u8],
 ) -> Found
-    requires { ⌜ LookFits (now text) from to base size state × (261 ≤ length (now bytes)) ⌝ }
+    requires { ⌜ LookFits (now text) from to base size state × (260 ≤ length (now bytes)) ⌝ }
     ensures { λ r. ⌜ Looked (now (text .entry)) from to base size state (now (bytes .exit)) r ⌝ }
 {
     if state.over {
@@ -133,17 +135,21 @@ pub(crate) fn look(
     if len < 11 {
         return Found::Fault(Kind::H1);
     }
+    if 2 * LONGEST + 1 < len {
+        return Found::Fault(Kind::H1);
+    }
+    if len % 2 == 0 {
+        return Found::Fault(Kind::H1);
+    }
     if text[from] != b':' {
         return Found::Fault(Kind::H1);
     }
-    let p = from + 1;
-    let n = byte_at(text, p);
-    if len != 11 + 2 * n {
+    let k = len / 2;
+    let sum = spell(text, from + 1, k, bytes);
+    if sum == 256 {
         return Found::Fault(Kind::H1);
     }
-    let k = n + 5;
-    let sum = spell(text, p, k, bytes);
-    if sum == 256 {
+    if k != wide(bytes[0]) + 5 {
         return Found::Fault(Kind::H1);
     }
     if sum != 0 {

@@ -4,7 +4,7 @@ use mathlib.Core.Path.{sym}
 use native.Mathlib.Omega.{arith}
 use lib.Seq.{length-take-le}
 use borrow.Author.Needs.{needs}
-use Rattle.hex.proofs.Records.{looked-over, looked-short, looked-colon, looked-length, looked-bytes, looked-sum, looked-typed, front-counted}
+use Rattle.hex.proofs.Records.{looked-over, looked-length, looked-colon, looked-bytes, looked-count, looked-sum, looked-typed, front-counted}
 use Rattle.hex.proofs.record.look.Statement.{statement}
 use Rattle.hex.proofs.record.look.Tie as tie
 
@@ -21,37 +21,37 @@ returns-2 : tie.Need-returns-2
 returns-2 c =
     let a = c .before .before .before .before .args in
     let q = c .before .before .before .before .pre .0 in
-    looked-short (a .text .now) (a .from) (a .to) (q .within) (a .base) (a .size) (a .state) _ (c .before .if1 .left) (c .if2 .taken)
+    looked-length (a .text .now) (a .from) (a .to) (q .within) (a .base) (a .size) (a .state) _ (c .before .if1 .left) (λ n h e. omega arith)
 
-shared-slice-read-if3 : tie.Need-shared-slice-read-if3
-shared-slice-read-if3 c = search needs
+mul-if3 : tie.Need-mul-if3
+mul-if3 c = search needs
+
+add-if3 : tie.Need-add-if3
+add-if3 c = search needs
 
 returns-3 : tie.Need-returns-3
 returns-3 c =
-    let a = c .before .before .before .before .before .before .args in
-    let q = c .before .before .before .before .before .before .pre .0 in
-    looked-colon (a .text .now) (a .from) (a .to) (q .within) (a .base) (a .size) (a .state) _ (c .before .before .before .if1 .left) (omega arith) (c .if3 .taken)
-
-add-p : tie.Need-add-p
-add-p c = search needs
-
-byte-at-requires : tie.Need-byte-at-requires
-byte-at-requires c κs = search needs
-
-mul-if4 : tie.Need-mul-if4
-mul-if4 c = search needs
-
-add-if4 : tie.Need-add-if4
-add-if4 c = search needs
+    let a = c .before .before .before .before .before .args in
+    let q = c .before .before .before .before .before .pre .0 in
+    looked-length (a .text .now) (a .from) (a .to) (q .within) (a .base) (a .size) (a .state) _ (c .before .before .if1 .left) (λ n h e. omega arith)
 
 returns-4 : tie.Need-returns-4
 returns-4 c =
+    let a = c .before .before .before .before .before .before .args in
+    let q = c .before .before .before .before .before .before .pre .0 in
+    looked-length (a .text .now) (a .from) (a .to) (q .within) (a .base) (a .size) (a .state) _ (c .before .before .before .if1 .left) (λ n h e. omega arith)
+
+shared-slice-read-if5 : tie.Need-shared-slice-read-if5
+shared-slice-read-if5 c = search needs
+
+returns-5 : tie.Need-returns-5
+returns-5 c =
     let a = c .before .before .before .before .before .before .before .before .args in
     let q = c .before .before .before .before .before .before .before .before .pre .0 in
-    looked-length (a .text .now) (a .from) (a .to) (q .within) (a .base) (a .size) (a .state) _ (c .before .before .before .before .before .if1 .left) (c .before .byte-at .ensures .0) (omega arith) (c .if4 .taken)
+    looked-colon (a .text .now) (a .from) (a .to) (q .within) (a .base) (a .size) (a .state) _ (c .before .before .before .before .before .if1 .left) (omega arith) (c .if5 .taken)
 
-add-k : tie.Need-add-k
-add-k c = search needs
+add-spell : tie.Need-add-spell
+add-spell c = search needs
 
 spell-requires : tie.Need-spell-requires
 spell-requires c κs = search needs
@@ -59,41 +59,59 @@ spell-requires c κs = search needs
 same-length : tie.Need-same-length
 same-length c = search needs
 
-returns-5 : tie.Need-returns-5
-returns-5 c =
+returns-6 : tie.Need-returns-6
+returns-6 c =
     let a = c .before .before .before .before .before .before .before .before .before .before .before .before .before .args in
     let q = c .before .before .before .before .before .before .before .before .before .before .before .before .before .pre .0 in
-    looked-bytes (a .text .now) (a .from) (a .to) (q .within) (a .base) (a .size) (a .state) _ (c .before .before .before .before .before .before .before .before .before .before .if1 .left) (c .before .before .before .before .before .before .byte-at .result) (c .before .before .before .before .before .if4 .left) (c .before .before .before .spell .ensures .sum) (c .if5 .taken)
+    looked-bytes (a .text .now) (a .from) (a .to) (q .within) (a .base) (a .size) (a .state) _ (c .before .before .before .before .before .before .before .before .before .before .if1 .left) _ (omega arith) (c .before .before .before .spell .ensures .sum) (c .if6 .taken)
+
+slice-read-wide : tie.Need-slice-read-wide
+slice-read-wide c = search needs
+
+wide-requires : tie.Need-wide-requires
+wide-requires c κs = search needs
+
+add-if7 : tie.Need-add-if7
+add-if7 c = search needs
 
 same-length-2 : tie.Need-same-length-2
 same-length-2 c = search needs
-
-returns-6 : tie.Need-returns-6
-returns-6 c =
-    let a = c .before .before .before .before .before .before .before .before .before .before .before .before .before .before .args in
-    let q = c .before .before .before .before .before .before .before .before .before .before .before .before .before .before .pre .0 in
-    looked-sum (a .text .now) (a .from) (a .to) (q .within) (a .base) (a .size) (a .state) _ (c .before .before .before .before .before .before .before .before .before .before .before .if1 .left) (c .before .before .before .before .before .before .before .byte-at .result) (c .before .before .before .before .before .before .if4 .left) (c .before .before .before .before .spell .ensures .sum) (c .before .before .before .before .before .before .before .byte-at .ensures .0) (c .before .before .before .before .before .before .before .before .if3 .left) (c .before .if5 .left) (c .if6 .taken)
-
-slice-reshare-prefix-typed-at : tie.Need-slice-reshare-prefix-typed-at
-slice-reshare-prefix-typed-at c = search needs
-
-slice-aggregate-typed-at : tie.Need-slice-aggregate-typed-at
-slice-aggregate-typed-at c = let l = c .before .before .before .before .before .spell .kept .1 .1 .1 .0 in sym (length-take-le _ _ (omega arith))
-
-typed-at-requires : tie.Need-typed-at-requires
-typed-at-requires c κs =
-    let a = c .before .before .before .before .before .before .before .before .before .before .before .before .before .before .before .args in
-    let q = c .before .before .before .before .before .before .before .before .before .before .before .before .before .before .before .pre .0 in
-    (front-counted (a .text .now) (a .from) _ (a .bytes .now) (omega arith) ((c .before .before .before .before .before .spell .ensures .bytes) (c .before .before .if5 .left)) (c .before .before .before .before .before .before .before .before .byte-at .ensures .0), (q .upper-small, (q .base-small, q .size-small)))
-
-same-length-3 : tie.Need-same-length-3
-same-length-3 c = search needs
 
 returns-7 : tie.Need-returns-7
 returns-7 c =
     let a = c .before .before .before .before .before .before .before .before .before .before .before .before .before .before .before .before .args in
     let q = c .before .before .before .before .before .before .before .before .before .before .before .before .before .before .before .before .pre .0 in
-    looked-typed (a .text .now) (a .from) (a .to) (q .within) (a .base) (a .size) (a .state) _ (c .before .before .before .before .before .before .before .before .before .before .before .before .before .if1 .left) (c .before .before .before .before .before .before .before .before .before .byte-at .result) (c .before .before .before .before .before .before .before .before .if4 .left) (c .before .before .before .before .before .before .spell .ensures .sum) (c .before .before .before .before .before .before .before .before .before .byte-at .ensures .0) (c .before .before .before .before .before .before .before .before .before .before .if3 .left) (c .before .before .before .if5 .left) (a .bytes .now) (omega arith) ((c .before .before .before .before .before .before .spell .ensures .bytes) (c .before .before .before .if5 .left)) (c .before .before .if6 .left) (c .typed-at .ensures)
+    looked-count (a .text .now) (a .from) (a .to) (q .within) (a .base) (a .size) (a .state) _ (c .before .before .before .before .before .before .before .before .before .before .before .before .before .if1 .left) _ (omega arith) (c .before .before .before .before .before .before .spell .ensures .sum) (c .before .before .before .if6 .left) (a .bytes .now) (omega arith) ((c .before .before .before .before .before .before .spell .ensures .bytes) (c .before .before .before .if6 .left)) (omega arith) (c .before .wide .ensures .0) (c .if7 .taken)
+
+same-length-3 : tie.Need-same-length-3
+same-length-3 c = search needs
+
+returns-8 : tie.Need-returns-8
+returns-8 c =
+    let a = c .before .before .before .before .before .before .before .before .before .before .before .before .before .before .before .before .before .args in
+    let q = c .before .before .before .before .before .before .before .before .before .before .before .before .before .before .before .before .before .pre .0 in
+    looked-sum (a .text .now) (a .from) (a .to) (q .within) (a .base) (a .size) (a .state) _ (c .before .before .before .before .before .before .before .before .before .before .before .before .before .before .if1 .left) _ (omega arith) (c .before .before .before .before .before .before .before .spell .ensures .sum) (c .before .before .before .before .if6 .left) (a .bytes .now) (omega arith) ((c .before .before .before .before .before .before .before .spell .ensures .bytes) (c .before .before .before .before .if6 .left)) (omega arith) (c .before .before .wide .ensures .0) (c .before .before .before .before .before .before .before .before .before .if5 .left) (c .before .if7 .left) (c .if8 .taken)
+
+slice-reshare-prefix-typed-at : tie.Need-slice-reshare-prefix-typed-at
+slice-reshare-prefix-typed-at c = search needs
+
+slice-aggregate-typed-at : tie.Need-slice-aggregate-typed-at
+slice-aggregate-typed-at c = let l = c .before .before .before .before .before .before .before .before .spell .kept .1 .1 .1 .0 in sym (length-take-le _ _ (omega arith))
+
+typed-at-requires : tie.Need-typed-at-requires
+typed-at-requires c κs =
+    let a = c .before .before .before .before .before .before .before .before .before .before .before .before .before .before .before .before .before .before .args in
+    let q = c .before .before .before .before .before .before .before .before .before .before .before .before .before .before .before .before .before .before .pre .0 in
+    (front-counted (a .text .now) _ _ (a .bytes .now) (omega arith) ((c .before .before .before .before .before .before .before .before .spell .ensures .bytes) (c .before .before .before .before .before .if6 .left)) (c .before .before .before .wide .ensures .0) (c .before .before .if7 .left), (q .upper-small, (q .base-small, q .size-small)))
+
+same-length-4 : tie.Need-same-length-4
+same-length-4 c = search needs
+
+returns-9 : tie.Need-returns-9
+returns-9 c =
+    let a = c .before .before .before .before .before .before .before .before .before .before .before .before .before .before .before .before .before .before .before .args in
+    let q = c .before .before .before .before .before .before .before .before .before .before .before .before .before .before .before .before .before .before .before .pre .0 in
+    looked-typed (a .text .now) (a .from) (a .to) (q .within) (a .base) (a .size) (a .state) _ (c .before .before .before .before .before .before .before .before .before .before .before .before .before .before .before .before .if1 .left) _ (omega arith) (c .before .before .before .before .before .before .before .before .before .spell .ensures .sum) (c .before .before .before .before .before .before .if6 .left) (a .bytes .now) (omega arith) ((c .before .before .before .before .before .before .before .before .before .spell .ensures .bytes) (c .before .before .before .before .before .before .if6 .left)) (omega arith) (c .before .before .before .before .wide .ensures .0) (c .before .before .before .before .before .before .before .before .before .before .before .if5 .left) (c .before .before .before .if7 .left) (c .before .before .if8 .left) (c .typed-at .ensures)
 
 pub look-spec : {M : Type 1} → statement M
 look-spec =
@@ -102,21 +120,25 @@ look-spec =
     returns
     sub-len
     returns-2
-    shared-slice-read-if3
+    mul-if3
+    add-if3
     returns-3
-    add-p
-    byte-at-requires
-    mul-if4
-    add-if4
     returns-4
-    add-k
+    shared-slice-read-if5
+    returns-5
+    add-spell
     spell-requires
     same-length
-    returns-5
-    same-length-2
     returns-6
+    slice-read-wide
+    wide-requires
+    add-if7
+    same-length-2
+    returns-7
+    same-length-3
+    returns-8
     slice-reshare-prefix-typed-at
     slice-aggregate-typed-at
     typed-at-requires
-    same-length-3
-    returns-7)
+    same-length-4
+    returns-9)
