@@ -7,7 +7,7 @@ use Prim.Native.Nat.{ℕ, zero, suc, _+_, _-_, _*_, _%_, _<_, _≤_}
 use native.Mathlib.Nat.{add-assoc, add-zero}
 use native.Mathlib.Numerals.{add-one}
 use native.Mathlib.Omega.{arith}
-use lib.Dec.{leb, ltb}
+use lib.Dec.{leb}
 use lib.ListN.{getD, set}
 use lib.Seq.{sets}
 use borrow.Author.Tests.{lt-ltb, le-ltb, ltb-true, leb-true}
@@ -30,7 +30,7 @@ in-range a b c e = (leb-true a c (and-left (leb a c) (leb c b) e), leb-true c b 
 -- ---- two digits
 
 module _ (a b : ℕ) where
-  pub pair-none : (isDigit a && isDigit b) ≡ false → byteOf a b ≡ 256
+  pair-none : (isDigit a && isDigit b) ≡ false → byteOf a b ≡ 256
   unfolding byteOf
   pair-none e = rw e
 
@@ -53,13 +53,6 @@ module _ (a b : ℕ) where
     pub pair-small : byteOf a b < 256
     pair-small = let p = first-small in let q = second-small in let s = spelled in omega arith
 
-  pub byte-small : byteOf a b ≤ 256
-  byte-small = by (isDigit a && isDigit b) refl
-    where
-      by : (c : Bool) → (isDigit a && isDigit b) ≡ c → byteOf a b ≤ 256
-      by true e = let s = pair-small e in omega arith
-      by false e = let s = pair-none e in omega arith
-
   pub pair-so : byteOf a b < 256 → (isDigit a && isDigit b) ≡ true
   pair-so h = by (isDigit a && isDigit b) refl
     where
@@ -69,7 +62,7 @@ module _ (a b : ℕ) where
 
 -- ---- the bytes from a position on, one more at a time
 
-pub bytes-one : (t : List ℕ) (p k : ℕ) → 0 < k → bytesAt t p k ≡ byteAt t p ∷ bytesAt t (p + 2) (k - 1)
+bytes-one : (t : List ℕ) (p k : ℕ) → 0 < k → bytesAt t p k ≡ byteAt t p ∷ bytesAt t (p + 2) (k - 1)
 unfolding bytesAt
 bytes-one t p zero h = absurd (omega arith)
 bytes-one t p (suc k) h = let e : suc k - 1 ≡ k = omega arith in rw e
@@ -100,17 +93,17 @@ check-step true true s b t p k h e f =
     let i = f (sym e) in
     check-goes s t p k h (pair-small (getD t p 0) (getD t (p + 1) 0) (sym e)) ∙ rw (sym i) (sym (check-mod (s + b) (bytesAt t (p + 2) (k - 1))))
 
-pub all-first : (t : List ℕ) (p k : ℕ) → 0 < k → allBytes (bytesAt t p k) ≡ true → (byteAt t p < 256) × (allBytes (bytesAt t (p + 2) (k - 1)) ≡ true)
-unfolding allBytes
-all-first t p k h e =
-    let q = rw (bytes-one t p k h) at e in
-    let rest : Bool = allBytes (bytesAt t (p + 2) (k - 1)) in
-    (ltb-true _ _ (and-left (ltb (byteAt t p) 256) rest q), and-right (ltb (byteAt t p) 256) rest q)
-
 -- one byte more is stored
-pub sets-one : (l : List ℕ) (a : ℕ) (t : List ℕ) (p k : ℕ) → 0 < k → sets l a (bytesAt t p k) ≡ sets (set l a (byteAt t p)) (a + 1) (bytesAt t (p + 2) (k - 1))
+sets-one : (l : List ℕ) (a : ℕ) (t : List ℕ) (p k : ℕ) → 0 < k → sets l a (bytesAt t p k) ≡ sets (set l a (byteAt t p)) (a + 1) (bytesAt t (p + 2) (k - 1))
 sets-one l a t p k h = rw (add-one a, bytes-one t p k h)
 
 pub sets-none : (l : List ℕ) (a : ℕ) (t : List ℕ) (p : ℕ) → sets l a (bytesAt t p 0) ≡ l
 unfolding bytesAt
 sets-none l a t p = refl
+
+-- one pair more is stored, and where all were bytes so far it is one too
+pub sets-step :
+    (good g : Bool) (all l : List ℕ) (a b : ℕ) (t : List ℕ) (p k : ℕ) → 0 < k → g ≡ pairAt t p → (pairAt t p ≡ true → b ≡ byteAt t p)
+    → (good ≡ true → all ≡ sets l a (bytesAt t p k)) → (good && g) ≡ true → all ≡ sets (set l a b) (a + 1) (bytesAt t (p + 2) (k - 1))
+sets-step good g all l a b t p k h e f so z =
+    let i = f (sym e ∙ and-right good g z) in so (and-left good g z) ∙ rw i (sets-one l a t p k h)

@@ -56,7 +56,7 @@ end-fits t i h = rw (drop-cons t i 0 h) (by (eqb (getD t i 0) 0x0A) (drop (suc i
 
 -- ---- a byte from 14 on ends no line
 
-pub no-end : (t : List ℕ) (i : ℕ) → i < length t → 14 ≤ getD t i 0 → endLen (drop i t) ≡ 0
+no-end : (t : List ℕ) (i : ℕ) → i < length t → 14 ≤ getD t i 0 → endLen (drop i t) ≡ 0
 no-end t i h k = end-here t i h ∙ simp (ne-eqb (getD t i 0) 0x0A (λ e. omega arith), ne-eqb (getD t i 0) 0x0D (λ e. omega arith))
 
 pub quiet-goes :
@@ -154,7 +154,7 @@ all-some c t = by (eqb (endLen (c ∷ t)) 0) refl
     by true e = omega arith
     by false e = let n = eqb-false (endLen (c ∷ t)) 0 e in omega arith
 
-no-way : {A : Type 0} → _≡_ {A = ℕ} 0 1 → A
+pub no-way : {A : Type 0} → _≡_ {A = ℕ} 0 1 → A
 no-way z = absurd (omega arith)
 
 pub ahead-line : (t : List ℕ) (at : ℕ) (l : Line) → aheadAt t at ≡ One l → (at < length t) × LineAt t at (l .end) (l .next)
