@@ -10,7 +10,7 @@ use lib.ListN.{length, getD, drop, length-drop}
 use lib.Seq.{length-take-le}
 use borrow.Author.Tests.{not-false}
 use Rattle.buffer.proofs.Bools.{split}
-use Rattle.frame.specs.Read.{readOf, writtenOf}
+use Rattle.frame.specs.Read.{readOf, bytesIn}
 use Rattle.frame.specs.declared.read.Footer.{Footer}
 use Rattle.frame.specs.declared.read.Read.{Read}
 use Rattle.frame.specs.declared.read.Read.the-variants as read
@@ -49,7 +49,7 @@ Quiet (Written sector result write crc) = (eqb result 0x06 && (eqb write 0x06 ||
 pub record Storing (c : Client) (target : ℕ) (datagram : List ℕ) (sector m : ℕ) : Type 0 where
   pub footer : Footer
   pub reads : readOf datagram ≡ read.Write sector m footer
-  pub sent : length (writtenOf datagram m) ≡ m
+  pub sent : length (bytesIn datagram m) ≡ m
   pub writing : c .state ≡ state.Write
   pub good : goodN (c .n) ≡ true
   pub whole : target ≡ c .n * sectorSize
@@ -78,7 +78,7 @@ Leads c target datagram Finish = Finishing c target
 record Packed (datagram : List ℕ) (sector m : ℕ) : Type 0 where
   footer : Footer
   reads : readOf datagram ≡ read.Write sector m footer
-  sent : length (writtenOf datagram m) ≡ m
+  sent : length (bytesIn datagram m) ≡ m
 
 abbrev Bears : List ℕ → Command → Type 0
 Bears d ModeStart = Unit {0}
@@ -106,7 +106,7 @@ asks-code d code n =
     (λ _. split (Asks d) (eqb code 0x64) (λ _. split (Asks d) (eqb n 0) (λ _. tt) (λ _. tt)) (λ _. tt))))))
 
 -- the written bytes lie within the datagram
-sent-whole : (d : List ℕ) (m : ℕ) → length d ≡ m + 7 → length (writtenOf d m) ≡ m
+sent-whole : (d : List ℕ) (m : ℕ) → length d ≡ m + 7 → length (bytesIn d m) ≡ m
 sent-whole d m e = length-take-le m (drop 5 d) (omega (arith, length-drop 5 d))
 
 asks : (d : List ℕ) → Asks d (askedOf d)

@@ -7,7 +7,7 @@ use mathlib.Core.List.{List}
 use Prim.Native.Nat.{ℕ, _+_, _*_, _≤_}
 use Rattle.buffer.specs.Compare.{blankOf}
 use Rattle.crc.specs.Crc.{crcOf}
-use Rattle.frame.specs.Read.{writtenOf}
+use Rattle.frame.specs.Read.{bytesIn}
 use Rattle.flash.specs.Bank.{sectorOf, writtenAt, alreadyAt, sweptOf}
 use Rattle.bank.specs.declared.check.Verdict.{Verdict}
 use Rattle.bank.specs.declared.check.Verdict.the-variants as verdict
@@ -75,7 +75,7 @@ servedOf c (Keep answer) target datagram = done c answer target
 servedOf c Open target datagram = done (opened c) (Response 0x71 0x06) target
 servedOf c Close target datagram = done (closed c) (Response 0x74 0x06) target
 servedOf c Begin target datagram = done (begun c) (Response 0x70 0x06) target
-servedOf c (Store sector length) target datagram = storeOf c sector (writtenOf datagram length) target
+servedOf c (Store sector length) target datagram = storeOf c sector (bytesIn datagram length) target
 servedOf c Wear target datagram = done (ended c Otherwise (c .next)) (Response 0x75 0x1C) target
 servedOf c Finish target datagram = finishOf c target
 

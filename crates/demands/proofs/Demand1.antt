@@ -13,7 +13,7 @@ use Rattle.buffer.specs.Place.{frontOf}
 use Rattle.buffer.proofs.Places.{front-none}
 use Rattle.crc.specs.Crc.{crcOf}
 use Rattle.frame.specs.Frame.{frameError}
-use Rattle.frame.specs.Read.{readOf, writtenOf}
+use Rattle.frame.specs.Read.{readOf, bytesIn}
 use Rattle.frame.specs.declared.read.Footer.{Footer}
 use Rattle.frame.specs.declared.read.Read.{Read}
 use Rattle.frame.specs.declared.read.Read.the-variants.{Fault, Control, Write}
@@ -269,7 +269,7 @@ module _ (n : ℕ) (running next : Bank) (latest : Latest) (major minor revision
   module _ (sector m : ℕ) (footer : Footer) (reads : readOf (call .datagram) ≡ Write sector m footer) (good : goodN n ≡ true)
       (whole : length (lentTarget (at state.Write) call) ≡ n * sectorSize) where
     abbrev bytes : List ℕ
-    bytes = writtenOf (call .datagram) m
+    bytes = bytesIn (call .datagram) m
 
     abbrev before : List ℕ
     before = lentTarget (at state.Write) call

@@ -23,7 +23,7 @@ use Rattle.demands.proofs.Asking.{request-read}
 use Rattle.demands.proofs.Demand2.{heard, said-back, control-short, Over, over, demand2}
 use Rattle.demands.proofs.Rows.{initiate, mode-start, mode-end}
 
-started-bytes : controlFrame 0x71 (0x06 ∷ []) ≡ 0x01 ∷ 0x02 ∷ 0x71 ∷ 0x06 ∷ 0x87 ∷ 0x03 ∷ []
+pub started-bytes : controlFrame 0x71 (0x06 ∷ []) ≡ 0x01 ∷ 0x02 ∷ 0x71 ∷ 0x06 ∷ 0x87 ∷ 0x03 ∷ []
 unfolding controlFrame framed checksumOf
 started-bytes = refl
 

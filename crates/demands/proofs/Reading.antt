@@ -18,7 +18,7 @@ use Rattle.buffer.proofs.Numbers.{number-two}
 use Rattle.crc.specs.Crc.{crcOf}
 use Rattle.crc.proofs.Laws.{of-lt}
 use Rattle.frame.specs.Frame.{controlFrame, writeFrame, frameError}
-use Rattle.frame.specs.Read.{readOf, writtenOf}
+use Rattle.frame.specs.Read.{readOf, bytesIn}
 use Rattle.frame.specs.declared.read.Footer.{Footer}
 use Rattle.frame.specs.declared.read.Footer.the-variants.{End}
 use Rattle.frame.specs.declared.read.Read.{Read}
@@ -233,7 +233,7 @@ module _ (b : Board) (call : Call) (bytes : (i : ℕ) → byteAt (call .datagram
 
   of-packet : (sector m : ℕ) (footer : Footer) → sector < 65536 → Every Back (afterFrame b call (Write sector m footer))
   of-packet sector m footer s =
-      let data-bytes : List ℕ = writtenOf (call .datagram) m in
+      let data-bytes : List ℕ = bytesIn (call .datagram) m in
       let already : Bool = sameOf (sectorOf (lentTarget b call) sector) (paddedOf data-bytes) in
       let result : ℕ = storeResult (blankOf data-bytes) already in
       never refl

@@ -15,8 +15,7 @@ use Rattle.buffer.proofs.Bools.{split}
 use Rattle.buffer.proofs.Numbers.{number-two, number-four, bytes-two, bytes-four}
 use Rattle.buffer.proofs.Parts.{part-next}
 use Rattle.frame.specs.Frame.{controlFrame, writeFrame}
-use Rattle.frame.specs.Read.{parametersOf, readOf}
-use Rattle.frame.specs.Read.{writtenOf as bytesIn}
+use Rattle.frame.specs.Read.{parametersOf, readOf, bytesIn}
 use Rattle.frame.specs.declared.read.Footer.the-variants.{End, Continued}
 use Rattle.frame.specs.declared.read.Read.{Read}
 use Rattle.frame.specs.declared.read.Read.the-variants.{Fault, Control, Write}
@@ -28,7 +27,7 @@ use Rattle.response.specs.declared.read.Kind.{Kind}
 use Rattle.response.specs.declared.read.Kind.the-variants.{ModeStart, BankInfo, Version, WriteStart, Packet, WriteEnd, ModeEnd, Error}
 use Rattle.response.specs.declared.read.Response.{Response}
 use Rattle.response.specs.declared.read.Response.the-variants.{Unreadable, Plain, Target, Firmware, Written}
-use Rattle.response.specs.Response.{kindOf, mayCarry, addsOf, addedOf, targetOf, acceptedOf, answerOf, repeatsOf, crcFits, writtenOf, responseIn, responseOf, responseNumber}
+use Rattle.response.specs.Response.{kindOf, mayCarry, addsOf, addedOf, targetOf, acceptedOf, answerOf, repeatsOf, crcFits, writeOf, responseIn, responseOf, responseNumber}
 use Rattle.response.proofs.Responses.{adds-none, adds-some}
 use Rattle.response.proofs.Six.{six-exactly}
 use Rattle.demands.specs.Responses.{codeOf, spelled, MeetsReader}
@@ -152,8 +151,8 @@ module _ (code : ℕ) (ps : List ℕ) (small : Bytes ps) where
 -- ---- a write response
 
 module _ (sector : ℕ) (bytes : List ℕ) (small : Bytes bytes) where
-  written : Gives (writeFrame sector bytes End) (writtenOf sector bytes)
-  unfolding writtenOf
+  written : Gives (writeFrame sector bytes End) (writeOf sector bytes)
+  unfolding writeOf
   written =
       let response : ℕ = byteAt bytes 0 in
       let write : ℕ = byteAt bytes 1 in

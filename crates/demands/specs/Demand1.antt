@@ -13,7 +13,7 @@ use Rattle.buffer.specs.Compare.{sameOf, blankOf}
 use Rattle.buffer.specs.Place.{frontOf}
 use Rattle.crc.specs.Crc.{crcOf}
 use Rattle.frame.specs.Frame.{controlFrame, writeFrame, frameError}
-use Rattle.frame.specs.Read.{readOf, writtenOf}
+use Rattle.frame.specs.Read.{readOf, bytesIn}
 use Rattle.frame.specs.declared.read.Footer.the-variants.{End}
 use Rattle.frame.specs.declared.read.Read.{Read}
 use Rattle.frame.specs.declared.read.Read.the-variants.{Fault, Control, Write}
@@ -163,7 +163,7 @@ abbrev pub packetStored : Board → Call → Read → Outcome
 packetStored b call Fault = answered b call []
 packetStored b call (Control code n) = answered b call []
 packetStored b call (Write sector m footer) =
-    let bytes : List ℕ = writtenOf (call .datagram) m in
+    let bytes : List ℕ = bytesIn (call .datagram) m in
     let result : ℕ = storeResult (blankOf bytes) (sameOf (sectorOf (lentTarget b call) sector) (paddedOf bytes)) in
     stored b call (marked (b .client) sector) (withSector (lentTarget b call) sector (paddedOf bytes))
     (writeFrame sector (writtenBytes 0x06 result (crcOf (paddedOf bytes))) End)

@@ -17,8 +17,8 @@ use Rattle.frame.specs.declared.read.Read.the-variants.{Fault, Control, 
 abbrev pub parametersOf : List ℕ → ℕ → List ℕ
 parametersOf d n = take n (drop 3 d)
 
-abbrev pub writtenOf : List ℕ → ℕ → List ℕ
-writtenOf d m = take m (drop 5 d)
+abbrev pub bytesIn : List ℕ → ℕ → List ℕ
+bytesIn d m = take m (drop 5 d)
 
 -- at index i stands the checksum of "everything between the first byte and itself"
 abbrev pub checkedAt : List ℕ → ℕ → Bool

@@ -14,7 +14,7 @@ use borrow.Author.Tests.{lt-ltb, le-ltb, ltb-true, leb-true}
 use Rattle.buffer.proofs.Bools.{and-left, and-right}
 use Rattle.hex.specs.Digit.{digitOf, isDigit, byteOf}
 use Rattle.hex.specs.Record.{total}
-use Rattle.hex.specs.Places.{pairAt, byteAt, bytesAt, allBytes, checkFrom}
+use Rattle.hex.specs.Places.{pairAt, pairByte, bytesAt, allBytes, checkFrom}
 
 -- ---- a digit, by the range in which it lies
 
@@ -62,16 +62,16 @@ module _ (a b : ℕ) where
 
 -- ---- the bytes from a position on, one more at a time
 
-bytes-one : (t : List ℕ) (p k : ℕ) → 0 < k → bytesAt t p k ≡ byteAt t p ∷ bytesAt t (p + 2) (k - 1)
+bytes-one : (t : List ℕ) (p k : ℕ) → 0 < k → bytesAt t p k ≡ pairByte t p ∷ bytesAt t (p + 2) (k - 1)
 unfolding bytesAt
 bytes-one t p zero h = absurd (omega arith)
 bytes-one t p (suc k) h = let e : suc k - 1 ≡ k = omega arith in rw e
 
-check-goes : (s : ℕ) (t : List ℕ) (p k : ℕ) → 0 < k → byteAt t p < 256 → checkFrom s (bytesAt t p k) ≡ checkFrom (s + byteAt t p) (bytesAt t (p + 2) (k - 1))
+check-goes : (s : ℕ) (t : List ℕ) (p k : ℕ) → 0 < k → pairByte t p < 256 → checkFrom s (bytesAt t p k) ≡ checkFrom (s + pairByte t p) (bytesAt t (p + 2) (k - 1))
 unfolding checkFrom total allBytes
 check-goes s t p k h b = rw (bytes-one t p k h) (simp (lt-ltb _ _ b, add-assoc))
 
-check-stops : (s : ℕ) (t : List ℕ) (p k : ℕ) → 0 < k → 256 ≤ byteAt t p → checkFrom s (bytesAt t p k) ≡ 256
+check-stops : (s : ℕ) (t : List ℕ) (p k : ℕ) → 0 < k → 256 ≤ pairByte t p → checkFrom s (bytesAt t p k) ≡ 256
 unfolding checkFrom allBytes
 check-stops s t p k h b = rw (bytes-one t p k h) (simp (le-ltb _ _ b))
 
@@ -85,7 +85,7 @@ check-mod s bs = let e : (s % 256 + total bs) % 256 ≡ (s + total bs) % 256 = o
 
 -- one pair more of the sum, whether or not it is one
 pub check-step :
-    (good g : Bool) (s b : ℕ) (t : List ℕ) (p k : ℕ) → 0 < k → g ≡ pairAt t p → (pairAt t p ≡ true → b ≡ byteAt t p)
+    (good g : Bool) (s b : ℕ) (t : List ℕ) (p k : ℕ) → 0 < k → g ≡ pairAt t p → (pairAt t p ≡ true → b ≡ pairByte t p)
     → cond good (checkFrom s (bytesAt t p k)) 256 ≡ cond (good && g) (checkFrom ((s + b) % 256) (bytesAt t (p + 2) (k - 1))) 256
 check-step false g s b t p k h e f = refl
 check-step true false s b t p k h e f = check-stops s t p k h (rw (pair-none (getD t p 0) (getD t (p + 1) 0) (sym e)) (omega arith))
@@ -94,7 +94,7 @@ check-step true true s b t p k h e f =
     check-goes s t p k h (pair-small (getD t p 0) (getD t (p + 1) 0) (sym e)) ∙ rw (sym i) (sym (check-mod (s + b) (bytesAt t (p + 2) (k - 1))))
 
 -- one byte more is stored
-sets-one : (l : List ℕ) (a : ℕ) (t : List ℕ) (p k : ℕ) → 0 < k → sets l a (bytesAt t p k) ≡ sets (set l a (byteAt t p)) (a + 1) (bytesAt t (p + 2) (k - 1))
+sets-one : (l : List ℕ) (a : ℕ) (t : List ℕ) (p k : ℕ) → 0 < k → sets l a (bytesAt t p k) ≡ sets (set l a (pairByte t p)) (a + 1) (bytesAt t (p + 2) (k - 1))
 sets-one l a t p k h = rw (add-one a, bytes-one t p k h)
 
 pub sets-none : (l : List ℕ) (a : ℕ) (t : List ℕ) (p : ℕ) → sets l a (bytesAt t p 0) ≡ l
@@ -103,7 +103,7 @@ sets-none l a t p = refl
 
 -- one pair more is stored, and where all were bytes so far it is one too
 pub sets-step :
-    (good g : Bool) (all l : List ℕ) (a b : ℕ) (t : List ℕ) (p k : ℕ) → 0 < k → g ≡ pairAt t p → (pairAt t p ≡ true → b ≡ byteAt t p)
+    (good g : Bool) (all l : List ℕ) (a b : ℕ) (t : List ℕ) (p k : ℕ) → 0 < k → g ≡ pairAt t p → (pairAt t p ≡ true → b ≡ pairByte t p)
     → (good ≡ true → all ≡ sets l a (bytesAt t p k)) → (good && g) ≡ true → all ≡ sets (set l a b) (a + 1) (bytesAt t (p + 2) (k - 1))
 sets-step good g all l a b t p k h e f so z =
     let i = f (sym e ∙ and-right good g z) in so (and-left good g z) ∙ rw i (sets-one l a t p k h)

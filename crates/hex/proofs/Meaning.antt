@@ -12,7 +12,7 @@ use lib.Dec.{eqb}
 use lib.ListN.{length, getD, set, replicate, length-replicate, length-set, getD-replicate}
 use lib.Seq.{sets, length-sets, getD-set-same, getD-set-other}
 use borrow.Author.Tests.{eqb-true}
-use Rattle.buffer.proofs.Bools.{split}
+use Rattle.buffer.proofs.Bools.{split, no-way}
 use Rattle.bank.specs.declared.layout.Bank.{Bank}
 use Rattle.bank.specs.Layout.{goodN, startOf, sectorSize}
 use Rattle.hex.specs.declared.fault.Kind.{Kind}
@@ -28,7 +28,6 @@ use Rattle.hex.specs.Record.{dataOf, foundOf}
 use Rattle.hex.specs.Line.{lines}
 use Rattle.hex.specs.Read.{stateAfter, imageAfter, Done, refused, readLines, fresh, Reading, answerOf, answered, answerNumber, readOf}
 use Rattle.hex.specs.Meaning.{stateAt, saysAt, Sound, Faulted, at-line, past-the-last}
-use Rattle.hex.proofs.Lines.{no-way}
 use Rattle.hex.proofs.Records.{spelledBy, data-in}
 use Rattle.hex.proofs.Steps.{erased}
 

@@ -11,7 +11,7 @@ use lib.Dec.{eqb, leb, ltb}
 use lib.ListN.{length, getD, take, drop, length-take, length-drop, List·getD-append}
 use lib.Seq.{take-append-le, drop-append-le, take-at, sets, sets-eq, slice, slice-cons, slice-empty, length-slice}
 use borrow.Author.Tests.{eq-eqb, ne-eqb, eqb-true, eqb-false, lt-ltb, ltb-true, leb-true}
-use Rattle.buffer.proofs.Bools.{and-left, and-right, and-both, not-so, same-tests, split}
+use Rattle.buffer.proofs.Bools.{and-left, and-right, and-both, not-so, same-tests, split, no-way}
 use Rattle.hex.specs.declared.fault.Kind.{Kind}
 use Rattle.hex.specs.declared.fault.Kind.the-variants.{H1, H2, H3, H4, H5, H6}
 use Rattle.hex.specs.declared.record.State.{State}
@@ -21,7 +21,6 @@ use Rattle.hex.specs.Digit.{isDigit, byteOf, bytesOf}
 use Rattle.hex.specs.Record.{Whole, digitsIn, countOf, addressOf, typeOf, dataOf, dueOf, digitsWhole, recordOf, total, inBank, dataAt, typed, says, foundOf}
 use Rattle.hex.specs.Places.{bytesAt, allBytes, checkFrom, Looked}
 use Rattle.hex.proofs.Digits.{pair-small, pair-so}
-use Rattle.hex.proofs.Lines.{no-way}
 
 not-both : (a b c d : ℕ) → (a ≡ b → c ≡ d → ⊥) → (eqb a b && eqb c d) ≡ false
 not-both a b c d h = not-so _ (λ e. h (eqb-true a b (and-left (eqb a b) (eqb c d) e)) (eqb-true c d (and-right (eqb a b) (eqb c d) e)))

@@ -8,6 +8,7 @@ use native.Mathlib.Omega.{arith}
 use lib.ListN.{length, take, drop, replicate, length-replicate}
 use lib.Seq.{slice, sets-eq}
 use borrow.Author.Tests.{eq-eqb, ne-eqb}
+use Rattle.buffer.proofs.Bools.{no-way}
 use Rattle.buffer.specs.Place.{placeOf}
 use Rattle.buffer.proofs.Parts.{part-out}
 use Rattle.buffer.proofs.Places.{place-fits}
@@ -28,7 +29,7 @@ use Rattle.hex.specs.Line.{lines}
 use Rattle.hex.specs.Record.{dataOf, foundOf}
 use Rattle.hex.specs.Read.{stateAfter, imageAfter, Done, refused, goes, readLines, finishOf, fresh, answered, readOf, Read·Is}
 use Rattle.hex.specs.Places.{LineAt, Looked, stepOf, Took, Came}
-use Rattle.hex.proofs.Lines.{no-way, lines-here, lines-none}
+use Rattle.hex.proofs.Lines.{lines-here, lines-none}
 use Rattle.hex.proofs.Records.{upper-in, looked-in}
 
 abbrev pub outcome-of : Done → Outcome

@@ -78,13 +78,13 @@ Next·Is reader r = r ≡ aheadAt (reader .text .now) (reader .at)
 abbrev pub pairAt : List ℕ → ℕ → Bool
 pairAt t i = isDigit (getD t i 0) && isDigit (getD t (i + 1) 0)
 
-abbrev pub byteAt : List ℕ → ℕ → ℕ
-byteAt t i = byteOf (getD t i 0) (getD t (i + 1) 0)
+abbrev pub pairByte : List ℕ → ℕ → ℕ
+pairByte t i = byteOf (getD t i 0) (getD t (i + 1) 0)
 
 -- what k pairs of digits from p on spell
 unfoldable pub bytesAt : List ℕ → ℕ → ℕ → List ℕ
 bytesAt t p zero = []
-bytesAt t p (suc k) = byteAt t p ∷ bytesAt t (p + 2) k
+bytesAt t p (suc k) = pairByte t p ∷ bytesAt t (p + 2) k
 
 unfoldable pub allBytes : List ℕ → Bool
 allBytes [] = true

@@ -6,7 +6,7 @@ ghost use Prim.Native.Nat.{_+_, _-_, _<_};
 ghost use lib.Dec.{leb};
 ghost use lib.ListN.{length};
 ghost use Rattle.hex.specs.Digit.{digitOf};
-ghost use Rattle.hex.specs.Places.{pairAt, byteAt};
+ghost use Rattle.hex.specs.Places.{pairAt, pairByte};
 
 // Stands for what is no digit.
 const NONE: u8 = 16;
@@ -49,7 +49,7 @@ pub(crate) fn pair_at(text: &[u8], at: usize) -> bool
 // The byte that two digits at `at` spell, and some byte where they are none.
 pub(crate) fn value_at(text: &[u8], at: usize) -> u8
     requires { ⌜ at + 1 < length (now text) ⌝ }
-    ensures { λ r. ⌜ (pairAt (now (text .entry)) at ≡ true → r ≡ byteAt (now (text .entry)) at) ⌝ }
+    ensures { λ r. ⌜ (pairAt (now (text .entry)) at ≡ true → r ≡ pairByte (now (text .entry)) at) ⌝ }
 {
     digit(text[at]) % 16 * 16 + digit(text[at + 1]) % 16
 }

@@ -21,7 +21,7 @@ use Rattle.response.specs.declared.read.Kind.{Kind}
 use Rattle.response.specs.declared.read.Kind.the-variants.{ModeStart, BankInfo, Version, WriteStart, Packet, WriteEnd, ModeEnd, Error}
 use Rattle.response.specs.declared.read.Coded.the-variants.{Answers}
 use Rattle.response.specs.declared.read.Response.the-variants.{Plain, Target, Firmware, Written}
-use Rattle.response.specs.Response.{kindOf, mayCarry, addsOf, addedOf, acceptedOf, targetOf, controlOf, repeatsOf, crcFits, writtenOf, responseOf}
+use Rattle.response.specs.Response.{kindOf, mayCarry, addsOf, addedOf, acceptedOf, targetOf, controlOf, repeatsOf, crcFits, writeOf, responseOf}
 use Rattle.response.proofs.Responses.{adds-some, is-plain, is-accepted, is-written, from-control, from-write}
 
 -- a control frame, by its code and parameters
@@ -31,9 +31,9 @@ control-read code parameters =
     ∙ from-control (controlFrame code parameters) code (length parameters) (control-back code parameters)
 
 -- a write frame with footer 03, by its sector and bytes
-write-read : (sector : ℕ) (bytes : List ℕ) → sector < 65536 → length bytes < 65536 → writtenOf sector bytes ≡ responseOf (writeFrame sector bytes End)
+write-read : (sector : ℕ) (bytes : List ℕ) → sector < 65536 → length bytes < 65536 → writeOf sector bytes ≡ responseOf (writeFrame sector bytes End)
 write-read sector bytes s l =
-    ap (writtenOf sector) (sym (write-bytes sector bytes End))
+    ap (writeOf sector) (sym (write-bytes sector bytes End))
     ∙ from-write (writeFrame sector bytes End) sector (length bytes) (write-back sector bytes End s l)
 
 -- a kind that adds nothing gives its result alone

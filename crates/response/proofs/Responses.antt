@@ -10,8 +10,7 @@ use lib.ListN.{length}
 use borrow.Author.Tests.{eq-eqb, ne-eqb}
 use Rattle.buffer.specs.Number.{byteAt, numberAt}
 use Rattle.buffer.proofs.Bools.{split}
-use Rattle.frame.specs.Read.{parametersOf, readOf}
-use Rattle.frame.specs.Read.{writtenOf as bytesIn}
+use Rattle.frame.specs.Read.{parametersOf, readOf, bytesIn}
 use Rattle.frame.specs.declared.read.Footer.the-variants.{End, Continued}
 use Rattle.frame.specs.declared.read.Read.the-variants.{Fault, Control, Write}
 use Rattle.response.specs.declared.read.Kind.{Kind}
@@ -19,7 +18,7 @@ use Rattle.response.specs.declared.read.Kind.the-variants.{ModeStart, Ba
 use Rattle.response.specs.declared.read.Coded.the-variants.{Unknown, Answers}
 use Rattle.response.specs.declared.read.Response.{Response}
 use Rattle.response.specs.declared.read.Response.the-variants.{Unreadable, Plain, Written}
-use Rattle.response.specs.Response.{kindOf, mayCarry, addsOf, addedOf, acceptedOf, answerOf, controlOf, repeatsOf, crcFits, writtenOf, responseIn, responseOf}
+use Rattle.response.specs.Response.{kindOf, mayCarry, addsOf, addedOf, acceptedOf, answerOf, controlOf, repeatsOf, crcFits, writeOf, responseIn, responseOf}
 
 module _ (kind : Kind) (result : ℕ) where
   pub adds-none : eqb result 0x06 ≡ false → 0 ≡ addedOf kind result
@@ -84,30 +83,30 @@ module _ (code : ℕ) (parameters : List ℕ) where
       is-accepted m l a = rw (k, ← e, m, eq-eqb (length parameters) (addedOf kind result + 1) l, a)
 
 module _ (sector : ℕ) (bytes : List ℕ) where
-  pub not-six : (length bytes ≡ 6 → ⊥) → Unreadable ≡ writtenOf sector bytes
-  unfolding writtenOf
+  pub not-six : (length bytes ≡ 6 → ⊥) → Unreadable ≡ writeOf sector bytes
+  unfolding writeOf
   not-six l = rw (ne-eqb (length bytes) 6 l)
 
   module _ (l : length bytes ≡ 6) (response write crc : ℕ) (a : response ≡ byteAt bytes 0) (b : write ≡ byteAt bytes 1) (e : crc ≡ numberAt 4 bytes 2) where
-    pub bad-response : mayCarry Packet response ≡ false → Unreadable ≡ writtenOf sector bytes
-    unfolding writtenOf
+    pub bad-response : mayCarry Packet response ≡ false → Unreadable ≡ writeOf sector bytes
+    unfolding writeOf
     bad-response m = rw (eq-eqb (length bytes) 6 l, ← a, m)
 
-    pub bad-write : mayCarry Packet response ≡ true → mayCarry Packet write ≡ false → Unreadable ≡ writtenOf sector bytes
-    unfolding writtenOf
+    pub bad-write : mayCarry Packet response ≡ true → mayCarry Packet write ≡ false → Unreadable ≡ writeOf sector bytes
+    unfolding writeOf
     bad-write m w = rw (eq-eqb (length bytes) 6 l, ← a, ← b, m, w)
 
     module _ (m : mayCarry Packet response ≡ true) (w : mayCarry Packet write ≡ true) where
-      pub not-repeated : repeatsOf response write ≡ false → Unreadable ≡ writtenOf sector bytes
-      unfolding writtenOf
+      pub not-repeated : repeatsOf response write ≡ false → Unreadable ≡ writeOf sector bytes
+      unfolding writeOf
       not-repeated p = rw (eq-eqb (length bytes) 6 l, ← a, ← b, m, w, p)
 
-      pub bad-crc : repeatsOf response write ≡ true → crcFits response write crc ≡ false → Unreadable ≡ writtenOf sector bytes
-      unfolding writtenOf
+      pub bad-crc : repeatsOf response write ≡ true → crcFits response write crc ≡ false → Unreadable ≡ writeOf sector bytes
+      unfolding writeOf
       bad-crc p q = rw (eq-eqb (length bytes) 6 l, ← a, ← b, ← e, m, w, p, q)
 
-      pub is-written : repeatsOf response write ≡ true → crcFits response write crc ≡ true → Written sector response write crc ≡ writtenOf sector bytes
-      unfolding writtenOf
+      pub is-written : repeatsOf response write ≡ true → crcFits response write crc ≡ true → Written sector response write crc ≡ writeOf sector bytes
+      unfolding writeOf
       is-written p q = rw (eq-eqb (length bytes) 6 l, ← a, ← b, ← e, m, w, p, q)
 
 -- ---- by the frame that was read
@@ -121,7 +120,7 @@ module _ (d : List ℕ) where
   unfolding responseIn
   from-control code n e = ap (responseIn d) e
 
-  pub from-write : (sector m : ℕ) → Write sector m End ≡ readOf d → writtenOf sector (bytesIn d m) ≡ responseOf d
+  pub from-write : (sector m : ℕ) → Write sector m End ≡ readOf d → writeOf sector (bytesIn d m) ≡ responseOf d
   unfolding responseIn
   from-write sector m e = ap (responseIn d) e
 

@@ -10,12 +10,10 @@ use lib.ListN.{length}
 use borrow.Author.Tests.{eqb-true, eqb-false, lt-ltb, le-ltb}
 use Rattle.buffer.specs.Number.{byteAt, numberAt}
 use Rattle.buffer.proofs.Bools.{and-false}
-use Rattle.frame.specs.Read.{readOf}
-use Rattle.frame.specs.Read.{writtenOf as bytesIn}
+use Rattle.frame.specs.Read.{readOf, bytesIn, parametersOf}
 use Rattle.frame.specs.declared.read.Footer.the-variants.{End, Continued}
 use Rattle.frame.specs.declared.read.Read.{Read}
 use Rattle.frame.specs.declared.read.Read.the-variants.{Fault, Control, Write}
-use Rattle.frame.specs.Read.{parametersOf}
 use Rattle.bank.specs.declared.layout.Bank.the-variants.{Zero, One}
 use Rattle.response.specs.declared.read.Kind.{Kind}
 use Rattle.response.specs.declared.read.Kind.the-variants.{ModeStart, BankInfo, Version, WriteStart, Packet, WriteEnd, ModeEnd, Error}
@@ -23,7 +21,7 @@ use Rattle.response.specs.declared.read.Coded.{Coded}
 use Rattle.response.specs.declared.read.Coded.the-variants.{Unknown, Answers}
 use Rattle.response.specs.declared.read.Response.{Response}
 use Rattle.response.specs.declared.read.Response.the-variants.{Unreadable, Plain, Target, Firmware, Written}
-use Rattle.response.specs.Response.{kindOf, mayCarry, addedOf, targetOf, acceptedOf, answerOf, repeatsOf, crcFits, writtenOf, responseIn, responseOf, responseNumber}
+use Rattle.response.specs.Response.{kindOf, mayCarry, addedOf, targetOf, acceptedOf, answerOf, repeatsOf, crcFits, writeOf, responseIn, responseOf, responseNumber}
 use Rattle.response.specs.Six.{unknown, kindResult, kindLength, kindBank, sixIn, sixOf, unreadable}
 
 target-six : (number : ℕ) → unreadable (targetOf number) ≡ ltb 1 number
@@ -89,7 +87,7 @@ continued true true repeated crc = refl
 continued false true repeated crc = refl
 
 six-in : (d : List ℕ) (read : Read) → unreadable (responseIn d read) ≡ sixIn d read
-unfolding responseIn sixIn writtenOf
+unfolding responseIn sixIn writeOf
 six-in d Fault = refl
 six-in d (Control code n) = coded-six (kindOf code) (parametersOf d n) ∙ sym (or-false _)
 six-in d (Write sector m End) =

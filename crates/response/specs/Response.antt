@@ -7,8 +7,7 @@ use Prim.Native.Nat.{ℕ, _+_}
 use lib.Dec.{eqb}
 use lib.ListN.{length}
 use Rattle.buffer.specs.Number.{byteAt, numberAt}
-use Rattle.frame.specs.Read.{parametersOf, readOf}
-use Rattle.frame.specs.Read.{writtenOf as bytesIn}
+use Rattle.frame.specs.Read.{parametersOf, readOf, bytesIn}
 use Rattle.frame.specs.declared.read.Footer.the-variants.{End, Continued}
 use Rattle.frame.specs.declared.read.Read.{Read}
 use Rattle.frame.specs.declared.read.Read.the-variants.{Fault, Control, Write}
@@ -95,8 +94,8 @@ unfoldable pub crcFits : ℕ → ℕ → ℕ → Bool
 crcFits response write crc = eqb crc 0 || (storedOf response && storedOf write)
 
 -- "M = 6, response result, write result, CRC-32 (4)"
-unfoldable pub writtenOf : ℕ → List ℕ → Response
-writtenOf sector bytes =
+unfoldable pub writeOf : ℕ → List ℕ → Response
+writeOf sector bytes =
     let response : ℕ = byteAt bytes 0 in
     let write : ℕ = byteAt bytes 1 in
     let crc : ℕ = numberAt 4 bytes 2 in
@@ -110,7 +109,7 @@ writtenOf sector bytes =
 unfoldable pub responseIn : List ℕ → Read → Response
 responseIn d Fault = Unreadable
 responseIn d (Control code n) = controlOf code (parametersOf d n)
-responseIn d (Write sector m End) = writtenOf sector (bytesIn d m)
+responseIn d (Write sector m End) = writeOf sector (bytesIn d m)
 responseIn d (Write sector m Continued) = Unreadable
 
 abbrev pub responseOf : List ℕ → Response

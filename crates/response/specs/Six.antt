@@ -6,8 +6,7 @@ use Prim.Native.Nat.{ℕ, _+_}
 use lib.Dec.{eqb, ltb}
 use lib.ListN.{length}
 use Rattle.buffer.specs.Number.{byteAt, numberAt}
-use Rattle.frame.specs.Read.{parametersOf, readOf}
-use Rattle.frame.specs.Read.{writtenOf as bytesIn}
+use Rattle.frame.specs.Read.{parametersOf, readOf, bytesIn}
 use Rattle.frame.specs.declared.read.Footer.{Footer}
 use Rattle.frame.specs.declared.read.Footer.the-variants.{End, Continued}
 use Rattle.frame.specs.declared.read.Read.{Read}

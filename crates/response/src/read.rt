@@ -5,7 +5,7 @@ use frame::read::Read;
 ghost use mathlib.Core.Path.{_≡_};
 ghost use Prim.Native.Nat.{_+_};
 ghost use lib.ListN.{length};
-ghost use Rattle.response.specs.Response.{kindOf, mayCarry, addedOf, targetOf, acceptedOf, controlOf, repeatsOf, storedOf, crcFits, writtenOf, Response·Is};
+ghost use Rattle.response.specs.Response.{kindOf, mayCarry, addedOf, targetOf, acceptedOf, controlOf, repeatsOf, storedOf, crcFits, writeOf, Response·Is};
 
 // What a response answers.
 pub enum Kind {
@@ -194,7 +194,7 @@ fn crc_fits(response: u8, write: u8, crc: u32) -> bool
 
 // A write frame's sector and bytes.
 fn written(sector: u16, bytes: &[u8]) -> Response
-    ensures { λ r. ⌜ r ≡ writtenOf sector (now (bytes .entry)) ⌝ }
+    ensures { λ r. ⌜ r ≡ writeOf sector (now (bytes .entry)) ⌝ }
 {
     if bytes.len() != 6 {
         return Response::Unreadable;

@@ -14,8 +14,7 @@ use Rattle.buffer.specs.Compare.{blankOf}
 use Rattle.buffer.specs.Place.{placeOf}
 use Rattle.buffer.proofs.Comparing.{blank-true}
 use Rattle.buffer.proofs.Places.{place-next}
-use Rattle.frame.specs.Read.{readOf}
-use Rattle.frame.specs.Read.{writtenOf as bytesIn}
+use Rattle.frame.specs.Read.{readOf, bytesIn}
 use Rattle.frame.specs.declared.read.Footer.{Footer}
 use Rattle.frame.specs.declared.read.Footer.the-variants.{End, Continued}
 use Rattle.frame.specs.declared.read.Read.the-variants.{Write}

@@ -4,9 +4,8 @@ use mathlib.Core.Path.{refl, sym, _∙_}
 use mathlib.Core.List.{List}
 use Prim.Native.Nat.{ℕ}
 use native.Mathlib.Omega.{arith}
-use lib.ListN.{getD}
+use lib.ListN.{getD, List·getD-eq-default}
 use borrow.Author.Tests.{eq-eqb, ne-eqb, not-true, not-false}
-use lib.ListN.{List·getD-eq-default}
 use Rattle.frame.proofs.Cases.{control-empty, control-length, control-checksum, control-footer, control-good}
 use borrow.Author.Needs.{needs}
 use Rattle.frame.proofs.read.control.Statement.{statement}

@@ -3,7 +3,7 @@
 -- Assumes nothing.
 use mathlib.Core.Path.{_≡_, refl, sym, _∙_}
 use mathlib.Core.Bool.{true, cond}
-use Prim.Native.Nat.{_<_, _+_, _-_, _*_, _%_}
+use Prim.Native.Nat.{_<_, _+_, _*_, _%_}
 use native.Mathlib.Omega.{arith}
 use lib.ListN.{length, length-set}
 use lib.Seq.{sets}

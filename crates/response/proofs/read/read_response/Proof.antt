@@ -6,7 +6,7 @@ use Rattle.buffer.proofs.Parts.{part-out}
 use Rattle.frame.specs.declared.read.Footer.{Footer}
 use Rattle.frame.specs.declared.read.Read.the-variants.{Write}
 use Rattle.frame.proofs.Told.{control-told, write-told}
-use Rattle.response.specs.Response.{controlOf, writtenOf}
+use Rattle.response.specs.Response.{controlOf, writeOf}
 use Rattle.response.proofs.Responses.{from-fault, from-control, from-write, from-continued}
 use borrow.Author.Needs.{needs}
 use Rattle.response.proofs.read.read_response.Statement.{statement}
@@ -67,7 +67,7 @@ returns-2 : tie.Need-returns-2
 returns-2 c = (c .control .ensures) ∙ ap (controlOf (c .before .before .before .code .given .0 .0)) (part-out (c .before .before .before .before .before .before .before .args .datagram .now) 3 (c .before .before .before .code .given .0 .1 .0)) ∙ from-control _ _ _ (sym (c .before .before .before .code .given .1) ∙ (c .before .before .before .before .before .read-frame .ensures))
 
 returns-3 : tie.Need-returns-3
-returns-3 c = (c .written .ensures) ∙ ap (writtenOf (c .before .before .before .before .before .sector .given .0 .0)) (part-out (c .before .before .before .before .before .before .before .before .before .args .datagram .now) 5 (c .before .before .before .before .before .sector .given .0 .1 .0)) ∙ from-write _ _ _ (sym (ap (λ (f : Footer). Write (c .before .before .before .before .before .sector .given .0 .0) (c .before .before .before .before .before .sector .given .0 .1 .0) f) (c .before .before .enum-told2 .given .1)) ∙ sym (c .before .before .before .before .before .sector .given .1) ∙ (c .before .before .before .before .before .before .before .read-frame .ensures))
+returns-3 c = (c .written .ensures) ∙ ap (writeOf (c .before .before .before .before .before .sector .given .0 .0)) (part-out (c .before .before .before .before .before .before .before .before .before .args .datagram .now) 5 (c .before .before .before .before .before .sector .given .0 .1 .0)) ∙ from-write _ _ _ (sym (ap (λ (f : Footer). Write (c .before .before .before .before .before .sector .given .0 .0) (c .before .before .before .before .before .sector .given .0 .1 .0) f) (c .before .before .enum-told2 .given .1)) ∙ sym (c .before .before .before .before .before .sector .given .1) ∙ (c .before .before .before .before .before .before .before .read-frame .ensures))
 
 returns-4 : tie.Need-returns-4
 returns-4 c = from-continued _ _ _ (sym (ap (λ (f : Footer). Write (c .before .before .before .sector .given .0 .0) (c .before .before .before .sector .given .0 .1 .0) f) (c .enum-told3 .given .1)) ∙ sym (c .before .before .before .sector .given .1) ∙ (c .before .before .before .before .before .read-frame .ensures))
