@@ -6,7 +6,7 @@ use bank::layout::Bank;
 use bank::layout::MOST;
 use client::record::Client;
 use client::record::Latest;
-use client::record::State;
+use exchange::state::State;
 use script::say;
 use script::text;
 

@@ -21,22 +21,22 @@ use Rattle.flash.proofs.Writes.{FitsAt, length-written, written-here}
 use Rattle.bank.specs.declared.layout.Bank.{Bank}
 use Rattle.bank.specs.declared.layout.Bank.the-variants.{Zero, One}
 use Rattle.bank.specs.Layout.{sectorSize, goodN}
-use Rattle.client.specs.declared.answer.Answer.{Answer}
-use Rattle.client.specs.declared.answer.Answer.the-variants.{Response, Written}
+use Rattle.exchange.specs.declared.answer.Answer.{Answer}
+use Rattle.exchange.specs.declared.answer.Answer.the-variants.{Response, Written}
 use Rattle.client.specs.declared.plan.Plan.{Plan}
 use Rattle.client.specs.declared.plan.Plan.the-variants.{Keep, Open, Close, Begin, Store, Wear, Finish}
 use Rattle.client.specs.declared.record.Client.{Client}
-use Rattle.client.specs.declared.record.State.{State}
-use Rattle.client.specs.declared.record.State.the-variants as state
-use Rattle.client.specs.Answer.{answerBytes}
-use Rattle.client.specs.Command.{askedOf}
+use Rattle.exchange.specs.declared.state.State.{State}
+use Rattle.exchange.specs.declared.state.State.the-variants as state
+use Rattle.exchange.specs.Answer.{answerBytes}
+use Rattle.exchange.specs.Command.{askedOf}
 use Rattle.client.specs.Plan.{lentGood, valuesGood, planAsked, planOf}
 use Rattle.client.specs.Perform.{fitOf, Accepted, storeResult, sectorCrc, Done, storeOf, checkedOf, servedOf}
 use Rattle.client.specs.Host.{isClosed}
 use Rattle.client.specs.Record.{Stays, noneReceived, marked}
 use Rattle.client.specs.Step.{noticeOf, Carried, carriedOf, saidOf, targetOf, planned, stepOf}
 use Rattle.client.proofs.Planning.{values-low, values-high}
-use Rattle.client.proofs.Saying.{answer-short}
+use Rattle.exchange.proofs.Saying.{answer-short}
 use Rattle.client.proofs.Leading.{Quiet, Storing, Beginning, Finishing, Leads, leads}
 
 -- ---- a packet that is stored fits its sector

@@ -13,7 +13,7 @@ use Rattle.flash.specs.Sector.{sectorBytes}
 use Rattle.flash.proofs.Sectors.{lent-out}
 use Rattle.bank.specs.declared.layout.Bank.{Bank}
 use Rattle.bank.specs.Layout.{otherOf}
-use Rattle.client.specs.declared.answer.Answer.the-variants.{Response, Written}
+use Rattle.exchange.specs.declared.answer.Answer.the-variants.{Response, Written}
 use Rattle.client.specs.declared.perform.Served.{Served}
 use Rattle.client.specs.declared.record.Client.{Client}
 use Rattle.client.specs.declared.record.Latest.the-variants.{Good, Otherwise}

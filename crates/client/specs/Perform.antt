@@ -13,8 +13,8 @@ use Rattle.bank.specs.declared.check.Verdict.{Verdict}
 use Rattle.bank.specs.declared.check.Verdict.the-variants as verdict
 use Rattle.bank.specs.Layout.{sectorSize, mostSectors, otherOf}
 use Rattle.bank.specs.Sound.{verdictOf}
-use Rattle.client.specs.declared.answer.Answer.{Answer}
-use Rattle.client.specs.declared.answer.Answer.the-variants.{Response, Written}
+use Rattle.exchange.specs.declared.answer.Answer.{Answer}
+use Rattle.exchange.specs.declared.answer.Answer.the-variants.{Response, Written}
 use Rattle.client.specs.declared.perform.Served.{Served}
 use Rattle.client.specs.declared.plan.Plan.{Plan}
 use Rattle.client.specs.declared.plan.Plan.the-variants.{Keep, Open, Close, Begin, Store, Wear, Finish}

@@ -10,8 +10,8 @@ use Rattle.bank.specs.Layout.{mostSectors}
 use Rattle.client.specs.declared.record.Client.{Client}
 use Rattle.client.specs.declared.record.Latest.{Latest}
 use Rattle.client.specs.declared.record.Latest.the-variants.{Nothing}
-use Rattle.client.specs.declared.record.State.{State}
-use Rattle.client.specs.declared.record.State.the-variants.{Closed, Idle, Control, Write}
+use Rattle.exchange.specs.declared.state.State.{State}
+use Rattle.exchange.specs.declared.state.State.the-variants.{Closed, Idle, Control, Write}
 
 -- what no command changes: N "fixed when a client is made", the bank that runs, the version
 pub record Stays (before after : Client) : Type 0 where
@@ -20,13 +20,6 @@ pub record Stays (before after : Client) : Type 0 where
   pub major : after .major ≡ before .major
   pub minor : after .minor ≡ before .minor
   pub revision : after .revision ≡ before .revision
-
--- states by number, so that two can be compared
-abbrev pub stateNumber : State → ℕ
-stateNumber Closed = 0
-stateNumber Idle = 1
-stateNumber Control = 2
-stateNumber Write = 3
 
 -- "no sector received yet"
 unfoldable pub noneReceived : List Bool

@@ -1,8 +1,8 @@
 // What the host asks: a new client, initiate, terminate.
 use crate::record::Client;
 use crate::record::Latest;
-use crate::record::State;
 use bank::layout::Bank;
+use exchange::state::State;
 ghost use mathlib.Core.Path.{_≡_};
 ghost use Rattle.client.specs.Host.{isClosed, hosted, New·Is, Initiate·Is, Terminate·Is};
 

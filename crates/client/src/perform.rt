@@ -1,16 +1,16 @@
 // Do: a plan carried out on the target bank. The running bank is never seen here.
-use crate::answer::Answer;
 use crate::plan::Plan;
 use crate::record::Client;
 use crate::record::Latest;
-use crate::record::State;
 use bank::check::Verdict;
+use exchange::answer::Answer;
+use exchange::state::State;
 ghost use mathlib.Core.Path.{_≡_};
 ghost use Prim.Native.Nat.{_*_, _≤_};
 ghost use lib.ListN.{length};
 ghost use Rattle.bank.specs.Layout.{sectorSize, mostSectors};
 ghost use Rattle.client.specs.Perform.{fitOf, storeResult, sectorCrc, storeOf, checkedOf, finishOf, servedOf, served, Served·Is, Fair};
-ghost use Rattle.client.specs.declared.answer.Answer.the-variants.{Response};
+ghost use Rattle.exchange.specs.declared.answer.Answer.the-variants.{Response};
 
 pub(crate) struct Served {
     pub client: Client,

@@ -1,9 +1,9 @@
 // Decide: what a datagram leads to. The bytes of a bank are never looked at here, only its length.
-use crate::answer::Answer;
-use crate::answer::Refusal;
-use crate::command::Asked;
-use crate::command::Command;
 use crate::record::Client;
+use exchange::answer::Answer;
+use exchange::answer::Refusal;
+use exchange::command::Asked;
+use exchange::command::Command;
 ghost use mathlib.Core.Path.{_≡_};
 ghost use Prim.Native.Nat.{_≤_};
 ghost use lib.ListN.{length};
@@ -97,7 +97,7 @@ fn plan_packet(n: usize, marks: &[u8], sector: u16, m: usize) -> Plan
     ensures { λ r. ⌜ r ≡ planPacket n (now (marks .entry)) sector m ⌝ }
 {
     if !values_good(n, sector, m) {
-        return Plan::Keep(crate::command::declined(Command::Packet { sector, length: m }, 0x05));
+        return Plan::Keep(exchange::command::declined(Command::Packet { sector, length: m }, 0x05));
     }
     let k = sector as usize;
     if marks[k - 1] != 0 {
@@ -129,10 +129,10 @@ impl Client {
         let running = self.running;
         let target = bank::layout::other(running);
         if buffer::number::number4(datagram, 3) != bank::layout::start_address(target) {
-            return Plan::Keep(crate::command::declined(Command::WriteStart, 0x05));
+            return Plan::Keep(exchange::command::declined(Command::WriteStart, 0x05));
         }
         if buffer::number::number4(datagram, 7) != bank::layout::end_address(target, self.n) {
-            return Plan::Keep(crate::command::declined(Command::WriteStart, 0x05));
+            return Plan::Keep(exchange::command::declined(Command::WriteStart, 0x05));
         }
         Plan::Begin
     }
@@ -144,8 +144,8 @@ impl Client {
     {
         let state = self.state;
         let running = self.running;
-        if !crate::command::fits_state(state, command) {
-            return Plan::Keep(crate::command::declined(command, 0x15));
+        if !exchange::command::fits_state(state, command) {
+            return Plan::Keep(exchange::command::declined(command, 0x15));
         }
         match command {
             Command::ModeStart => Plan::Open,
@@ -172,7 +172,7 @@ impl Client {
                 code: 0xE0,
                 result: 0x05,
             }),
-            Asked::WrongLength(command) => Plan::Keep(crate::command::declined(command, 0x05)),
+            Asked::WrongLength(command) => Plan::Keep(exchange::command::declined(command, 0x05)),
             Asked::Right(command) => self.plan_command(command, marks, datagram),
         }
     }
@@ -199,6 +199,6 @@ impl Client {
         if crate::host::is_closed(state) {
             return Plan::Keep(Answer::Refused(Refusal::Closed));
         }
-        self.plan_asked(crate::command::read_command(datagram), marks, datagram)
+        self.plan_asked(exchange::command::read_command(datagram), marks, datagram)
     }
 }

@@ -1,17 +1,11 @@
 // The client's record, and every way in which it changes.
 use bank::layout::Bank;
 use bank::layout::MOST;
+use exchange::state::State;
 ghost use mathlib.Core.Path.{_≡_};
 ghost use Prim.Native.Nat.{_≤_};
 ghost use Rattle.bank.specs.Layout.{mostSectors};
-ghost use Rattle.client.specs.Record.{stateNumber, noneReceived, initiated, opened, left, begun, marked, ended};
-
-pub enum State {
-    Closed,
-    Idle,
-    Control,
-    Write,
-}
+ghost use Rattle.client.specs.Record.{noneReceived, initiated, opened, left, begun, marked, ended};
 
 // How the latest write session since Start OTA Mode ended.
 pub enum Latest {
@@ -30,18 +24,6 @@ pub struct Client {
     pub minor: u8,
     pub revision: u32,
     pub received: [bool; MOST],
-}
-
-// States by number, so that two can be compared.
-pub(crate) fn state_number(state: State) -> u8
-    ensures { λ r. ⌜ r ≡ stateNumber state ⌝ }
-{
-    match state {
-        State::Closed => 0,
-        State::Idle => 1,
-        State::Control => 2,
-        State::Write => 3,
-    }
 }
 
 pub(crate) fn none_received() -> [bool; MOST]

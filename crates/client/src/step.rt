@@ -1,11 +1,11 @@
 // One datagram: decided upon, carried out on the target bank, answered.
-use crate::answer::Answer;
-use crate::answer::Kind;
-use crate::answer::Notice;
+use crate::notice::Kind;
+use crate::notice::Notice;
 use crate::plan::Plan;
 use crate::record::Client;
 use crate::record::Latest;
 use bank::layout::Bank;
+use exchange::answer::Answer;
 ghost use mathlib.Core.Path.{_≡_};
 ghost use lib.ListN.{length};
 ghost use Rattle.client.specs.Notice.{latestNumber};
@@ -36,16 +36,16 @@ fn notice_for(plan: Plan, latest: Latest, address: &[u8]) -> Notice
     ensures { λ r. ⌜ r ≡ noticeOf plan latest (now (address .entry)) ⌝ }
 {
     match plan {
-        Plan::Keep(_) => crate::answer::no_notice(),
-        Plan::Open => crate::answer::notice_of(Kind::Started, 0, address),
-        Plan::Close => crate::answer::notice_of(Kind::Ended, latest_number(latest), address),
-        Plan::Begin => crate::answer::no_notice(),
+        Plan::Keep(_) => crate::notice::no_notice(),
+        Plan::Open => crate::notice::notice_of(Kind::Started, 0, address),
+        Plan::Close => crate::notice::notice_of(Kind::Ended, latest_number(latest), address),
+        Plan::Begin => crate::notice::no_notice(),
         Plan::Store {
             sector: _,
             length: _,
-        } => crate::answer::no_notice(),
-        Plan::Wear => crate::answer::no_notice(),
-        Plan::Finish => crate::answer::no_notice(),
+        } => crate::notice::no_notice(),
+        Plan::Wear => crate::notice::no_notice(),
+        Plan::Finish => crate::notice::no_notice(),
     }
 }
 
@@ -68,7 +68,7 @@ impl Client {
         let served = self.serve(plan, target, datagram);
         let client = served.client;
         let answer = served.answer;
-        let length = crate::answer::say(answer, buffer);
+        let length = exchange::answer::say(answer, buffer);
         Stepped {
             client,
             answer,

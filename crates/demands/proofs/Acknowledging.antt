@@ -12,9 +12,9 @@ use Rattle.crc.specs.Crc.{crcOf}
 use Rattle.frame.specs.Read.{readOf, bytesIn}
 use Rattle.flash.specs.Sector.{paddedOf}
 use Rattle.bank.proofs.Layouts.{good-high}
-use Rattle.client.specs.declared.answer.Answer.{Answer}
+use Rattle.exchange.specs.declared.answer.Answer.{Answer}
 use Rattle.client.specs.declared.record.Client.{Client}
-use Rattle.client.specs.Answer.{answerBytes}
+use Rattle.exchange.specs.Answer.{answerBytes}
 use Rattle.client.specs.Record.{noneReceived}
 use Rattle.client.specs.Step.{targetOf}
 use Rattle.client.proofs.Courses.{Course, still, begins, stores, ends, step-course}

@@ -34,10 +34,10 @@ use Rattle.sender.specs.Packet.{sectorOf as imageSector}
 use Rattle.sender.specs.Request.{requestFrame}
 use Rattle.sender.proofs.Image.{SentAt, used-sent, packet-read, packet-bytes}
 use Rattle.sender.proofs.Packets.{Sent, sent-in, sector-length}
-use Rattle.client.specs.declared.answer.Answer.the-variants.{Response, Written}
+use Rattle.exchange.specs.declared.answer.Answer.the-variants.{Response, Written}
 use Rattle.client.specs.declared.record.Latest.the-variants.{Good}
-use Rattle.client.specs.declared.record.State.the-variants as state
-use Rattle.client.specs.Answer.{writtenBytes, answerBytes}
+use Rattle.exchange.specs.declared.state.State.the-variants as state
+use Rattle.exchange.specs.Answer.{writtenBytes, answerBytes}
 use Rattle.client.specs.Host.{isClosed}
 use Rattle.client.specs.Notice.{noNotice}
 use Rattle.client.specs.Perform.{Accepted, fitOf, storeResult}
@@ -45,7 +45,7 @@ use Rattle.client.specs.Plan.{isWorn, anyWorn, valuesGood, addressesGood}
 use Rattle.client.specs.Record.{begun, ended}
 use Rattle.client.specs.Step.{targetOf}
 use Rattle.client.proofs.Courses.{accepted, not-write}
-use Rattle.client.proofs.Saying.{answer-short}
+use Rattle.exchange.proofs.Saying.{answer-short}
 use Rattle.client.proofs.Planning.{lent-buffer, values-words}
 use Rattle.demands.specs.Board.{Board, board, Call, Input, Datagram, Outcome, said, after, outcomes, targetBank, sectorsIn, lentTarget, stepMachine}
 use Rattle.demands.specs.Session.{isEnd, allBlank, exchanged, noted}

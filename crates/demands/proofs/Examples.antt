@@ -34,9 +34,9 @@ use Rattle.hex.specs.Line.{lines}
 use Rattle.hex.specs.Record.{digitsIn, digitsWhole, recordOf, total, dataAt, typed, foundOf}
 use Rattle.hex.specs.Read.{readLines}
 use Rattle.hex.specs.Read.{readOf as readText}
-use Rattle.client.specs.declared.record.State.{State}
-use Rattle.client.specs.declared.record.State.the-variants as state
-use Rattle.client.specs.Answer.{writtenBytes, answerBytes}
+use Rattle.exchange.specs.declared.state.State.{State}
+use Rattle.exchange.specs.declared.state.State.the-variants as state
+use Rattle.exchange.specs.Answer.{writtenBytes, answerBytes}
 use Rattle.client.specs.Host.{isClosed}
 use Rattle.client.specs.Perform.{storeResult}
 use Rattle.client.specs.Plan.{isWorn, valuesGood}

@@ -10,7 +10,7 @@ use Rattle.bank.specs.declared.layout.Bank.{Bank}
 use Rattle.bank.specs.Layout.{sectorSize, goodN}
 use Rattle.sender.specs.declared.request.Request.the-variants.{ModeStart, ModeEnd}
 use Rattle.sender.specs.Request.{requestFrame}
-use Rattle.client.specs.declared.answer.Kind.the-variants.{Started, Ended}
+use Rattle.client.specs.declared.notice.Kind.the-variants.{Started, Ended}
 use Rattle.client.specs.declared.record.Latest.{Latest}
 use Rattle.client.specs.Host.{isClosed, newOf}
 use Rattle.client.specs.Notice.{noticeWith, noticeBytes, latestNumber}

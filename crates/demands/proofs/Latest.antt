@@ -16,7 +16,7 @@ use Rattle.flash.proofs.Blanks.{sector-blanks}
 use Rattle.flash.proofs.Sectors.{Has, has-still, length-with, with-here, with-other}
 use Rattle.flash.proofs.Words.{length-padded}
 use Rattle.bank.specs.Layout.{sectorSize}
-use Rattle.client.specs.Answer.{answerBytes}
+use Rattle.exchange.specs.Answer.{answerBytes}
 use Rattle.client.proofs.Courses.{Course, still, begins, stores, ends, fits-stored, step-course}
 use Rattle.demands.specs.Board.{Board, Call, Input, Initiate, Terminate, Datagram, said, outcomes, lentTarget, called, stepMachine}
 use Rattle.demands.specs.Session.{allBlank, exchanged, shown, lately, lastAccepted}

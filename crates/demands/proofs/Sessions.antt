@@ -22,11 +22,11 @@ use Rattle.flash.proofs.Words.{written-fits}
 use Rattle.flash.proofs.Writes.{FitsAt, length-written}
 use Rattle.bank.specs.Layout.{sectorSize, goodN}
 use Rattle.bank.proofs.Layouts.{good-high}
-use Rattle.client.specs.declared.answer.Answer.{Answer}
+use Rattle.exchange.specs.declared.answer.Answer.{Answer}
 use Rattle.client.specs.declared.host.Hosted.{Hosted}
 use Rattle.client.specs.declared.record.Client.{Client}
-use Rattle.client.specs.declared.record.State.the-variants as state
-use Rattle.client.specs.Answer.{answerBytes}
+use Rattle.exchange.specs.declared.state.State.the-variants as state
+use Rattle.exchange.specs.Answer.{answerBytes}
 use Rattle.client.specs.Host.{isClosed, initiateOf, terminateOf}
 use Rattle.client.specs.Record.{noneReceived}
 use Rattle.client.specs.Step.{Carried}

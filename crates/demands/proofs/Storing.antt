@@ -13,7 +13,7 @@ use Rattle.frame.specs.declared.read.Read.the-variants.{Write}
 use Rattle.frame.proofs.Told.{Told, told}
 use Rattle.bank.specs.Layout.{sectorSize, goodN}
 use Rattle.client.specs.declared.record.Client.{Client}
-use Rattle.client.specs.declared.record.State.the-variants as state
+use Rattle.exchange.specs.declared.state.State.the-variants as state
 use Rattle.client.specs.Plan.{valuesGood}
 use Rattle.client.proofs.Leading.{Storing}
 

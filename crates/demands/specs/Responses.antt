@@ -15,7 +15,7 @@ use Rattle.response.specs.declared.read.Response.{Response}
 use Rattle.response.specs.declared.read.Response.the-variants.{Unreadable, Plain, Target, Firmware, Written}
 use Rattle.response.specs.Six.{sixOf}
 use Rattle.response.specs.Response.{responseNumber}
-use Rattle.client.specs.Answer.{writtenBytes}
+use Rattle.exchange.specs.Answer.{writtenBytes}
 
 abbrev pub codeOf : Kind → ℕ
 codeOf ModeStart = 0x71

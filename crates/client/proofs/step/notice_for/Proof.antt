@@ -2,7 +2,7 @@
 -- Assumes nothing.
 use mathlib.Core.Path.{ap, _∙_}
 use Prim.Native.Nat.{ℕ}
-use Rattle.client.specs.declared.answer.Kind.the-variants.{Ended}
+use Rattle.client.specs.declared.notice.Kind.the-variants.{Ended}
 use Rattle.client.specs.Notice.{noticeWith}
 use borrow.Author.Needs.{needs}
 use Rattle.client.proofs.step.notice_for.Statement.{statement}
