@@ -3,7 +3,7 @@
 use mathlib.Core.Path.{_≡_, refl, sym, ap, _∙_}
 use mathlib.Core.List.{List, [], _∷_, _++_}
 use mathlib.Core.Bool.{Bool, true, false, _&&_, false≢true}
-use Prim.Native.Nat.{ℕ, zero, suc, _+_, _-_, _*_, _%_, _<_, _≤_}
+use Prim.Native.Nat.{ℕ, zero, suc, _+_, _-_, _*_, _/_, _%_, _<_, _≤_}
 use native.Mathlib.Nat.{zero-add}
 use native.Mathlib.Numerals.{add-one}
 use native.Mathlib.Omega.{arith}
@@ -12,6 +12,8 @@ use lib.ListN.{length, getD, take, drop, length-take, length-drop, List·getD-ap
 use lib.Seq.{take-append-le, drop-append-le, take-at, sets, sets-eq, slice, slice-cons, slice-empty, length-slice}
 use borrow.Author.Tests.{eq-eqb, ne-eqb, eqb-true, eqb-false, lt-ltb, ltb-true, leb-true}
 use Rattle.buffer.proofs.Bools.{and-left, and-right, and-both, not-so, same-tests, split, no-way}
+use Rattle.buffer.proofs.Numbers.{number-two}
+use Rattle.buffer.specs.Number.{numberAt}
 use Rattle.hex.specs.declared.fault.Kind.{Kind}
 use Rattle.hex.specs.declared.fault.Kind.the-variants.{H1, H2, H3, H4, H5, H6}
 use Rattle.hex.specs.declared.record.State.{State}
@@ -225,7 +227,10 @@ module _ (base size : ℕ) (s : State) (line : List ℕ) where
     found-typed r z = rw (o, spelled-whole line r, eq-eqb (total (spelledBy line) % 256) 0 z)
 
 -- a record's type, case by case
-module _ (base size upper last : ℕ) (r : List ℕ) {a : ℕ} (ea : a ≡ addressOf r) where
+module _ (base size upper last : ℕ) (r : List ℕ) (counted : countOf r + 5 ≤ length r) {a : ℕ} (read : a ≡ numberAt 2 r 1) where
+  ea : a ≡ addressOf r
+  ea = read ∙ number-two r 1 (omega arith)
+
   pub typed-data : typeOf r ≡ 0 → typed base size upper last r ≡ dataAt base size last (upper * 65536 + a) (countOf r)
   unfolding typed
   typed-data z = simp (eq-eqb (typeOf r) 0 z, ea)
@@ -240,15 +245,16 @@ module _ (base size upper last : ℕ) (r : List ℕ) {a : ℕ} (ea : a ≡ addre
       unfolding typed
       typed-end e f = simp (ne-eqb (typeOf r) 0 nz, eq-eqb (addressOf r) 0 (sym ea ∙ az), eq-eqb (typeOf r) 1 e, eq-eqb (countOf r) 0 f)
 
-      pub typed-upper : typeOf r ≡ 4 → countOf r ≡ 2 → typed base size upper last r ≡ Upper (getD r 4 0 * 256 + getD r 5 0)
+      pub typed-upper : {u : ℕ} → u ≡ numberAt 2 r 4 → typeOf r ≡ 4 → countOf r ≡ 2 → typed base size upper last r ≡ Upper u
       unfolding typed
-      typed-upper e f =
+      typed-upper high e f =
           simp (
             ne-eqb (typeOf r) 0 nz,
             eq-eqb (addressOf r) 0 (sym ea ∙ az),
             not-both (typeOf r) 1 (countOf r) 0 (λ x y. omega arith),
             eq-eqb (typeOf r) 4 e,
             eq-eqb (countOf r) 2 f,
+            high ∙ number-two r 4 (omega arith),
           )
 
       pub typed-other : typeOf r ≡ 5 → countOf r ≡ 4 → typed base size upper last r ≡ Other
@@ -361,15 +367,16 @@ module _ (t : List ℕ) (p m : ℕ) {held : List ℕ} (before : List ℕ) (room 
   front-count : 0 < m → countOf held ≡ countOf (bytesAt t p m)
   front-count h = let l = bytes-length t p m in rw held-is (List·getD-append (bytesAt t p m) (drop m before) 0 0 (omega arith))
 
-  pub front-counted : {n : ℕ} → n ≡ countOf held → m ≡ n + 5 → countOf (take m held) + 5 ≤ length (take m held)
-  front-counted e f = let l = bytes-length t p m in let c = front-count (omega arith) in rw front-is (omega arith)
-
   front-data : (n : ℕ) → 4 ≤ m → length (dataOf n (bytesAt t p m)) ≡ n → dataOf n held ≡ dataOf n (bytesAt t p m)
   front-data n h w =
       let l = bytes-length t p m in
       let w' = simp (length-take, length-drop) at w in
       rw (held-is, drop-append-le 4 (bytesAt t p m) (drop m before) (omega arith))
       (take-append-le n (drop 4 (bytesAt t p m)) (drop m before) (simp length-drop (omega arith)))
+
+-- how many pairs of digits a line of odd length has behind its colon
+abbrev pairs : ℕ → ℕ → ℕ
+pairs from to = (to - from) / 2
 
 module _ (t : List ℕ) (from to : ℕ) (k : to ≤ length t) (base size : ℕ) (s : State) (held : List ℕ) where
   looked-fault : (f : Kind) → foundOf base size s (slice from to t) ≡ Fault f → Looked t from to base size s held (Fault f)
@@ -382,43 +389,69 @@ module _ (t : List ℕ) (from to : ℕ) (k : to ≤ length t) (base size : ℕ) 
     looked-1 : isRecord (slice from to t) ≡ false → Looked t from to base size s held (Fault H1)
     looked-1 r = looked-fault H1 (found-1 base size s (slice from to t) o r)
 
-    pub looked-length : ((n : ℕ) → n < 256 → to - from ≡ 11 + 2 * n → ⊥) → Looked t from to base size s held (Fault H1)
-    looked-length d = looked-1 (length-not t from to k d)
+    pub looked-short : to - from < 11 → Looked t from to base size s held (Fault H1)
+    looked-short h = looked-1 (length-not t from to k (λ n l e. omega arith))
 
-    pub looked-colon : from < to → (getD t from 0 ≡ 0x3A → ⊥) → Looked t from to base size s held (Fault H1)
-    looked-colon h n = looked-1 (colon-not t from to k h n)
+    pub looked-long : 521 < to - from → Looked t from to base size s held (Fault H1)
+    looked-long h = looked-1 (length-not t from to k (λ n l e. omega arith))
 
-    module _ (m : ℕ) (len : to - from ≡ 2 * m + 1) {sum : ℕ} (added : sum ≡ checkFrom 0 (bytesAt t (from + 1) m)) where
-      pub looked-bytes : sum ≡ 256 → Looked t from to base size s held (Fault H1)
-      looked-bytes z = looked-1 (bytes-not t from to k m len (sum-bad _ (sym added ∙ z)))
+    pub looked-even : (to - from) % 2 ≡ 0 → Looked t from to base size s held (Fault H1)
+    looked-even h = looked-1 (length-not t from to k (λ n l e. omega arith))
 
-      module _
-          (g : sum ≡ 256 → ⊥) (before : List ℕ) (room : m ≤ length before) (put : held ≡ sets before 0 (bytesAt t (from + 1) m)) (some : 4 ≤ m)
-          {n : ℕ} (e : n ≡ countOf held) where
-        count-is : n ≡ countOf (bytesAt t (from + 1) m)
-        count-is = e ∙ front-count t (from + 1) m before room put (omega arith)
+    module _ (short : 11 ≤ to - from) where
+      pub looked-colon : (getD t from 0 ≡ 0x3A → ⊥) → Looked t from to base size s held (Fault H1)
+      looked-colon n = looked-1 (colon-not t from to k (omega arith) n)
 
-        pub looked-count : (m ≡ n + 5 → ⊥) → Looked t from to base size s held (Fault H1)
-        looked-count d = looked-1 (count-not t from to k m len (λ z. let c = count-is in d (omega arith)))
+      module _ (odd : (to - from) % 2 ≡ 0 → ⊥) {sum : ℕ} (added : sum ≡ checkFrom 0 (bytesAt t (from + 1) (pairs from to))) where
+        record-is : spelledBy (slice from to t) ≡ bytesAt t (from + 1) (pairs from to)
+        record-is = record-at t from to k (pairs from to) (omega arith)
 
-        module _ (colon : getD t from 0 ≡ 0x3A) (fit : m ≡ n + 5) where
-          good : (allBytes (bytesAt t (from + 1) m) ≡ true) × (checkFrom 0 (bytesAt t (from + 1) m) ≡ total (bytesAt t (from + 1) m) % 256)
-          good = sum-good (bytesAt t (from + 1) m) (λ z. g (added ∙ z))
+        pub looked-bytes : sum ≡ 256 → Looked t from to base size s held (Fault H1)
+        looked-bytes z = looked-1 (bytes-not t from to k (pairs from to) (omega arith) (sum-bad _ (sym added ∙ z)))
 
-          whole : isRecord (slice from to t) ≡ true
-          whole = is-record t from to k m len colon (good .0) (let c = count-is in omega arith)
+        module _
+            (g : sum ≡ 256 → ⊥) (long : to - from ≤ 521) (before : List ℕ) (wide : 260 ≤ length before)
+            (put : held ≡ sets before 0 (bytesAt t (from + 1) (pairs from to))) {n : ℕ} (e : n ≡ countOf held) where
+          room : pairs from to ≤ length before
+          room = omega arith
 
-          added-is : sum ≡ total (spelledBy (slice from to t)) % 256
-          added-is = rw (record-at t from to k m len) (added ∙ good .1)
+          count-is : n ≡ countOf (bytesAt t (from + 1) (pairs from to))
+          count-is = e ∙ front-count t (from + 1) (pairs from to) before room put (omega arith)
 
-          pub looked-sum : (sum ≡ 0 → ⊥) → Looked t from to base size s held (Fault H2)
-          looked-sum h = looked-fault H2 (found-2 base size s (slice from to t) o whole (λ z. h (added-is ∙ z)))
+          pub looked-count : (pairs from to ≡ n + 5 → ⊥) → Looked t from to base size s held (Fault H1)
+          looked-count d = looked-1 (count-not t from to k (pairs from to) (omega arith) (λ z. d (z ∙ ap (λ (c : ℕ). c + 5) (sym count-is))))
 
-          pub looked-typed : {r : Found} → sum ≡ 0 → r ≡ typed base size (s .upper) (s .last) (take m held) → Looked t from to base size s held r
-          looked-typed z q =
-              let b = record-at t from to k m len in
-              let f = q ∙ ap (typed base size (s .upper) (s .last)) (front-is t (from + 1) m before room put ∙ sym b) ∙ sym (found-typed base size s (slice from to t) o whole (sym added-is ∙ z)) in
-              record { is = f; holds = λ start n h. rw b (front-data t (from + 1) m before room put n some (rw b at (data-in base size s (slice from to t) start n (sym f ∙ h) .whole))) }
+          module _ (colon : getD t from 0 ≡ 0x3A) (fit : pairs from to ≡ n + 5) where
+            good : (allBytes (spelledBy (slice from to t)) ≡ true) × (checkFrom 0 (spelledBy (slice from to t)) ≡ total (spelledBy (slice from to t)) % 256)
+            good = sum-good (spelledBy (slice from to t)) (λ z. g (added ∙ (rw record-is at z)))
+
+            whole : isRecord (slice from to t) ≡ true
+            whole = is-record t from to k (pairs from to) (omega arith) colon (rw record-is at (good .0)) (fit ∙ ap (λ (c : ℕ). c + 5) count-is)
+
+            added-is : sum ≡ total (spelledBy (slice from to t)) % 256
+            added-is = added ∙ sym (ap (checkFrom 0) record-is) ∙ good .1
+
+            pub looked-sum : (sum ≡ 0 → ⊥) → Looked t from to base size s held (Fault H2)
+            looked-sum h = looked-fault H2 (found-2 base size s (slice from to t) o whole (λ z. h (added-is ∙ z)))
+
+            pub looked-counted : countOf (take (pairs from to) held) + 5 ≤ length (take (pairs from to) held)
+            looked-counted =
+                let l = bytes-length t (from + 1) (pairs from to) in
+                let c = count-is in
+                rw (front-is t (from + 1) (pairs from to) before room put) (omega arith)
+
+            pub looked-typed :
+                {r : Found} → sum ≡ 0 → r ≡ typed base size (s .upper) (s .last) (take (pairs from to) held) → Looked t from to base size s held r
+            looked-typed z q =
+                let f = q ∙ ap (typed base size (s .upper) (s .last)) (front-is t (from + 1) (pairs from to) before room put ∙ sym record-is) ∙ sym (found-typed base size s (slice from to t) o whole (sym added-is ∙ z)) in
+                record {
+                  is = f;
+                  holds =
+                      λ start n h.
+                      rw record-is
+                      (front-data t (from + 1) (pairs from to) before room put n (omega arith)
+                      (rw record-is at (data-in base size s (slice from to t) start n (sym f ∙ h) .whole)));
+                }
 
 -- data that were found: where they belong, and that they lie within the record
 module _ {t : List ℕ} {from to base size : ℕ} {s : State} {held : List ℕ} {start n : ℕ} (l : Looked t from to base size s held (Data start n)) where

@@ -32,7 +32,7 @@ part-put-at-start : tie.Need-part-put-at-start
 part-put-at-start c = search needs
 
 part-put-at-end : tie.Need-part-put-at-end
-part-put-at-end c = let h = c .before .before .before .before .before .before .look .kept .1 .1 .1 .1 .1 .1 .0 in data-held (rw (c .before .before .before .seen2 .given .1) at (c .before .before .before .before .before .before .look .ensures)) (omega arith)
+part-put-at-end c = let h = c .before .before .before .before .before .before .look .kept .1 .1 .1 .1 .1 .1 .0 in omega (arith, data-held (rw (c .before .before .before .seen2 .given .1) at (c .before .before .before .before .before .before .look .ensures)) (omega arith))
 
 put-at-requires : tie.Need-put-at-requires
 put-at-requires c κs = search needs

@@ -3,7 +3,6 @@
 use mathlib.Core.Path.{sym, _∙_}
 use native.Mathlib.Omega.{arith}
 use borrow.Author.Needs.{needs}
-use Rattle.buffer.proofs.Numbers.{number-two}
 use Rattle.hex.proofs.Records.{typed-data, typed-field, typed-end, typed-upper, typed-other, typed-bad}
 use Rattle.hex.proofs.record.typed_at.Statement.{statement}
 use Rattle.hex.proofs.record.typed_at.Tie as tie
@@ -35,30 +34,30 @@ data-at-requires c κs = search needs
 returns : tie.Need-returns
 returns c =
     let a = c .before .before .before .before .before .before .before .before .args in
-    let r = a .bytes .now in
-    let e = c .before .before .before .before .before .number2 .ensures ∙ number-two r 1 (omega arith) in
-    c .data-at .ensures ∙ rw (c .before .wide .ensures .0) (sym (typed-data (a .base) (a .size) (a .state .upper) (a .state .last) r e (c .before .before .before .if1 .taken)))
+    let q = c .before .before .before .before .before .before .before .before .pre .0 in
+    let e = c .before .before .before .before .before .number2 .ensures in
+    c .data-at .ensures ∙ rw (c .before .wide .ensures .0) (sym (typed-data (a .base) (a .size) (a .state .upper) (a .state .last) (a .bytes .now) q e (c .before .before .before .if1 .taken)))
 
 returns-2 : tie.Need-returns-2
 returns-2 c =
     let a = c .before .before .before .before .before .before .args in
-    let r = a .bytes .now in
-    let e = c .before .before .before .number2 .ensures ∙ number-two r 1 (omega arith) in
-    sym (typed-field (a .base) (a .size) (a .state .upper) (a .state .last) r e (c .before .if1 .left) (c .if2 .taken))
+    let q = c .before .before .before .before .before .before .pre .0 in
+    let e = c .before .before .before .number2 .ensures in
+    sym (typed-field (a .base) (a .size) (a .state .upper) (a .state .last) (a .bytes .now) q e (c .before .if1 .left) (c .if2 .taken))
 
 returns-3 : tie.Need-returns-3
 returns-3 c =
     let a = c .before .before .before .before .before .before .before .before .args in
-    let r = a .bytes .now in
-    let e = c .before .before .before .before .before .number2 .ensures ∙ number-two r 1 (omega arith) in
-    sym (typed-end (a .base) (a .size) (a .state .upper) (a .state .last) r e (c .before .before .before .if1 .left) (c .before .before .if2 .left) (c .before .if3 .taken) (c .if4 .taken))
+    let q = c .before .before .before .before .before .before .before .before .pre .0 in
+    let e = c .before .before .before .before .before .number2 .ensures in
+    sym (typed-end (a .base) (a .size) (a .state .upper) (a .state .last) (a .bytes .now) q e (c .before .before .before .if1 .left) (c .before .before .if2 .left) (c .before .if3 .taken) (c .if4 .taken))
 
 returns-4 : tie.Need-returns-4
 returns-4 c =
     let a = c .before .before .before .before .before .before .before .before .args in
-    let r = a .bytes .now in
-    let e = c .before .before .before .before .before .number2 .ensures ∙ number-two r 1 (omega arith) in
-    sym (typed-bad (a .base) (a .size) (a .state .upper) (a .state .last) r e (c .before .before .before .if1 .left) (c .before .before .if2 .left) (λ x. (c .if4 .left)) (λ x y. omega arith) (λ x y. omega arith))
+    let q = c .before .before .before .before .before .before .before .before .pre .0 in
+    let e = c .before .before .before .before .before .number2 .ensures in
+    sym (typed-bad (a .base) (a .size) (a .state .upper) (a .state .last) (a .bytes .now) q e (c .before .before .before .if1 .left) (c .before .before .if2 .left) (λ x. (c .if4 .left)) (λ x y. omega arith) (λ x y. omega arith))
 
 number2-requires-2 : tie.Need-number2-requires-2
 number2-requires-2 c κs = search needs
@@ -69,37 +68,37 @@ cast-t21 c = search needs
 returns-5 : tie.Need-returns-5
 returns-5 c =
     let a = c .before .before .before .before .before .before .before .before .before .before .args in
-    let r = a .bytes .now in
-    let e = c .before .before .before .before .before .before .before .number2 .ensures ∙ number-two r 1 (omega arith) in
-    rw (c .number22 .ensures ∙ number-two r 4 (omega arith)) (sym (typed-upper (a .base) (a .size) (a .state .upper) (a .state .last) r e (c .before .before .before .before .before .if1 .left) (c .before .before .before .before .if2 .left) (c .before .before .if5 .taken) (c .before .if6 .taken)))
+    let q = c .before .before .before .before .before .before .before .before .before .before .pre .0 in
+    let e = c .before .before .before .before .before .before .before .number2 .ensures in
+    sym (typed-upper (a .base) (a .size) (a .state .upper) (a .state .last) (a .bytes .now) q e (c .before .before .before .before .before .if1 .left) (c .before .before .before .before .if2 .left) (c .number22 .ensures) (c .before .before .if5 .taken) (c .before .if6 .taken))
 
 returns-6 : tie.Need-returns-6
 returns-6 c =
     let a = c .before .before .before .before .before .before .before .before .before .args in
-    let r = a .bytes .now in
-    let e = c .before .before .before .before .before .before .number2 .ensures ∙ number-two r 1 (omega arith) in
-    sym (typed-bad (a .base) (a .size) (a .state .upper) (a .state .last) r e (c .before .before .before .before .if1 .left) (c .before .before .before .if2 .left) (λ x y. omega arith) (λ x. (c .if6 .left)) (λ x y. omega arith))
+    let q = c .before .before .before .before .before .before .before .before .before .pre .0 in
+    let e = c .before .before .before .before .before .before .number2 .ensures in
+    sym (typed-bad (a .base) (a .size) (a .state .upper) (a .state .last) (a .bytes .now) q e (c .before .before .before .before .if1 .left) (c .before .before .before .if2 .left) (λ x y. omega arith) (λ x. (c .if6 .left)) (λ x y. omega arith))
 
 returns-7 : tie.Need-returns-7
 returns-7 c =
     let a = c .before .before .before .before .before .before .before .before .before .before .args in
-    let r = a .bytes .now in
-    let e = c .before .before .before .before .before .before .before .number2 .ensures ∙ number-two r 1 (omega arith) in
-    sym (typed-other (a .base) (a .size) (a .state .upper) (a .state .last) r e (c .before .before .before .before .before .if1 .left) (c .before .before .before .before .if2 .left) (c .before .if7 .taken) (c .if8 .taken))
+    let q = c .before .before .before .before .before .before .before .before .before .before .pre .0 in
+    let e = c .before .before .before .before .before .before .before .number2 .ensures in
+    sym (typed-other (a .base) (a .size) (a .state .upper) (a .state .last) (a .bytes .now) q e (c .before .before .before .before .before .if1 .left) (c .before .before .before .before .if2 .left) (c .before .if7 .taken) (c .if8 .taken))
 
 returns-8 : tie.Need-returns-8
 returns-8 c =
     let a = c .before .before .before .before .before .before .before .before .before .before .args in
-    let r = a .bytes .now in
-    let e = c .before .before .before .before .before .before .before .number2 .ensures ∙ number-two r 1 (omega arith) in
-    sym (typed-bad (a .base) (a .size) (a .state .upper) (a .state .last) r e (c .before .before .before .before .before .if1 .left) (c .before .before .before .before .if2 .left) (λ x y. omega arith) (λ x y. omega arith) (λ x. (c .if8 .left)))
+    let q = c .before .before .before .before .before .before .before .before .before .before .pre .0 in
+    let e = c .before .before .before .before .before .before .before .number2 .ensures in
+    sym (typed-bad (a .base) (a .size) (a .state .upper) (a .state .last) (a .bytes .now) q e (c .before .before .before .before .before .if1 .left) (c .before .before .before .before .if2 .left) (λ x y. omega arith) (λ x y. omega arith) (λ x. (c .if8 .left)))
 
 returns-9 : tie.Need-returns-9
 returns-9 c =
     let a = c .before .before .before .before .before .before .before .before .before .args in
-    let r = a .bytes .now in
-    let e = c .before .before .before .before .before .before .number2 .ensures ∙ number-two r 1 (omega arith) in
-    sym (typed-bad (a .base) (a .size) (a .state .upper) (a .state .last) r e (c .before .before .before .before .if1 .left) (c .before .before .before .if2 .left) (λ x y. (c .before .before .if3 .left) x) (λ x y. (c .before .if5 .left) x) (λ x y. (c .if7 .left) x))
+    let q = c .before .before .before .before .before .before .before .before .before .pre .0 in
+    let e = c .before .before .before .before .before .before .number2 .ensures in
+    sym (typed-bad (a .base) (a .size) (a .state .upper) (a .state .last) (a .bytes .now) q e (c .before .before .before .before .if1 .left) (c .before .before .before .if2 .left) (λ x y. (c .before .before .if3 .left) x) (λ x y. (c .before .if5 .left) x) (λ x y. (c .if7 .left) x))
 
 pub typed-at-spec : {M : Type 1} → statement M
 typed-at-spec =
