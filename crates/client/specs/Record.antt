@@ -86,8 +86,8 @@ left c state =
     }
 
 -- 64: "to idle"
-abbrev pub closed : Client → Client
-closed c = left c Idle
+abbrev pub modeEnded : Client → Client
+modeEnded c = left c Idle
 
 -- host: to closed
 abbrev pub terminated : Client → Client

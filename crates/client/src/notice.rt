@@ -1,7 +1,8 @@
 // The notices that a client gives its host.
+use crate::record::Latest;
 ghost use mathlib.Core.Path.{_≡_};
 ghost use lib.ListN.{length};
-ghost use Rattle.client.specs.Notice.{noNotice, noticeWith};
+ghost use Rattle.client.specs.Notice.{noNotice, noticeWith, latestNumber};
 
 pub enum Kind {
     Nothing,
@@ -27,7 +28,7 @@ pub(crate) fn no_notice() -> Notice
     }
 }
 
-pub(crate) fn notice_of(kind: Kind, result: u8, address: &[u8]) -> Notice
+pub(crate) fn notice_with(kind: Kind, result: u8, address: &[u8]) -> Notice
     requires { ⌜ length (now address) ≡ 16 ⌝ }
     ensures { λ r. ⌜ r ≡ noticeWith kind result (now (address .entry)) ⌝ }
 {
@@ -37,5 +38,16 @@ pub(crate) fn notice_of(kind: Kind, result: u8, address: &[u8]) -> Notice
         kind,
         result,
         address: held,
+    }
+}
+
+// How the latest write session ended.
+pub(crate) fn latest_number(latest: Latest) -> u8
+    ensures { λ r. ⌜ r ≡ latestNumber latest ⌝ }
+{
+    match latest {
+        Latest::Nothing => 0x03,
+        Latest::Good => 0x01,
+        Latest::Otherwise => 0x02,
     }
 }

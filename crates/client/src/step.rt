@@ -8,7 +8,6 @@ use bank::layout::Bank;
 use exchange::answer::Answer;
 ghost use mathlib.Core.Path.{_≡_};
 ghost use lib.ListN.{length};
-ghost use Rattle.client.specs.Notice.{latestNumber};
 ghost use Rattle.client.specs.Perform.{Fair};
 ghost use Rattle.client.specs.Step.{noticeOf, Addressed, carriedOf, Carried·Is, Step·Is};
 
@@ -20,16 +19,6 @@ pub struct Stepped {
     pub notice: Notice,
 }
 
-fn latest_number(latest: Latest) -> u8
-    ensures { λ r. ⌜ r ≡ latestNumber latest ⌝ }
-{
-    match latest {
-        Latest::Nothing => 0x03,
-        Latest::Good => 0x01,
-        Latest::Otherwise => 0x02,
-    }
-}
-
 // The notice for the host, with the sender's address; the latest session is the one before the plan.
 fn notice_for(plan: Plan, latest: Latest, address: &[u8]) -> Notice
     requires { ⌜ Addressed plan (length (now address)) ⌝ }
@@ -37,8 +26,12 @@ fn notice_for(plan: Plan, latest: Latest, address: &[u8]) -> Notice
 {
     match plan {
         Plan::Keep(_) => crate::notice::no_notice(),
-        Plan::Open => crate::notice::notice_of(Kind::Started, 0, address),
-        Plan::Close => crate::notice::notice_of(Kind::Ended, latest_number(latest), address),
+        Plan::Open => crate::notice::notice_with(Kind::Started, 0, address),
+        Plan::Close => crate::notice::notice_with(
+            Kind::Ended,
+            crate::notice::latest_number(latest),
+            address,
+        ),
         Plan::Begin => crate::notice::no_notice(),
         Plan::Store {
             sector: _,

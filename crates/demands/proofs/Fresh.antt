@@ -14,7 +14,7 @@ use Rattle.client.specs.declared.notice.Kind.the-variants.{Started, Ended}
 use Rattle.client.specs.declared.record.Latest.{Latest}
 use Rattle.client.specs.Host.{isClosed, newOf}
 use Rattle.client.specs.Notice.{noticeWith, noticeBytes, latestNumber}
-use Rattle.client.specs.Record.{newClient, initiated, opened, closed}
+use Rattle.client.specs.Record.{newClient, initiated, opened, modeEnded}
 use Rattle.demands.specs.Board.{Board, board, Call, Input, Initiate, Datagram, Outcome, said, stepMachine}
 use Rattle.demands.specs.Demand1.{hostDone, changed}
 use Rattle.demands.specs.Demand2.{Lends, Ready, Fit, Delivery}
@@ -76,7 +76,7 @@ module _ (n : ℕ) (running : Bank) (major minor revision : ℕ) (bank0 bank1 : 
       size-is x p = p ∙ ap (λ (y : ℕ). y * sectorSize) (sym (done .sectors))
 
       end-is : stepMachine last (Datagram ending)
-          ≡ changed last ending (closed (last .client)) (noticeWith Ended (latestNumber (last .client .latest)) (ending .address)) (controlFrame 0x74 (0x06 ∷ []))
+          ≡ changed last ending (modeEnded (last .client)) (noticeWith Ended (latestNumber (last .client .latest)) (ending .address)) (controlFrame 0x74 (0x06 ∷ []))
       end-is =
           mode-end last ending
           (heard last ending (ap goodN (done .sectors ∙ sectors-in) ∙ fresh .good) (subst (λ (x : ℕ). Lends x ending) (sym (done .sectors ∙ sectors-in)) e)

@@ -31,7 +31,7 @@ use Rattle.client.specs.Host.{isClosed}
 use Rattle.client.specs.Notice.{noNotice, noticeWith, latestNumber}
 use Rattle.client.specs.Perform.{fitOf, storeResult}
 use Rattle.client.specs.Plan.{lentGood, isWorn, anyWorn, valuesGood, addressesGood}
-use Rattle.client.specs.Record.{Stays, initiated, terminated, opened, closed, begun, marked, ended}
+use Rattle.client.specs.Record.{Stays, initiated, terminated, opened, modeEnded, begun, marked, ended}
 use Rattle.client.specs.Step.{zeroOf, oneOf}
 use Rattle.demands.specs.Board.{Board, board, Call, Input, Initiate, Terminate, Datagram, Outcome, Machine, after, runningBank, backIn, lentTarget}
 
@@ -196,7 +196,7 @@ afterFrame b call r =
     ∷ row (isCode 0x62 r) (answered b call (controlFrame 0x72 (0x06 ∷ bankNumber (otherOf (c .running)) ∷ [])))
     ∷ row (isCode 0x68 r) (answered b call (controlFrame 0x78 (versionBytes (c .major) (c .minor) (c .revision))))
     ∷ row (isCode 0x40 r) (changed b call (begun c) noNotice (controlFrame 0x70 (0x06 ∷ [])))
-    ∷ row (isCode 0x64 r) (changed b call (closed c) (noticeWith Ended (latestNumber (c .latest)) (call .address)) (controlFrame 0x74 (0x06 ∷ [])))
+    ∷ row (isCode 0x64 r) (changed b call (modeEnded c) (noticeWith Ended (latestNumber (c .latest)) (call .address)) (controlFrame 0x74 (0x06 ∷ [])))
     ∷ row (isCode 0x45 r && fitOf (sweptTarget b call)) (stored b call (ended c Good (otherOf (c .running))) (sweptTarget b call) (controlFrame 0x75 (0x06 ∷ [])))
     ∷ row (isCode 0x45 r) (stored b call (ended c Otherwise (c .next)) (sweptTarget b call) (controlFrame 0x75 (0x1E ∷ [])))
     ∷ []

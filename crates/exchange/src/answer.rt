@@ -69,7 +69,7 @@ fn say_written(buffer: &mut [u8], sector: u16, result: u8, write: u8, crc: u32) 
     13
 }
 
-// The answer's bytes to the front of the buffer, and how many they are.
+// The answer's bytes to the front of the buffer, and how many they are; what does not fit writes nothing.
 pub fn say(answer: Answer, buffer: &mut [u8]) -> usize
     ensures { λ r. ⌜ Say·Is answer (now (buffer .entry)) (now (buffer .exit)) r ⌝ }
 {

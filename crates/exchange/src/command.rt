@@ -97,7 +97,7 @@ pub fn fits_state(state: State, command: Command) -> bool
     crate::state::state_number(state) == crate::state::state_number(state_for(command))
 }
 
-// A result other than 06 in the command's own response.
+// A result in the command's own response; no caller gives it 06.
 pub fn declined(command: Command, result: u8) -> Answer
     ensures { λ r. ⌜ Declined·Is command result r ⌝ }
 {

@@ -1,5 +1,4 @@
-// Digits, and the bytes that they spell two by two. The tests are joined by `&`, and a loop over digits has no way out, so that
-// the compiler takes many at once.
+// Digits, and the bytes that they spell two by two. The tests are joined by `&`, so that none branches.
 ghost use mathlib.Core.Path.{_≡_};
 ghost use mathlib.Core.Bool.{true, _&&_, cond};
 ghost use Prim.Native.Nat.{_+_, _-_, _<_};

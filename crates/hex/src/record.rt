@@ -29,7 +29,8 @@ pub enum Found {
     Other,
 }
 
-// What `k` pairs of digits from `at` on spell, to the front of `bytes`, and its sum modulo 256; 256 where one pair is no byte.
+// What `k` pairs of digits from `at` on spell, to the front of `bytes`, and their sum modulo 256; 256 where one pair is no byte.
+// The loop has no way out, so that the compiler takes many at once.
 fn spell(text: &[u8], at: usize, k: usize, bytes: &mut [u8]) -> usize
     requires { ⌜ (at + 2 * k ≤ length (now text)) × (k ≤ length (now bytes)) ⌝ }
     ensures { λ r. ⌜ SpelledAt (now (text .entry)) at k (now (bytes .entry)) (now (bytes .exit)) r ⌝ }

@@ -81,7 +81,7 @@ fn kind_of(code: u8) -> Coded
     Coded::Unknown
 }
 
-// Whether a response of a kind may carry a result: any of Table 9.
+// Whether a response of a kind may carry a result: any of Table 9, whatever it answers. By kind, since 02 §3 rules by it.
 fn may_carry(kind: Kind, result: u8) -> bool
     ensures { λ r. ⌜ r ≡ mayCarry kind result ⌝ }
 {
