@@ -12,7 +12,7 @@ use Rattle.bank.specs.declared.layout.Bank.{Bank}
 use Rattle.bank.specs.declared.layout.Bank.the-variants.{Zero, One}
 use Rattle.bank.specs.declared.layout.Counted.the-variants.{Refused, Sectors}
 use Rattle.bank.specs.Said.{number, value, countedSaid}
-use Rattle.bank.specs.Layout.{goodN, wholeLength, sectorsOf, startOf, endOf, sectorOffset}
+use Rattle.bank.specs.Layout.{sectorSize, mostSectors, goodN, wholeLength, sectorsOf, startOf, endOf, sectorOffset}
 
 pub start-small : (bank : Bank) → startOf bank ≤ 0x14000A00
 start-small Zero = omega arith
@@ -23,79 +23,79 @@ module _ (n : ℕ) where
   unfolding goodN
   good-none h = simp (lt-leb 1 n h)
 
-  pub good-some : 1 ≤ n → leb n 491 ≡ goodN n
+  pub good-some : 1 ≤ n → leb n mostSectors ≡ goodN n
   unfolding goodN
   good-some h = simp (le-leb 1 n h)
 
   -- what a good N tells
   pub good-low : goodN n ≡ true → 1 ≤ n
   unfolding goodN
-  good-low e = leb-true 1 n (and-left (leb 1 n) (leb n 491) e)
+  good-low e = leb-true 1 n (and-left (leb 1 n) (leb n mostSectors) e)
 
-  pub good-high : goodN n ≡ true → n ≤ 491
+  pub good-high : goodN n ≡ true → n ≤ mostSectors
   unfolding goodN
-  good-high e = leb-true n 491 (and-right (leb 1 n) (leb n 491) e)
+  good-high e = leb-true n mostSectors (and-right (leb 1 n) (leb n mostSectors) e)
 
   -- so is every N below it
   pub good-below : goodN n ≡ true → (k : ℕ) → 1 ≤ k → k ≤ n → goodN k ≡ true
   unfolding goodN
-  good-below e k l h = and-both (leb 1 k) (leb k 491) (le-leb 1 k l) (le-leb k 491 (omega (arith, good-high e)))
+  good-below e k l h = and-both (leb 1 k) (leb k mostSectors) (le-leb 1 k l) (le-leb k mostSectors (omega (arith, good-high e)))
 
-  pub whole-good : wholeLength n ≡ true → goodN (n / 512) ≡ true
+  pub whole-good : wholeLength n ≡ true → goodN (n / sectorSize) ≡ true
   unfolding wholeLength
-  whole-good e = and-right (eqb (n % 512) 0) (goodN (n / 512)) e
+  whole-good e = and-right (eqb (n % sectorSize) 0) (goodN (n / sectorSize)) e
 
   pub counted-whole : (k : ℕ) → Sectors k ≡ sectorsOf n → wholeLength n ≡ true
   unfolding sectorsOf
   counted-whole k e = by (wholeLength n) e
     where
-      by : (t : Bool) → Sectors k ≡ cond t (Sectors (n / 512)) Refused → t ≡ true
+      by : (t : Bool) → Sectors k ≡ cond t (Sectors (n / sectorSize)) Refused → t ≡ true
       by true q = refl
-      by false q = let z : _≡_ {A = ℕ} 0 1 = cc in absurd (omega arith)
+      by false q = cc
 
   pub refused-whole : Refused ≡ sectorsOf n → wholeLength n ≡ false
   unfolding sectorsOf
   refused-whole e = by (wholeLength n) e
     where
-      by : (t : Bool) → Refused ≡ cond t (Sectors (n / 512)) Refused → t ≡ false
-      by true q = let z : _≡_ {A = ℕ} 0 1 = cc in absurd (omega arith)
+      by : (t : Bool) → Refused ≡ cond t (Sectors (n / sectorSize)) Refused → t ≡ false
+      by true q = cc
       by false q = refl
 
   -- ---- each way out
 
-  pub sectors-odd : (n % 512 ≡ 0 → ⊥) → Refused ≡ sectorsOf n
+  pub sectors-odd : (n % sectorSize ≡ 0 → ⊥) → Refused ≡ sectorsOf n
   unfolding sectorsOf wholeLength
-  sectors-odd h = simp (ne-eqb (n % 512) 0 h)
+  sectors-odd h = simp (ne-eqb (n % sectorSize) 0 h)
 
-  pub sectors-good : n % 512 ≡ 0 → goodN (n / 512) ≡ true → Sectors (n / 512) ≡ sectorsOf n
+  pub sectors-good : n % sectorSize ≡ 0 → goodN (n / sectorSize) ≡ true → Sectors (n / sectorSize) ≡ sectorsOf n
   unfolding sectorsOf wholeLength
-  sectors-good h g = simp (eq-eqb (n % 512) 0 h, g)
+  sectors-good h g = simp (eq-eqb (n % sectorSize) 0 h, g)
 
-  pub sectors-bad : n % 512 ≡ 0 → goodN (n / 512) ≡ false → Refused ≡ sectorsOf n
+  pub sectors-bad : n % sectorSize ≡ 0 → goodN (n / sectorSize) ≡ false → Refused ≡ sectorsOf n
   unfolding sectorsOf wholeLength
-  sectors-bad h g = simp (eq-eqb (n % 512) 0 h, g)
+  sectors-bad h g = simp (eq-eqb (n % sectorSize) 0 h, g)
 
   pub end-bad : (bank : Bank) → goodN n ≡ false → 0 ≡ endOf bank n
   unfolding endOf
   end-bad bank g = simp g
 
-  pub end-good : (bank : Bank) (s : ℕ) → goodN n ≡ true → s ≡ startOf bank → s + n * 512 - 1 ≡ endOf bank n
+  pub end-good : (bank : Bank) (s : ℕ) → goodN n ≡ true → s ≡ startOf bank → s + n * sectorSize - 1 ≡ endOf bank n
   unfolding endOf
-  end-good bank s g e = simp g (ap (λ (x : ℕ). x + n * 512 - 1) e ∙ ap (λ (x : ℕ). startOf bank + x - 1) (mul-comm n 512))
+  end-good bank s g e = simp g (ap (λ (x : ℕ). x + n * sectorSize - 1) e ∙ ap (λ (x : ℕ). startOf bank + x - 1) (mul-comm n sectorSize))
 
   pub offset-bad : goodN n ≡ false → 0 ≡ sectorOffset n
   unfolding sectorOffset
   offset-bad g = simp g
 
-  pub offset-good : goodN n ≡ true → (n - 1) * 512 ≡ sectorOffset n
+  pub offset-good : goodN n ≡ true → (n - 1) * sectorSize ≡ sectorOffset n
   unfolding sectorOffset
   offset-good g = simp g
 
   -- as 01 says it
-  pub sectors-said : countedSaid (sectorsOf n) ≡ cond (wholeLength n) (value (n / 512)) (number 2)
+  pub sectors-said : countedSaid (sectorsOf n) ≡ cond (wholeLength n) (value (n / sectorSize)) (number 2)
   unfolding sectorsOf
   sectors-said = by (wholeLength n)
     where
-      by : (t : Bool) → countedSaid (cond t (Sectors (n / 512)) Refused) ≡ cond t (value (n / 512)) (number 2)
+      by : (t : Bool) → countedSaid (cond t (Sectors (n / sectorSize)) Refused) ≡ cond t (value (n / sectorSize)) (number 2)
       by true = refl
       by false = refl

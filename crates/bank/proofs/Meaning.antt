@@ -4,17 +4,17 @@ use Prim.Native.Nat.{ℕ, zero, suc, _+_, _-_, _≤_, _<_}
 use native.Mathlib.Omega.{arith}
 use native.Mathlib.Decide.{decLt}
 use mathlib.Core.Path.{_≡_, refl, _∙_}
-use mathlib.Core.Bool.{Bool, true, false, _&&_}
+use mathlib.Core.Bool.{Bool, true, false}
 use mathlib.Core.List.{List}
 use lib.Dec.{eqb, leb}
 use lib.ListN.{length, take}
 use borrow.Author.Tests.{leb-true, eqb-true, eq-eqb, le-leb}
 use Rattle.crc.specs.Crc.{crcOf}
 use Rattle.bank.specs.Stretch.{laidOut, held}
-use Rattle.bank.specs.Table.{byteAt, idOf, editionOf, countOf, crcPlace, tableEnd, entryAt, restOf, entriesOf, stretchOf, stretchesOf}
+use Rattle.bank.specs.Table.{idOf, editionOf, countOf, crcPlace, tableEnd, entryAt, restOf, entriesOf, stretchOf, stretchesOf}
 use Rattle.bank.specs.Sound.{mostBodies, headerGood, tableGood, laidOutGood, stretchBytes, bodyGood, allGood, bodiesGood, blankGood, soundOf}
 use Rattle.bank.specs.Meaning.{bodyStart, bodyEnd, Kept, Place, in-table, in-body, outside}
-use Rattle.buffer.specs.Number.{numberAt}
+use Rattle.buffer.specs.Number.{byteAt, numberAt}
 use Rattle.buffer.proofs.Bools.{and-left, and-right, and-both}
 use Rattle.bank.proofs.Stretches.{fits-back, held-once, outside-blank, blank-outside}
 use Rattle.bank.proofs.Tables.{ahead, parts, parts-back, entry-fits, laid-nth, laid-rest, laid-more, laid-done, body-more, body-done, rest-more}
@@ -29,7 +29,7 @@ module _ (b : List ℕ) where
       let e : i + suc k ≡ i + 1 + k = omega arith in
       rw e (laid-at size k (i + 1) (bodyEnd b i) (omega arith) (laid-rest b i (entryAt b i) refl (omega arith) size at o))
 
-  pub apart : laidOutGood b ≡ true → (i j : ℕ) → i < j → j < countOf b → bodyEnd b i ≤ bodyStart b j
+  apart : laidOutGood b ≡ true → (i j : ℕ) → i < j → j < countOf b → bodyEnd b i ≤ bodyStart b j
   unfolding laidOutGood
   apart o i j l h =
       let z : 0 + i ≡ i = omega arith in

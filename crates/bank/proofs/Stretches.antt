@@ -79,7 +79,7 @@ not-held k s h e = ltb-false k (stopOf s) (sym (simp (le-leb (s .from) k h)) ∙
 
 module _ (whole k : ℕ) where
   -- a byte before `at` is in none
-  pub held-before : (at : ℕ) (ss : List Stretch) → k < at → laidOut whole at ss ≡ true → held k ss ≡ 0
+  held-before : (at : ℕ) (ss : List Stretch) → k < at → laidOut whole at ss ≡ true → held k ss ≡ 0
   unfolding held
   held-before at [] h o = refl
   held-before at (s ∷ ss) h o =

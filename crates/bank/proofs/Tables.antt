@@ -27,21 +27,21 @@ module _ (b : List ℕ) (i : ℕ) where
   unfolding restOf entriesFrom
   rest-more h = let e : countOf b - i ≡ suc (countOf b - (i + 1)) = omega arith in rw e
 
-  pub rest-done : countOf b ≤ i → restOf b i ≡ []
+  rest-done : countOf b ≤ i → restOf b i ≡ []
   unfolding restOf entriesFrom
   rest-done h = let e : countOf b - i ≡ 0 = omega arith in rw e
 
-  pub ahead-more : i < countOf b → ahead b i ≡ stretchOf (entryAt b i) ∷ ahead b (i + 1)
+  ahead-more : i < countOf b → ahead b i ≡ stretchOf (entryAt b i) ∷ ahead b (i + 1)
   unfolding stretchesOf
   ahead-more h = rw (rest-more h)
 
-  pub ahead-done : countOf b ≤ i → ahead b i ≡ []
+  ahead-done : countOf b ≤ i → ahead b i ≡ []
   unfolding stretchesOf
   ahead-done h = rw (rest-done h)
 
   -- e is the entry that was read
   module _ (e : Entry) (is : e ≡ entryAt b i) (h : i < countOf b) (whole at : ℕ) where
-    pub laid-not : fitsAt whole at (stretchOf e) ≡ false → laidOut whole at (ahead b i) ≡ false
+    laid-not : fitsAt whole at (stretchOf e) ≡ false → laidOut whole at (ahead b i) ≡ false
     unfolding laidOut
     laid-not f = rw (ahead-more h, ← is) (simp f)
 
@@ -49,22 +49,22 @@ module _ (b : List ℕ) (i : ℕ) where
     unfolding laidOut
     laid-more f = rw (ahead-more h, ← is) (simp f)
 
-    pub laid-fits : laidOut whole at (ahead b i) ≡ true → Fits whole at (stretchOf e)
+    laid-fits : laidOut whole at (ahead b i) ≡ true → Fits whole at (stretchOf e)
     laid-fits o = laid-head whole at (stretchOf e) (ahead b (i + 1)) (rw (is, ← ahead-more h) o)
 
     pub laid-rest : laidOut whole at (ahead b i) ≡ true → laidOut whole (e .offset + e .length) (ahead b (i + 1)) ≡ true
     laid-rest o = laid-tail whole at (stretchOf e) (ahead b (i + 1)) (rw (is, ← ahead-more h) o)
 
-    pub blank-not : blankOf (part b at (e .offset)) ≡ false → blankOutside b at (ahead b i) ≡ false
+    blank-not : blankOf (part b at (e .offset)) ≡ false → blankOutside b at (ahead b i) ≡ false
     unfolding blankOutside
     blank-not f = rw (ahead-more h, ← is) (simp f)
 
-    pub blank-more : blankOf (part b at (e .offset)) ≡ true → blankOutside b at (ahead b i) ≡ blankOutside b (e .offset + e .length) (ahead b (i + 1))
+    blank-more : blankOf (part b at (e .offset)) ≡ true → blankOutside b at (ahead b i) ≡ blankOutside b (e .offset + e .length) (ahead b (i + 1))
     unfolding blankOutside
     blank-more f = rw (ahead-more h, ← is) (simp f)
 
   module _ (e : Entry) (is : e ≡ entryAt b i) (h : i < countOf b) where
-    pub body-not : bodyGood b e ≡ false → allGood b (restOf b i) ≡ false
+    body-not : bodyGood b e ≡ false → allGood b (restOf b i) ≡ false
     unfolding allGood
     body-not f = rw (rest-more h, ← is) (simp f)
 
@@ -76,7 +76,7 @@ module _ (b : List ℕ) (i : ℕ) where
   unfolding laidOut
   laid-done whole at h = rw (ahead-done h)
 
-  pub blank-done : (at : ℕ) → countOf b ≤ i → blankOutside b at (ahead b i) ≡ blankOf (part b at (length b))
+  blank-done : (at : ℕ) → countOf b ≤ i → blankOutside b at (ahead b i) ≡ blankOf (part b at (length b))
   unfolding blankOutside
   blank-done at h = rw (ahead-done h)
 

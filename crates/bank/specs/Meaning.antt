@@ -4,10 +4,10 @@ use Prim.Native.Nat.{ℕ, _+_, _≤_, _<_}
 use mathlib.Core.Path.{_≡_}
 use mathlib.Core.List.{List}
 use lib.ListN.{length, take}
-use Rattle.buffer.specs.Number.{numberAt}
+use Rattle.buffer.specs.Number.{byteAt, numberAt}
 use Rattle.crc.specs.Crc.{crcOf}
 use Rattle.bank.specs.Stretch.{held}
-use Rattle.bank.specs.Table.{byteAt, idOf, editionOf, countOf, crcPlace, tableEnd, entryAt, entriesOf, stretchesOf}
+use Rattle.bank.specs.Table.{idOf, editionOf, countOf, crcPlace, tableEnd, entryAt, entriesOf, stretchesOf}
 use Rattle.bank.specs.Sound.{mostBodies, stretchBytes}
 
 -- where body i starts, and where it ends

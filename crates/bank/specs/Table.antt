@@ -6,13 +6,9 @@
 use mathlib.Core.Path.{_≡_}
 use Prim.Native.Nat.{ℕ, zero, suc, _+_, _-_, _*_, _<_}
 use mathlib.Core.List.{List, [], _∷_}
-use lib.ListN.{getD}
-use Rattle.buffer.specs.Number.{numberAt}
+use Rattle.buffer.specs.Number.{byteAt, numberAt}
 use Rattle.bank.specs.declared.table.Entry.{Entry}
 use Rattle.bank.specs.Stretch.{Stretch}
-
-abbrev pub byteAt : List ℕ → ℕ → ℕ
-byteAt b i = getD b i 0
 
 abbrev pub idOf : List ℕ → ℕ
 idOf b = numberAt 2 b 0

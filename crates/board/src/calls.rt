@@ -78,7 +78,7 @@ fn client(board: Board, bank0: &mut [u8], bank1: &mut [u8], fields: &[u8]) -> Bo
     let later = text::rest(fields);
     let n = text::decimal(text::first(fields), 6);
     let bank = text::decimal(text::first(later), 1);
-    if n > state::LARGEST_NUMBER {
+    if n > text::LARGEST_NUMBER {
         return state::unknown(board);
     }
     if bank > 1 {

@@ -20,18 +20,10 @@ fn run(board: Board, bank0: &mut [u8], bank1: &mut [u8], word: Word, fields: &[u
     }
 }
 
-fn ends_in_blank(line: &[u8]) -> bool {
-    if line.len() == 0 {
-        return false;
-    }
-    let last = line.len() - 1;
-    line[last] == b' '
-}
-
-// A blank at the line's end has an empty field behind it, which would pass for no field: such a line stands as its own fields, with
-// a word where no command has one.
+// The empty field behind a blank at the line's end would pass for no field: such a line stands as its own fields, with a word where
+// no command has one.
 fn fields(line: &[u8]) -> &[u8] {
-    if ends_in_blank(line) {
+    if text::ends_in_blank(line) {
         return line;
     }
     text::rest(line)

@@ -1,12 +1,12 @@
 // A datagram for the client, and what comes of it.
 use crate::state;
 use crate::state::Board;
-use client::answer::Answer;
-use client::answer::Kind;
-use client::answer::Notice;
-use client::answer::Refusal;
+use client::notice::Kind;
+use client::notice::Notice;
 use client::record::Client;
 use client::step::Stepped;
+use exchange::answer::Answer;
+use exchange::answer::Refusal;
 use script::say;
 use script::text;
 

@@ -6,7 +6,7 @@ use bank::layout::Bank;
 use bank::layout::MOST;
 use client::record::Client;
 use client::record::Latest;
-use client::record::State;
+use exchange::state::State;
 use script::say;
 use script::text;
 
@@ -20,7 +20,7 @@ fn say_sum(bytes: &[u8]) {
 
 fn body<'a>(board: Board, bank0: &'a [u8], bank1: &'a [u8], fields: &[u8]) -> bool {
     let i = text::decimal(fields, 6);
-    if i > state::LARGEST_NUMBER {
+    if i > text::LARGEST_NUMBER {
         return false;
     }
     let client = board.client;

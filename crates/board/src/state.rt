@@ -4,9 +4,6 @@ use bank::layout::MOST;
 use bank::layout::SECTOR;
 use client::record::Client;
 
-// Of a number with six digits.
-pub const LARGEST_NUMBER: usize = 999_999;
-
 // Room for a bank: two sectors more than the largest has.
 pub const BANK_ROOM: usize = 252_416;
 

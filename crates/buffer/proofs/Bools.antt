@@ -1,7 +1,9 @@
--- Tests: what a joined test tells, and a choice taken apart.
+-- Tests: what a joined test tells, a choice taken apart, and a case that cannot be.
 -- Assumes nothing.
 use mathlib.Core.Path.{_≡_, refl, sym}
 use mathlib.Core.Bool.{Bool, true, false, _&&_, cond, false≢true}
+use Prim.Native.Nat.{ℕ}
+use native.Mathlib.Omega.{arith}
 
 pub and-assoc : (a b c : Bool) → ((a && b) && c) ≡ (a && (b && c))
 and-assoc true b c = refl
@@ -39,3 +41,7 @@ not-so false h = refl
 pub same-tests : (a b : Bool) → (a ≡ true → b ≡ true) → (b ≡ true → a ≡ true) → a ≡ b
 same-tests true b h k = sym (h refl)
 same-tests false b h k = sym (not-so b (λ e. false≢true (k e)))
+
+-- where two unlike cases are said to be the same, `no-way cc` gives anything
+pub no-way : {A : Type 0} → _≡_ {A = ℕ} 0 1 → A
+no-way z = absurd (omega arith)

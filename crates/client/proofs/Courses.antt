@@ -3,8 +3,8 @@
 use mathlib.Core.Path.{_≡_, refl, sym, ap, ap₂, _∙_}
 use mathlib.Core.Logic.{_⊎_, inl, inr}
 use mathlib.Core.Bool.{Bool, true, false, not, _&&_, _||_, false≢true}
-use mathlib.Core.List.{List, [], _∷_}
-use Prim.Native.Nat.{ℕ, _-_, _*_, _%_, _≤_}
+use mathlib.Core.List.{List}
+use Prim.Native.Nat.{ℕ, _*_, _%_, _≤_}
 use native.Mathlib.Omega.{arith}
 use lib.Dec.{eqb, leb}
 use lib.ListN.{length}
@@ -12,10 +12,7 @@ use borrow.Author.Tests.{leb-true, eqb-true, not-false}
 use Rattle.buffer.specs.Compare.{blankOf}
 use Rattle.buffer.proofs.Bools.{split, and-left, and-right}
 use Rattle.crc.specs.Crc.{crcOf}
-use Rattle.frame.specs.Read.{writtenOf}
-use Rattle.frame.specs.Write.{putControl, putWrite}
-use Rattle.frame.specs.Frame.{frameError}
-use Rattle.frame.specs.declared.read.Footer.the-variants.{End}
+use Rattle.frame.specs.Read.{bytesIn}
 use Rattle.buffer.specs.Place.{frontOf}
 use Rattle.flash.specs.Bank.{writtenAt, alreadyAt, sweptOf}
 use Rattle.flash.specs.Sector.{paddedOf}
@@ -23,23 +20,23 @@ use Rattle.flash.proofs.Sweeps.{length-sweep}
 use Rattle.flash.proofs.Writes.{FitsAt, length-written, written-here}
 use Rattle.bank.specs.declared.layout.Bank.{Bank}
 use Rattle.bank.specs.declared.layout.Bank.the-variants.{Zero, One}
-use Rattle.bank.specs.Layout.{sectorSize, goodN, bankNumber}
-use Rattle.client.specs.declared.answer.Answer.{Answer}
-use Rattle.client.specs.declared.answer.Answer.the-variants.{Refused, FrameError, Response, BankIs, VersionIs, Written}
+use Rattle.bank.specs.Layout.{sectorSize, goodN}
+use Rattle.exchange.specs.declared.answer.Answer.{Answer}
+use Rattle.exchange.specs.declared.answer.Answer.the-variants.{Response, Written}
 use Rattle.client.specs.declared.plan.Plan.{Plan}
 use Rattle.client.specs.declared.plan.Plan.the-variants.{Keep, Open, Close, Begin, Store, Wear, Finish}
 use Rattle.client.specs.declared.record.Client.{Client}
-use Rattle.client.specs.declared.record.State.{State}
-use Rattle.client.specs.declared.record.State.the-variants as state
-use Rattle.client.specs.Answer.{versionBytes, writtenBytes, answerBytes}
-use Rattle.client.specs.Command.{askedOf}
+use Rattle.exchange.specs.declared.state.State.{State}
+use Rattle.exchange.specs.declared.state.State.the-variants as state
+use Rattle.exchange.specs.Answer.{answerBytes}
+use Rattle.exchange.specs.Command.{askedOf}
 use Rattle.client.specs.Plan.{lentGood, valuesGood, planAsked, planOf}
 use Rattle.client.specs.Perform.{fitOf, Accepted, storeResult, sectorCrc, Done, storeOf, checkedOf, servedOf}
 use Rattle.client.specs.Host.{isClosed}
 use Rattle.client.specs.Record.{Stays, noneReceived, marked}
 use Rattle.client.specs.Step.{noticeOf, Carried, carriedOf, saidOf, targetOf, planned, stepOf}
 use Rattle.client.proofs.Planning.{values-low, values-high}
-use Rattle.client.proofs.Saying.{say-refused, say-error, say-response, say-bank, say-version, say-written}
+use Rattle.exchange.proofs.Saying.{answer-short}
 use Rattle.client.proofs.Leading.{Quiet, Storing, Beginning, Finishing, Leads, leads}
 
 -- ---- a packet that is stored fits its sector
@@ -58,7 +55,7 @@ module _ (n sector m : ℕ) (e : valuesGood n sector m ≡ true) where
   values-words : m % 4 ≡ 0
   values-words = eqb-true (m % 4) 0 (and-right (leb m sectorSize) (eqb (m % 4) 0) short-words)
 
-pub fits-stored : (c : Client) (target datagram : List ℕ) (sector m : ℕ) → Storing c (length target) datagram sector m → FitsAt target sector (writtenOf datagram m)
+pub fits-stored : (c : Client) (target datagram : List ℕ) (sector m : ℕ) → Storing c (length target) datagram sector m → FitsAt target sector (bytesIn datagram m)
 fits-stored c target datagram sector m s =
     let low = values-low (c .n) sector m (s .values) in
     let high = values-high (c .n) sector m (s .values) in
@@ -72,22 +69,6 @@ fits-stored c target datagram sector m s =
       words = ap (λ (x : ℕ). x % 4) sent ∙ words;
     }
 
--- ---- how long an answer is
-
-pub answer-short : (answer : Answer) → length (answerBytes answer) ≤ 14
-answer-short (Refused why) = omega (arith, say-refused [] why .told)
-answer-short FrameError = omega (arith, say-error [] (frontOf [] frameError) refl .told)
-answer-short (Response code result) = omega (arith, say-response [] (putControl [] code (result ∷ [])) code result refl .told)
-answer-short (BankIs bank) = omega (arith, say-bank [] (putControl [] 0x72 (0x06 ∷ bankNumber bank ∷ [])) bank (bankNumber bank) refl refl .told)
-answer-short (VersionIs major minor revision) =
-    omega (arith, say-version [] (putControl [] 0x78 (versionBytes major minor revision)) major minor revision (versionBytes major minor revision) refl refl .told)
-answer-short (Written sector result write crc) =
-    omega (arith, say-written [] (putWrite [] sector (writtenBytes result write crc) End) sector result write crc (writtenBytes result write crc) refl refl .told)
-
-pub written-long : (sector result write crc : ℕ) → length (answerBytes (Written sector result write crc)) ≡ 13
-written-long sector result write crc =
-    sym (say-written [] (putWrite [] sector (writtenBytes result write crc) End) sector result write crc (writtenBytes result write crc) refl refl .told)
-
 -- ---- one target
 
 pub accepted : (blank already : Bool) → Accepted (storeResult blank already)
@@ -99,8 +80,8 @@ pub data Course (c : Client) (target datagram : List ℕ) (r : Carried) : Type 0
   begins : r .answer ≡ Response 0x70 0x06 → r .target ≡ target → r .client .received ≡ noneReceived → Beginning c (length target)
       → Course c target datagram r
   stores : (sector m write : ℕ) → Storing c (length target) datagram sector m → Accepted write
-      → r .answer ≡ Written sector 0x06 write (crcOf (paddedOf (writtenOf datagram m)))
-      → r .target ≡ writtenAt target sector (writtenOf datagram m) → r .client ≡ marked c sector
+      → r .answer ≡ Written sector 0x06 write (crcOf (paddedOf (bytesIn datagram m)))
+      → r .target ≡ writtenAt target sector (bytesIn datagram m) → r .client ≡ marked c sector
       → Course c target datagram r
   ends : (result : ℕ) → (result ≡ 0x06) ⊎ (result ≡ 0x1E) → r .answer ≡ Response 0x75 result → r .target ≡ sweptOf target (c .n) (c .received)
       → r .client .state ≡ state.Control → Finishing c (length target)
@@ -118,8 +99,8 @@ not-write s e w = false≢true (sym e ∙ ap inWrite w)
 
 module _ (c : Client) (target address buffer datagram : List ℕ) where
   stored-crc : (sector m : ℕ) → Storing c (length target) datagram sector m
-      → sectorCrc (writtenAt target sector (writtenOf datagram m)) sector ≡ crcOf (paddedOf (writtenOf datagram m))
-  stored-crc sector m s = ap crcOf (written-here target sector (writtenOf datagram m) (fits-stored c target datagram sector m s))
+      → sectorCrc (writtenAt target sector (bytesIn datagram m)) sector ≡ crcOf (paddedOf (bytesIn datagram m))
+  stored-crc sector m s = ap crcOf (written-here target sector (bytesIn datagram m) (fits-stored c target datagram sector m s))
 
   course : (plan : Plan) → Leads c (length target) datagram plan → Course c target datagram (carriedOf c plan target address buffer datagram)
   unfolding carriedOf servedOf storeOf checkedOf
@@ -128,9 +109,9 @@ module _ (c : Client) (target address buffer datagram : List ℕ) where
   course Close l = still (refl, refl) refl (λ e. absurd (not-write state.Idle refl e))
   course Begin l = begins refl refl refl l
   course (Store sector m) l =
-      stores sector m (storeResult (blankOf (writtenOf datagram m)) (alreadyAt target sector (writtenOf datagram m))) l
-      (accepted (blankOf (writtenOf datagram m)) (alreadyAt target sector (writtenOf datagram m)))
-      (ap (Written sector 0x06 (storeResult (blankOf (writtenOf datagram m)) (alreadyAt target sector (writtenOf datagram m)))) (stored-crc sector m l))
+      stores sector m (storeResult (blankOf (bytesIn datagram m)) (alreadyAt target sector (bytesIn datagram m))) l
+      (accepted (blankOf (bytesIn datagram m)) (alreadyAt target sector (bytesIn datagram m)))
+      (ap (Written sector 0x06 (storeResult (blankOf (bytesIn datagram m)) (alreadyAt target sector (bytesIn datagram m)))) (stored-crc sector m l))
       refl refl
   course Wear l = still (refl, refl) refl (λ e. absurd (not-write state.Control refl e))
   course Finish l =
@@ -144,7 +125,7 @@ module _ (c : Client) (target address buffer datagram : List ℕ) where
   carried-length Open = refl
   carried-length Close = refl
   carried-length Begin = refl
-  carried-length (Store sector m) = length-written target sector (writtenOf datagram m)
+  carried-length (Store sector m) = length-written target sector (bytesIn datagram m)
   carried-length Wear = refl
   carried-length Finish =
       split (λ (d : Done). length (d .target) ≡ length target) (fitOf (sweptOf target (c .n) (c .received)))
@@ -194,7 +175,7 @@ module _ (c : Client) (one two address buffer datagram : List ℕ) (l : length o
   alike Close h = record { client = refl; notice = refl; answer = same refl }
   alike Begin h = record { client = refl; notice = refl; answer = same refl }
   alike (Store sector m) h =
-      let bytes : List ℕ = writtenOf datagram m in
+      let bytes : List ℕ = bytesIn datagram m in
       let g : Storing c (length two) datagram sector m = rw l at h in
       let v : ℕ = storeResult (blankOf bytes) (alreadyAt one sector bytes) in
       let w : ℕ = storeResult (blankOf bytes) (alreadyAt two sector bytes) in

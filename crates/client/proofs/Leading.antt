@@ -10,24 +10,24 @@ use lib.ListN.{length, getD, drop, length-drop}
 use lib.Seq.{length-take-le}
 use borrow.Author.Tests.{not-false}
 use Rattle.buffer.proofs.Bools.{split}
-use Rattle.frame.specs.Read.{readOf, writtenOf}
+use Rattle.frame.specs.Read.{readOf, bytesIn}
 use Rattle.frame.specs.declared.read.Footer.{Footer}
 use Rattle.frame.specs.declared.read.Read.{Read}
 use Rattle.frame.specs.declared.read.Read.the-variants as read
 use Rattle.frame.proofs.Told.{Told, told}
 use Rattle.bank.specs.Layout.{sectorSize, goodN}
-use Rattle.client.specs.declared.answer.Answer.{Answer}
-use Rattle.client.specs.declared.answer.Answer.the-variants.{Refused, FrameError, Response, BankIs, VersionIs, Written}
-use Rattle.client.specs.declared.command.Asked.{Asked}
-use Rattle.client.specs.declared.command.Asked.the-variants.{Fault, NoRequest, WrongLength, Right}
-use Rattle.client.specs.declared.command.Command.{Command}
-use Rattle.client.specs.declared.command.Command.the-variants.{ModeStart, BankInfo, VersionInfo, WriteStart, WriteEnd, ModeEnd, Packet}
+use Rattle.exchange.specs.declared.answer.Answer.{Answer}
+use Rattle.exchange.specs.declared.answer.Answer.the-variants.{Refused, FrameError, Response, BankIs, VersionIs, Written}
+use Rattle.exchange.specs.declared.command.Asked.{Asked}
+use Rattle.exchange.specs.declared.command.Asked.the-variants.{Fault, NoRequest, WrongLength, Right}
+use Rattle.exchange.specs.declared.command.Command.{Command}
+use Rattle.exchange.specs.declared.command.Command.the-variants.{ModeStart, BankInfo, VersionInfo, WriteStart, WriteEnd, ModeEnd, Packet}
 use Rattle.client.specs.declared.plan.Plan.{Plan}
 use Rattle.client.specs.declared.plan.Plan.the-variants.{Keep, Open, Close, Begin, Store, Wear, Finish}
 use Rattle.client.specs.declared.record.Client.{Client}
-use Rattle.client.specs.declared.record.State.{State}
-use Rattle.client.specs.declared.record.State.the-variants as state
-use Rattle.client.specs.Command.{byCode, askedBy, askedOf, fitsState, declinedOf}
+use Rattle.exchange.specs.declared.state.State.{State}
+use Rattle.exchange.specs.declared.state.State.the-variants as state
+use Rattle.exchange.specs.Command.{byCode, askedBy, askedOf, fitsState, declinedOf}
 use Rattle.client.specs.Host.{isClosed}
 use Rattle.client.specs.Plan.{lentGood, isWorn, anyWorn, valuesGood, addressesGood, planStart, planEnd, planPacket, planGood, planCommand, planAsked, planOf}
 use Rattle.client.specs.Step.{targetOf, planned}
@@ -49,7 +49,7 @@ Quiet (Written sector result write crc) = (eqb result 0x06 && (eqb write 0x06 ||
 pub record Storing (c : Client) (target : ℕ) (datagram : List ℕ) (sector m : ℕ) : Type 0 where
   pub footer : Footer
   pub reads : readOf datagram ≡ read.Write sector m footer
-  pub sent : length (writtenOf datagram m) ≡ m
+  pub sent : length (bytesIn datagram m) ≡ m
   pub writing : c .state ≡ state.Write
   pub good : goodN (c .n) ≡ true
   pub whole : target ≡ c .n * sectorSize
@@ -78,7 +78,7 @@ Leads c target datagram Finish = Finishing c target
 record Packed (datagram : List ℕ) (sector m : ℕ) : Type 0 where
   footer : Footer
   reads : readOf datagram ≡ read.Write sector m footer
-  sent : length (writtenOf datagram m) ≡ m
+  sent : length (bytesIn datagram m) ≡ m
 
 abbrev Bears : List ℕ → Command → Type 0
 Bears d ModeStart = Unit {0}
@@ -106,7 +106,7 @@ asks-code d code n =
     (λ _. split (Asks d) (eqb code 0x64) (λ _. split (Asks d) (eqb n 0) (λ _. tt) (λ _. tt)) (λ _. tt))))))
 
 -- the written bytes lie within the datagram
-sent-whole : (d : List ℕ) (m : ℕ) → length d ≡ m + 7 → length (writtenOf d m) ≡ m
+sent-whole : (d : List ℕ) (m : ℕ) → length d ≡ m + 7 → length (bytesIn d m) ≡ m
 sent-whole d m e = length-take-le m (drop 5 d) (omega (arith, length-drop 5 d))
 
 asks : (d : List ℕ) → Asks d (askedOf d)

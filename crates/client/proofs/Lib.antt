@@ -1,9 +1,7 @@
 pub mod Bodies
-pub mod Commands
 pub mod Courses
 pub mod Hosting
 pub mod Leading
 pub mod Performing
 pub mod Planning
-pub mod Saying
 pub mod Stepping

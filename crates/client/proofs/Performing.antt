@@ -8,20 +8,20 @@ use lib.ListN.{take, drop}
 use Rattle.buffer.specs.Compare.{blankOf}
 use Rattle.buffer.proofs.Parts.{part-out}
 use Rattle.crc.specs.Crc.{crcOf}
-use Rattle.flash.specs.Bank.{startOf, sweptOf, WriteAt·Is}
+use Rattle.flash.specs.Bank.{sectorStart, WriteAt·Is}
 use Rattle.flash.specs.Sector.{sectorBytes}
 use Rattle.flash.proofs.Sectors.{lent-out}
 use Rattle.bank.specs.declared.layout.Bank.{Bank}
 use Rattle.bank.specs.Layout.{otherOf}
-use Rattle.client.specs.declared.answer.Answer.the-variants.{Response, Written}
+use Rattle.exchange.specs.declared.answer.Answer.the-variants.{Response, Written}
 use Rattle.client.specs.declared.perform.Served.{Served}
 use Rattle.client.specs.declared.record.Client.{Client}
 use Rattle.client.specs.declared.record.Latest.the-variants.{Good, Otherwise}
 use Rattle.client.specs.Record.{marked, ended}
-use Rattle.client.specs.Perform.{fitOf, storeResult, sectorCrc, storeOf, checkedOf, finishOf, served, Served·Is}
+use Rattle.client.specs.Perform.{fitOf, storeResult, sectorCrc, done, storeOf, checkedOf, served, Served·Is}
 
 -- the part that is handed on is the sector
-pub crc-part : (bank : List ℕ) (k start r : ℕ) → start ≡ startOf k → r ≡ crcOf (take ((start + sectorBytes) - start) (drop start bank)) → r ≡ sectorCrc bank k
+pub crc-part : (bank : List ℕ) (k start r : ℕ) → start ≡ sectorStart k → r ≡ crcOf (take ((start + sectorBytes) - start) (drop start bank)) → r ≡ sectorCrc bank k
 crc-part bank k start r e c = c ∙ ap crcOf (lent-out bank k start e)
 
 -- the part that is handed on is the bytes sent
@@ -43,12 +43,17 @@ module _ (c : Client) (target after : List ℕ) where
         target = a .written;
       }
 
-  module _ (sweep : after ≡ sweptOf target (c .n) (c .received)) (r : Bool) (is : r ≡ fitOf after) (m : Client) where
-    pub finish-good : r ≡ true → (next : Bank) → next ≡ otherOf (c .running) → m ≡ ended c Good next
-        → Served·Is (finishOf c target) (served m (Response 0x75 0x06)) after
-    unfolding checkedOf
-    finish-good e next x k = rw (← sweep, ← is, e) (record { client = k ∙ ap (ended c Good) x; answer = refl; target = refl })
+-- a response with nothing behind its result, which leaves the target as it is
+pub responded : (c m : Client) (code result : ℕ) (target : List ℕ) (r : Served) → m ≡ c → r ≡ served m (Response code result)
+    → Served·Is (done c (Response code result) target) r target
+responded c m code result target r k e = rw e (record { client = k; answer = refl; target = refl })
 
-    pub finish-bad : r ≡ false → m ≡ ended c Otherwise (c .next) → Served·Is (finishOf c target) (served m (Response 0x75 0x1E)) after
-    unfolding checkedOf
-    finish-bad e k = rw (← sweep, ← is, e) (record { client = k; answer = refl; target = refl })
+module _ (c : Client) (target : List ℕ) (good : Bool) (is : good ≡ fitOf target) (m : Client) (r : Served) where
+  pub checked-good : good ≡ true → (next : Bank) → next ≡ otherOf (c .running) → m ≡ ended c Good next → r ≡ served m (Response 0x75 0x06)
+      → Served·Is (checkedOf c target) r target
+  unfolding checkedOf
+  checked-good e next x k q = rw (← is, e) (responded _ m 0x75 0x06 target r (k ∙ ap (ended c Good) x) q)
+
+  pub checked-bad : good ≡ false → m ≡ ended c Otherwise (c .next) → r ≡ served m (Response 0x75 0x1E) → Served·Is (checkedOf c target) r target
+  unfolding checkedOf
+  checked-bad e k q = rw (← is, e) (responded _ m 0x75 0x1E target r k q)

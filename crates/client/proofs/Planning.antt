@@ -13,17 +13,17 @@ use Rattle.buffer.specs.Number.{numberAt}
 use Rattle.buffer.proofs.Bools.{and-left, and-right}
 use Rattle.bank.specs.declared.layout.Bank.{Bank}
 use Rattle.bank.specs.Layout.{sectorSize, goodN, otherOf, startOf, endOf}
-use Rattle.client.specs.declared.answer.Answer.{Answer}
-use Rattle.client.specs.declared.answer.Answer.the-variants.{Refused, Written}
-use Rattle.client.specs.declared.answer.Refusal.the-variants.{BadN, BadLength, Closed}
-use Rattle.client.specs.declared.command.Asked.{Asked}
-use Rattle.client.specs.declared.command.Command.{Command}
-use Rattle.client.specs.declared.command.Command.the-variants.{WriteStart, Packet}
+use Rattle.exchange.specs.declared.answer.Answer.{Answer}
+use Rattle.exchange.specs.declared.answer.Answer.the-variants.{Refused, Written}
+use Rattle.exchange.specs.declared.answer.Refusal.the-variants.{BadN, BadLength, Closed}
+use Rattle.exchange.specs.declared.command.Asked.{Asked}
+use Rattle.exchange.specs.declared.command.Command.{Command}
+use Rattle.exchange.specs.declared.command.Command.the-variants.{WriteStart, Packet}
 use Rattle.client.specs.declared.plan.Plan.{Plan}
 use Rattle.client.specs.declared.plan.Plan.the-variants.{Keep, Begin, Store, Wear, Finish}
 use Rattle.client.specs.declared.record.Client.{Client}
 use Rattle.client.specs.Host.{isClosed}
-use Rattle.client.specs.Command.{askedOf, fitsState, declinedOf}
+use Rattle.exchange.specs.Command.{askedOf, fitsState, declinedOf}
 use Rattle.client.specs.Plan.{lentGood, anyWorn, valuesGood, addressesGood, planStart, planEnd, planPacket, planGood, planCommand, planAsked, planOf}
 
 -- ---- the lent lengths

@@ -18,19 +18,19 @@ use Rattle.bank.specs.declared.layout.Bank.{Bank}
 use Rattle.bank.specs.declared.layout.Bank.the-variants.{Zero, One}
 use Rattle.bank.specs.Layout.{sectorSize, goodN}
 use Rattle.bank.proofs.Layouts.{good-high}
-use Rattle.client.specs.declared.answer.Answer.{Answer}
-use Rattle.client.specs.declared.answer.Notice.{Notice}
-use Rattle.client.specs.declared.command.Asked.{Asked}
-use Rattle.client.specs.declared.command.Asked.the-variants.{Fault, NoRequest, WrongLength, Right}
-use Rattle.client.specs.declared.command.Command.{Command}
-use Rattle.client.specs.declared.command.Command.the-variants.{ModeStart, BankInfo, VersionInfo, WriteStart, WriteEnd, ModeEnd, Packet}
+use Rattle.exchange.specs.declared.answer.Answer.{Answer}
+use Rattle.client.specs.declared.notice.Notice.{Notice}
+use Rattle.exchange.specs.declared.command.Asked.{Asked}
+use Rattle.exchange.specs.declared.command.Asked.the-variants.{Fault, NoRequest, WrongLength, Right}
+use Rattle.exchange.specs.declared.command.Command.{Command}
+use Rattle.exchange.specs.declared.command.Command.the-variants.{ModeStart, BankInfo, VersionInfo, WriteStart, WriteEnd, ModeEnd, Packet}
 use Rattle.client.specs.declared.perform.Served.{Served}
 use Rattle.client.specs.declared.plan.Plan.{Plan}
 use Rattle.client.specs.declared.plan.Plan.the-variants.{Keep, Open, Close, Begin, Store, Wear, Finish}
 use Rattle.client.specs.declared.record.Client.{Client}
 use Rattle.client.specs.declared.step.Stepped.{Stepped}
-use Rattle.client.specs.Answer.{answerBytes, Say}
-use Rattle.client.specs.Command.{byCode, askedBy, askedOf, fitsState}
+use Rattle.exchange.specs.Answer.{answerBytes, Say·Is}
+use Rattle.exchange.specs.Command.{byCode, askedBy, askedOf, fitsState}
 use Rattle.client.specs.Host.{isClosed}
 use Rattle.client.specs.Plan.{lentGood, isWorn, anyWorn, valuesGood, addressesGood, planStart, planEnd, planPacket, planGood, planCommand, planAsked, planOf}
 use Rattle.client.specs.Perform.{servedOf, Served·Is, Fair}
@@ -201,7 +201,7 @@ module _ (c : Client) (bank0 bank1 marks address buffer datagram : List ℕ) whe
 -- do, and then say
 pub carry-is :
     (c : Client) (plan : Plan) (target address buffer datagram : List ℕ) (notice : Notice) (s : Served) (after answered : List ℕ) (n : ℕ)
-    → notice ≡ noticeOf plan (c .latest) address → Served·Is (servedOf c plan target datagram) s after → Say (s .answer) buffer answered n
+    → notice ≡ noticeOf plan (c .latest) address → Served·Is (servedOf c plan target datagram) s after → Say·Is (s .answer) buffer answered n
     → Carried·Is (carriedOf c plan target address buffer datagram) (record { client = s .client; answer = s .answer; length = n; notice = notice }) after answered
 unfolding carriedOf
 carry-is c plan target address buffer datagram notice s after answered n e d a =

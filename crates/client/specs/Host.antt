@@ -9,8 +9,8 @@ use Rattle.client.specs.declared.host.Hosted.{Hosted}
 use Rattle.client.specs.declared.host.Told.{Told}
 use Rattle.client.specs.declared.host.Told.the-variants.{Done, BadN, InVain}
 use Rattle.client.specs.declared.record.Client.{Client}
-use Rattle.client.specs.declared.record.State.{State}
-use Rattle.client.specs.declared.record.State.the-variants.{Closed, Idle, Control, Write}
+use Rattle.exchange.specs.declared.state.State.{State}
+use Rattle.exchange.specs.declared.state.State.the-variants.{Closed, Idle, Control, Write}
 use Rattle.client.specs.Record.{newClient, initiated, terminated}
 
 -- the paper's numbers; a command that is done has none

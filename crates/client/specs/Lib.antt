@@ -1,6 +1,4 @@
-pub mod Answer
 pub mod Body
-pub mod Command
 pub mod Host
 pub mod Notice
 pub mod Perform

@@ -3,9 +3,9 @@
 use mathlib.Core.List.{List, [], _∷_}
 use Prim.Native.Nat.{ℕ}
 use lib.ListN.{replicate}
-use Rattle.client.specs.declared.answer.Kind.{Kind}
-use Rattle.client.specs.declared.answer.Kind.the-variants.{Nothing, Started, Ended}
-use Rattle.client.specs.declared.answer.Notice.{Notice}
+use Rattle.client.specs.declared.notice.Kind.{Kind}
+use Rattle.client.specs.declared.notice.Kind.the-variants.{Nothing, Started, Ended}
+use Rattle.client.specs.declared.notice.Notice.{Notice}
 use Rattle.client.specs.declared.record.Latest.{Latest}
 use Rattle.client.specs.declared.record.Latest.the-variants as latest
 

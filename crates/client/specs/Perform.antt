@@ -7,20 +7,20 @@ use mathlib.Core.List.{List}
 use Prim.Native.Nat.{ℕ, _+_, _*_, _≤_}
 use Rattle.buffer.specs.Compare.{blankOf}
 use Rattle.crc.specs.Crc.{crcOf}
-use Rattle.frame.specs.Read.{writtenOf}
+use Rattle.frame.specs.Read.{bytesIn}
 use Rattle.flash.specs.Bank.{sectorOf, writtenAt, alreadyAt, sweptOf}
 use Rattle.bank.specs.declared.check.Verdict.{Verdict}
 use Rattle.bank.specs.declared.check.Verdict.the-variants as verdict
 use Rattle.bank.specs.Layout.{sectorSize, mostSectors, otherOf}
 use Rattle.bank.specs.Sound.{verdictOf}
-use Rattle.client.specs.declared.answer.Answer.{Answer}
-use Rattle.client.specs.declared.answer.Answer.the-variants.{Response, Written}
+use Rattle.exchange.specs.declared.answer.Answer.{Answer}
+use Rattle.exchange.specs.declared.answer.Answer.the-variants.{Response, Written}
 use Rattle.client.specs.declared.perform.Served.{Served}
 use Rattle.client.specs.declared.plan.Plan.{Plan}
 use Rattle.client.specs.declared.plan.Plan.the-variants.{Keep, Open, Close, Begin, Store, Wear, Finish}
 use Rattle.client.specs.declared.record.Client.{Client}
 use Rattle.client.specs.declared.record.Latest.the-variants.{Good, Otherwise}
-use Rattle.client.specs.Record.{opened, closed, begun, marked, ended}
+use Rattle.client.specs.Record.{opened, modeEnded, begun, marked, ended}
 
 -- a sound bank may start next, an unsound one may not ("unsound gives 1E")
 abbrev pub fitBy : Verdict → Bool
@@ -73,9 +73,9 @@ finishOf c target = checkedOf c (sweptOf target (c .n) (c .received))
 unfoldable pub servedOf : Client → Plan → List ℕ → List ℕ → Done
 servedOf c (Keep answer) target datagram = done c answer target
 servedOf c Open target datagram = done (opened c) (Response 0x71 0x06) target
-servedOf c Close target datagram = done (closed c) (Response 0x74 0x06) target
+servedOf c Close target datagram = done (modeEnded c) (Response 0x74 0x06) target
 servedOf c Begin target datagram = done (begun c) (Response 0x70 0x06) target
-servedOf c (Store sector length) target datagram = storeOf c sector (writtenOf datagram length) target
+servedOf c (Store sector length) target datagram = storeOf c sector (bytesIn datagram length) target
 servedOf c Wear target datagram = done (ended c Otherwise (c .next)) (Response 0x75 0x1C) target
 servedOf c Finish target datagram = finishOf c target
 

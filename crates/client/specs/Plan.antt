@@ -8,18 +8,18 @@ use lib.Dec.{eqb, leb}
 use lib.ListN.{length, getD}
 use Rattle.buffer.specs.Number.{numberAt}
 use Rattle.bank.specs.Layout.{sectorSize, goodN, otherOf, startOf, endOf}
-use Rattle.client.specs.declared.answer.Answer.{Answer}
-use Rattle.client.specs.declared.answer.Answer.the-variants.{Refused, FrameError, Response, BankIs, VersionIs, Written}
-use Rattle.client.specs.declared.answer.Refusal.the-variants.{BadN, BadLength, Closed}
-use Rattle.client.specs.declared.command.Asked.{Asked}
-use Rattle.client.specs.declared.command.Asked.the-variants.{Fault, NoRequest, WrongLength, Right}
-use Rattle.client.specs.declared.command.Command.{Command}
-use Rattle.client.specs.declared.command.Command.the-variants.{ModeStart, BankInfo, VersionInfo, WriteStart, WriteEnd, ModeEnd, Packet}
+use Rattle.exchange.specs.declared.answer.Answer.{Answer}
+use Rattle.exchange.specs.declared.answer.Answer.the-variants.{Refused, FrameError, Response, BankIs, VersionIs, Written}
+use Rattle.exchange.specs.declared.answer.Refusal.the-variants.{BadN, BadLength, Closed}
+use Rattle.exchange.specs.declared.command.Asked.{Asked}
+use Rattle.exchange.specs.declared.command.Asked.the-variants.{Fault, NoRequest, WrongLength, Right}
+use Rattle.exchange.specs.declared.command.Command.{Command}
+use Rattle.exchange.specs.declared.command.Command.the-variants.{ModeStart, BankInfo, VersionInfo, WriteStart, WriteEnd, ModeEnd, Packet}
 use Rattle.client.specs.declared.plan.Plan.{Plan}
 use Rattle.client.specs.declared.plan.Plan.the-variants.{Keep, Open, Close, Begin, Store, Wear, Finish}
 use Rattle.client.specs.declared.record.Client.{Client}
 use Rattle.client.specs.Host.{isClosed}
-use Rattle.client.specs.Command.{askedOf, fitsState, declinedOf}
+use Rattle.exchange.specs.Command.{askedOf, fitsState, declinedOf}
 
 -- number 2: both banks 512·N bytes, N marks, a 16-byte address, an answer buffer of at least 14
 unfoldable pub lentGood : ℕ → ℕ → ℕ → ℕ → ℕ → ℕ → Bool

@@ -10,7 +10,8 @@ use Rattle.bank.specs.Layout.{mostSectors}
 use Rattle.client.specs.declared.record.Client.{Client}
 use Rattle.client.specs.declared.record.Latest.{Latest}
 use Rattle.client.specs.declared.record.Latest.the-variants.{Nothing}
-use Rattle.client.specs.declared.record.State.the-variants.{Closed, Idle, Control, Write}
+use Rattle.exchange.specs.declared.state.State.{State}
+use Rattle.exchange.specs.declared.state.State.the-variants.{Closed, Idle, Control, Write}
 
 -- what no command changes: N "fixed when a client is made", the bank that runs, the version
 pub record Stays (before after : Client) : Type 0 where
@@ -54,21 +55,6 @@ initiated c =
       received = c .received;
     }
 
--- host: to closed; "the session is lost"
-abbrev pub terminated : Client → Client
-terminated c =
-    record {
-      n = c .n;
-      running = c .running;
-      next = c .next;
-      state = Closed;
-      latest = Nothing;
-      major = c .major;
-      minor = c .minor;
-      revision = c .revision;
-      received = noneReceived;
-    }
-
 -- 61: "to control"; the count of write sessions starts anew
 abbrev pub opened : Client → Client
 opened c =
@@ -84,20 +70,28 @@ opened c =
       received = c .received;
     }
 
--- 64: "to idle"
-abbrev pub closed : Client → Client
-closed c =
+-- OTA mode is left for a state, and "the session is lost"
+abbrev pub left : Client → State → Client
+left c state =
     record {
       n = c .n;
       running = c .running;
       next = c .next;
-      state = Idle;
+      state = state;
       latest = Nothing;
       major = c .major;
       minor = c .minor;
       revision = c .revision;
       received = noneReceived;
     }
+
+-- 64: "to idle"
+abbrev pub modeEnded : Client → Client
+modeEnded c = left c Idle
+
+-- host: to closed
+abbrev pub terminated : Client → Client
+terminated c = left c Closed
 
 -- 40: to write state, "no sector received yet", and the running bank starts next
 abbrev pub begun : Client → Client

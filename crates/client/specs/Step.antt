@@ -7,15 +7,15 @@ use lib.ListN.{length}
 use Rattle.buffer.specs.Place.{frontOf}
 use Rattle.bank.specs.declared.layout.Bank.{Bank}
 use Rattle.bank.specs.declared.layout.Bank.the-variants.{Zero, One}
-use Rattle.client.specs.declared.answer.Answer.{Answer}
-use Rattle.client.specs.declared.answer.Kind.the-variants.{Started, Ended}
-use Rattle.client.specs.declared.answer.Notice.{Notice}
+use Rattle.exchange.specs.declared.answer.Answer.{Answer}
+use Rattle.client.specs.declared.notice.Kind.the-variants.{Started, Ended}
+use Rattle.client.specs.declared.notice.Notice.{Notice}
 use Rattle.client.specs.declared.plan.Plan.{Plan}
 use Rattle.client.specs.declared.plan.Plan.the-variants.{Keep, Open, Close, Begin, Store, Wear, Finish}
 use Rattle.client.specs.declared.record.Client.{Client}
 use Rattle.client.specs.declared.record.Latest.{Latest}
 use Rattle.client.specs.declared.step.Stepped.{Stepped}
-use Rattle.client.specs.Answer.{answerBytes}
+use Rattle.exchange.specs.Answer.{answerBytes}
 use Rattle.client.specs.Notice.{noNotice, noticeWith, latestNumber}
 use Rattle.client.specs.Plan.{planOf}
 use Rattle.client.specs.Perform.{Done, servedOf}

@@ -21,9 +21,8 @@ impl Client {
     pub fn body<'a>(self, bank0: &'a [u8], bank1: &'a [u8], i: usize) -> &'a [u8]
         ensures { λ r. ⌜ Body·Is self (now (bank0 .entry)) (now (bank1 .entry)) i (now r) ⌝ }
     {
-        let n = self.n;
         let next = self.next;
-        if banks_good(n, bank0.len(), bank1.len()) {
+        if banks_good(self.n, bank0.len(), bank1.len()) {
             match next {
                 Bank::Zero => bank::body::body(bank0, i),
                 Bank::One => bank::body::body(bank1, i),

@@ -1,10 +1,10 @@
 // What the host asks: a new client, initiate, terminate.
 use crate::record::Client;
 use crate::record::Latest;
-use crate::record::State;
 use bank::layout::Bank;
+use exchange::state::State;
 ghost use mathlib.Core.Path.{_≡_};
-ghost use Rattle.client.specs.Host.{isClosed, New·Is, Initiate·Is, Terminate·Is};
+ghost use Rattle.client.specs.Host.{isClosed, hosted, New·Is, Initiate·Is, Terminate·Is};
 
 // What the host is told.
 pub enum Told {
@@ -31,6 +31,12 @@ pub(crate) fn is_closed(state: State) -> bool
 }
 
 impl Client {
+    fn hosted(self, told: Told) -> Hosted
+        ensures { λ r. ⌜ r ≡ hosted self told ⌝ }
+    {
+        Hosted { client: self, told }
+    }
+
     // One with a bad N is handed back all the same.
     pub fn new(n: usize, running: Bank, major: u8, minor: u8, revision: u32) -> Hosted
         ensures { λ r. ⌜ New·Is n running major minor revision r ⌝ }
@@ -48,62 +54,34 @@ impl Client {
             received,
         };
         if bank::layout::good_n(n) {
-            return Hosted {
-                client,
-                told: Told::Done,
-            };
+            return client.hosted(Told::Done);
         }
-        Hosted {
-            client,
-            told: Told::BadN,
-        }
+        client.hosted(Told::BadN)
     }
 
     pub fn initiate(self) -> Hosted
         ensures { λ r. ⌜ Initiate·Is self r ⌝ }
     {
-        let n = self.n;
         let state = self.state;
-        if !bank::layout::good_n(n) {
-            return Hosted {
-                client: self,
-                told: Told::BadN,
-            };
+        if !bank::layout::good_n(self.n) {
+            return self.hosted(Told::BadN);
         }
         if !is_closed(state) {
-            return Hosted {
-                client: self,
-                told: Told::InVain,
-            };
+            return self.hosted(Told::InVain);
         }
-        let client = self.initiated();
-        Hosted {
-            client,
-            told: Told::Done,
-        }
+        self.initiated().hosted(Told::Done)
     }
 
     pub fn terminate(self) -> Hosted
         ensures { λ r. ⌜ Terminate·Is self r ⌝ }
     {
-        let n = self.n;
         let state = self.state;
-        if !bank::layout::good_n(n) {
-            return Hosted {
-                client: self,
-                told: Told::BadN,
-            };
+        if !bank::layout::good_n(self.n) {
+            return self.hosted(Told::BadN);
         }
         if is_closed(state) {
-            return Hosted {
-                client: self,
-                told: Told::InVain,
-            };
+            return self.hosted(Told::InVain);
         }
-        let client = self.terminated();
-        Hosted {
-            client,
-            told: Told::Done,
-        }
+        self.left(State::Closed).hosted(Told::Done)
     }
 }

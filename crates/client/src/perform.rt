@@ -1,14 +1,16 @@
 // Do: a plan carried out on the target bank. The running bank is never seen here.
-use crate::answer::Answer;
 use crate::plan::Plan;
 use crate::record::Client;
 use crate::record::Latest;
 use bank::check::Verdict;
+use exchange::answer::Answer;
+use exchange::state::State;
 ghost use mathlib.Core.Path.{_≡_};
 ghost use Prim.Native.Nat.{_*_, _≤_};
 ghost use lib.ListN.{length};
 ghost use Rattle.bank.specs.Layout.{sectorSize, mostSectors};
-ghost use Rattle.client.specs.Perform.{fitOf, storeResult, sectorCrc, storeOf, finishOf, servedOf, Served·Is, Fair};
+ghost use Rattle.client.specs.Perform.{fitOf, storeResult, sectorCrc, storeOf, checkedOf, finishOf, servedOf, served, Served·Is, Fair};
+ghost use Rattle.exchange.specs.declared.answer.Answer.the-variants.{Response};
 
 pub(crate) struct Served {
     pub client: Client,
@@ -50,6 +52,16 @@ fn sector_crc(bank: &[u8], k: usize) -> u32
 }
 
 impl Client {
+    // A response with nothing behind its result.
+    fn responds(self, code: u8, result: u8) -> Served
+        ensures { λ r. ⌜ r ≡ served self (Response code result) ⌝ }
+    {
+        Served {
+            client: self,
+            answer: Answer::Response { code, result },
+        }
+    }
+
     // A write packet: the bytes to their sector, which counts as received.
     fn store(self, target: &mut [u8], sector: u16, bytes: &[u8]) -> Served
         requires { ⌜ (1 ≤ sector) × (sector ≤ mostSectors) ⌝ }
@@ -73,33 +85,26 @@ impl Client {
         }
     }
 
-    // End OTA Write: the sweep, and then the bank check. The next-start bank is set last.
+    // The bank check, of what the sweep left. The next-start bank is set last.
+    fn checked(self, target: &[u8]) -> Served
+        ensures { λ r. ⌜ Served·Is (checkedOf self (now (target .entry))) r (now (target .entry)) ⌝ }
+    {
+        let running = self.running;
+        let next = self.next;
+        if fit(target) {
+            return self.ended(Latest::Good, bank::layout::other(running))
+                .responds(0x75, 0x06);
+        }
+        self.ended(Latest::Otherwise, next).responds(0x75, 0x1E)
+    }
+
+    // End OTA Write.
     fn finish(self, target: &mut [u8]) -> Served
         ensures { λ r. ⌜ Served·Is (finishOf self (now (target .entry))) r (now (target .exit)) ⌝ }
     {
-        let n = self.n;
-        let running = self.running;
-        let next = self.next;
         let received = self.received;
-        flash::bank::sweep(target, n, &received);
-        if fit(target) {
-            let client = self.ended(Latest::Good, bank::layout::other(running));
-            return Served {
-                client,
-                answer: Answer::Response {
-                    code: 0x75,
-                    result: 0x06,
-                },
-            };
-        }
-        let client = self.ended(Latest::Otherwise, next);
-        Served {
-            client,
-            answer: Answer::Response {
-                code: 0x75,
-                result: 0x1E,
-            },
-        }
+        flash::bank::sweep(target, self.n, &received);
+        self.checked(target)
     }
 
     pub(crate) fn serve(self, plan: Plan, target: &mut [u8], datagram: &[u8]) -> Served
@@ -112,47 +117,11 @@ impl Client {
                 client: self,
                 answer,
             },
-            Plan::Open => {
-                let client = self.opened();
-                Served {
-                    client,
-                    answer: Answer::Response {
-                        code: 0x71,
-                        result: 0x06,
-                    },
-                }
-            }
-            Plan::Close => {
-                let client = self.closed();
-                Served {
-                    client,
-                    answer: Answer::Response {
-                        code: 0x74,
-                        result: 0x06,
-                    },
-                }
-            }
-            Plan::Begin => {
-                let client = self.begun();
-                Served {
-                    client,
-                    answer: Answer::Response {
-                        code: 0x70,
-                        result: 0x06,
-                    },
-                }
-            }
+            Plan::Open => self.opened().responds(0x71, 0x06),
+            Plan::Close => self.left(State::Idle).responds(0x74, 0x06),
+            Plan::Begin => self.begun().responds(0x70, 0x06),
             Plan::Store { sector, length } => self.store(target, sector, &datagram[5..5 + length]),
-            Plan::Wear => {
-                let client = self.ended(Latest::Otherwise, next);
-                Served {
-                    client,
-                    answer: Answer::Response {
-                        code: 0x75,
-                        result: 0x1C,
-                    },
-                }
-            }
+            Plan::Wear => self.ended(Latest::Otherwise, next).responds(0x75, 0x1C),
             Plan::Finish => self.finish(target),
         }
     }

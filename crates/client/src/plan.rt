@@ -1,9 +1,9 @@
 // Decide: what a datagram leads to. The bytes of a bank are never looked at here, only its length.
-use crate::answer::Answer;
-use crate::answer::Refusal;
-use crate::command::Asked;
-use crate::command::Command;
 use crate::record::Client;
+use exchange::answer::Answer;
+use exchange::answer::Refusal;
+use exchange::command::Asked;
+use exchange::command::Command;
 ghost use mathlib.Core.Path.{_≡_};
 ghost use Prim.Native.Nat.{_≤_};
 ghost use lib.ListN.{length};
@@ -97,7 +97,7 @@ fn plan_packet(n: usize, marks: &[u8], sector: u16, m: usize) -> Plan
     ensures { λ r. ⌜ r ≡ planPacket n (now (marks .entry)) sector m ⌝ }
 {
     if !values_good(n, sector, m) {
-        return Plan::Keep(crate::command::declined(Command::Packet { sector, length: m }, 0x05));
+        return Plan::Keep(exchange::command::declined(Command::Packet { sector, length: m }, 0x05));
     }
     let k = sector as usize;
     if marks[k - 1] != 0 {
@@ -126,14 +126,13 @@ impl Client {
     fn plan_start(self, datagram: &[u8]) -> Plan
         ensures { λ r. ⌜ r ≡ planStart self (now (datagram .entry)) ⌝ }
     {
-        let n = self.n;
         let running = self.running;
         let target = bank::layout::other(running);
         if buffer::number::number4(datagram, 3) != bank::layout::start_address(target) {
-            return Plan::Keep(crate::command::declined(Command::WriteStart, 0x05));
+            return Plan::Keep(exchange::command::declined(Command::WriteStart, 0x05));
         }
-        if buffer::number::number4(datagram, 7) != bank::layout::end_address(target, n) {
-            return Plan::Keep(crate::command::declined(Command::WriteStart, 0x05));
+        if buffer::number::number4(datagram, 7) != bank::layout::end_address(target, self.n) {
+            return Plan::Keep(exchange::command::declined(Command::WriteStart, 0x05));
         }
         Plan::Begin
     }
@@ -143,27 +142,23 @@ impl Client {
         requires { ⌜ length (now marks) ≡ self .n ⌝ }
         ensures { λ r. ⌜ r ≡ planCommand self command (now (marks .entry)) (now (datagram .entry)) ⌝ }
     {
-        let n = self.n;
         let state = self.state;
         let running = self.running;
-        let major = self.major;
-        let minor = self.minor;
-        let revision = self.revision;
-        if !crate::command::fits_state(state, command) {
-            return Plan::Keep(crate::command::declined(command, 0x15));
+        if !exchange::command::fits_state(state, command) {
+            return Plan::Keep(exchange::command::declined(command, 0x15));
         }
         match command {
             Command::ModeStart => Plan::Open,
             Command::BankInfo => Plan::Keep(Answer::BankIs(bank::layout::other(running))),
             Command::VersionInfo => Plan::Keep(Answer::VersionIs {
-                major,
-                minor,
-                revision,
+                major: self.major,
+                minor: self.minor,
+                revision: self.revision,
             }),
             Command::WriteStart => self.plan_start(datagram),
             Command::WriteEnd => plan_end(marks),
             Command::ModeEnd => Plan::Close,
-            Command::Packet { sector, length } => plan_packet(n, marks, sector, length),
+            Command::Packet { sector, length } => plan_packet(self.n, marks, sector, length),
         }
     }
 
@@ -177,7 +172,7 @@ impl Client {
                 code: 0xE0,
                 result: 0x05,
             }),
-            Asked::WrongLength(command) => Plan::Keep(crate::command::declined(command, 0x05)),
+            Asked::WrongLength(command) => Plan::Keep(exchange::command::declined(command, 0x05)),
             Asked::Right(command) => self.plan_command(command, marks, datagram),
         }
     }
@@ -194,17 +189,16 @@ impl Client {
     ) -> Plan
         ensures { λ r. ⌜ r ≡ planOf self bank0 bank1 (now (marks .entry)) address buffer (now (datagram .entry)) ⌝ }
     {
-        let n = self.n;
         let state = self.state;
-        if !bank::layout::good_n(n) {
+        if !bank::layout::good_n(self.n) {
             return Plan::Keep(Answer::Refused(Refusal::BadN));
         }
-        if !lent_good(n, bank0, bank1, marks.len(), address, buffer) {
+        if !lent_good(self.n, bank0, bank1, marks.len(), address, buffer) {
             return Plan::Keep(Answer::Refused(Refusal::BadLength));
         }
         if crate::host::is_closed(state) {
             return Plan::Keep(Answer::Refused(Refusal::Closed));
         }
-        self.plan_asked(crate::command::read_command(datagram), marks, datagram)
+        self.plan_asked(exchange::command::read_command(datagram), marks, datagram)
     }
 }

@@ -1,17 +1,11 @@
 // The client's record, and every way in which it changes.
 use bank::layout::Bank;
 use bank::layout::MOST;
+use exchange::state::State;
 ghost use mathlib.Core.Path.{_≡_};
 ghost use Prim.Native.Nat.{_≤_};
 ghost use Rattle.bank.specs.Layout.{mostSectors};
-ghost use Rattle.client.specs.Record.{noneReceived, initiated, terminated, opened, closed, begun, marked, ended};
-
-pub enum State {
-    Closed,
-    Idle,
-    Control,
-    Write,
-}
+ghost use Rattle.client.specs.Record.{noneReceived, initiated, opened, left, begun, marked, ended};
 
 // How the latest write session since Start OTA Mode ended.
 pub enum Latest {
@@ -48,17 +42,6 @@ impl Client {
         }
     }
 
-    pub(crate) fn terminated(self) -> Client
-        ensures { λ r. ⌜ r ≡ terminated self ⌝ }
-    {
-        Client {
-            state: State::Closed,
-            latest: Latest::Nothing,
-            received: none_received(),
-            ..self
-        }
-    }
-
     // Start OTA Mode.
     pub(crate) fn opened(self) -> Client
         ensures { λ r. ⌜ r ≡ opened self ⌝ }
@@ -70,12 +53,12 @@ impl Client {
         }
     }
 
-    // End OTA Mode.
-    pub(crate) fn closed(self) -> Client
-        ensures { λ r. ⌜ r ≡ closed self ⌝ }
+    // OTA mode is left, by End OTA Mode or by the host, and what it held is lost.
+    pub(crate) fn left(self, state: State) -> Client
+        ensures { λ r. ⌜ r ≡ left self state ⌝ }
     {
         Client {
-            state: State::Idle,
+            state,
             latest: Latest::Nothing,
             received: none_received(),
             ..self

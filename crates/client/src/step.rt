@@ -1,14 +1,13 @@
 // One datagram: decided upon, carried out on the target bank, answered.
-use crate::answer::Answer;
-use crate::answer::Kind;
-use crate::answer::Notice;
+use crate::notice::Kind;
+use crate::notice::Notice;
 use crate::plan::Plan;
 use crate::record::Client;
 use crate::record::Latest;
 use bank::layout::Bank;
+use exchange::answer::Answer;
 ghost use mathlib.Core.Path.{_≡_};
 ghost use lib.ListN.{length};
-ghost use Rattle.client.specs.Notice.{latestNumber};
 ghost use Rattle.client.specs.Perform.{Fair};
 ghost use Rattle.client.specs.Step.{noticeOf, Addressed, carriedOf, Carried·Is, Step·Is};
 
@@ -20,32 +19,26 @@ pub struct Stepped {
     pub notice: Notice,
 }
 
-fn latest_number(latest: Latest) -> u8
-    ensures { λ r. ⌜ r ≡ latestNumber latest ⌝ }
-{
-    match latest {
-        Latest::Nothing => 0x03,
-        Latest::Good => 0x01,
-        Latest::Otherwise => 0x02,
-    }
-}
-
 // The notice for the host, with the sender's address; the latest session is the one before the plan.
 fn notice_for(plan: Plan, latest: Latest, address: &[u8]) -> Notice
     requires { ⌜ Addressed plan (length (now address)) ⌝ }
     ensures { λ r. ⌜ r ≡ noticeOf plan latest (now (address .entry)) ⌝ }
 {
     match plan {
-        Plan::Keep(_) => crate::answer::no_notice(),
-        Plan::Open => crate::answer::notice_of(Kind::Started, 0, address),
-        Plan::Close => crate::answer::notice_of(Kind::Ended, latest_number(latest), address),
-        Plan::Begin => crate::answer::no_notice(),
+        Plan::Keep(_) => crate::notice::no_notice(),
+        Plan::Open => crate::notice::notice_with(Kind::Started, 0, address),
+        Plan::Close => crate::notice::notice_with(
+            Kind::Ended,
+            crate::notice::latest_number(latest),
+            address,
+        ),
+        Plan::Begin => crate::notice::no_notice(),
         Plan::Store {
             sector: _,
             length: _,
-        } => crate::answer::no_notice(),
-        Plan::Wear => crate::answer::no_notice(),
-        Plan::Finish => crate::answer::no_notice(),
+        } => crate::notice::no_notice(),
+        Plan::Wear => crate::notice::no_notice(),
+        Plan::Finish => crate::notice::no_notice(),
     }
 }
 
@@ -68,7 +61,7 @@ impl Client {
         let served = self.serve(plan, target, datagram);
         let client = served.client;
         let answer = served.answer;
-        let length = crate::answer::say(answer, buffer);
+        let length = exchange::answer::say(answer, buffer);
         Stepped {
             client,
             answer,

@@ -9,12 +9,12 @@ use native.Mathlib.Omega.{arith}
 use lib.ListN.{length, set}
 use Rattle.buffer.proofs.Bools.{split, and-left}
 use Rattle.crc.specs.Crc.{crcOf}
-use Rattle.frame.specs.Read.{readOf, writtenOf}
+use Rattle.frame.specs.Read.{readOf, bytesIn}
 use Rattle.flash.specs.Sector.{paddedOf}
 use Rattle.bank.proofs.Layouts.{good-high}
-use Rattle.client.specs.declared.answer.Answer.{Answer}
+use Rattle.exchange.specs.declared.answer.Answer.{Answer}
 use Rattle.client.specs.declared.record.Client.{Client}
-use Rattle.client.specs.Answer.{answerBytes}
+use Rattle.exchange.specs.Answer.{answerBytes}
 use Rattle.client.specs.Record.{noneReceived}
 use Rattle.client.specs.Step.{targetOf}
 use Rattle.client.proofs.Courses.{Course, still, begins, stores, ends, step-course}
@@ -52,7 +52,7 @@ module _ (b : Board) (call : Call) where
       by (stores sector m write h v a t k) f =
           absurd
           (false≢true
-          (sym (ap (λ (x : Answer). isBegin (answerBytes x)) a ∙ written-begin sector 0x06 write (crcOf (paddedOf (writtenOf (call .datagram) m)))) ∙ f))
+          (sym (ap (λ (x : Answer). isBegin (answerBytes x)) a ∙ written-begin sector 0x06 write (crcOf (paddedOf (bytesIn (call .datagram) m)))) ∙ f))
       by (ends result u a t x h) f = absurd (false≢true (sym (ap (λ (y : Answer). isBegin (answerBytes y)) a ∙ ended-begin result) ∙ f))
 
   stored-some : length (b .client .received) ≡ 491 → isStored (said (stepMachine b (Datagram call))) ≡ true → Some next

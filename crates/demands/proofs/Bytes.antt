@@ -7,9 +7,9 @@ use Prim.Native.Nat.{ℕ}
 use lib.Dec.{eqb}
 use Rattle.buffer.specs.Number.{bytesOf}
 use Rattle.frame.specs.Frame.{framed, controlFrame, writeFrame}
-use Rattle.client.specs.declared.answer.Answer.{Answer}
-use Rattle.client.specs.declared.answer.Answer.the-variants.{Refused, FrameError, Response, BankIs, VersionIs, Written}
-use Rattle.client.specs.Answer.{answerBytes}
+use Rattle.exchange.specs.declared.answer.Answer.{Answer}
+use Rattle.exchange.specs.declared.answer.Answer.the-variants.{Refused, FrameError, Response, BankIs, VersionIs, Written}
+use Rattle.exchange.specs.Answer.{answerBytes}
 use Rattle.client.specs.Perform.{Accepted}
 use Rattle.client.proofs.Leading.{Quiet}
 use Rattle.demands.specs.Session.{isBegin, isEnd, isStored}

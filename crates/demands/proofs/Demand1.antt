@@ -13,7 +13,7 @@ use Rattle.buffer.specs.Place.{frontOf}
 use Rattle.buffer.proofs.Places.{front-none}
 use Rattle.crc.specs.Crc.{crcOf}
 use Rattle.frame.specs.Frame.{frameError}
-use Rattle.frame.specs.Read.{readOf, writtenOf}
+use Rattle.frame.specs.Read.{readOf, bytesIn}
 use Rattle.frame.specs.declared.read.Footer.{Footer}
 use Rattle.frame.specs.declared.read.Read.{Read}
 use Rattle.frame.specs.declared.read.Read.the-variants.{Fault, Control, Write}
@@ -23,17 +23,17 @@ use Rattle.flash.proofs.Writes.{FitsAt, written-here, already-same}
 use Rattle.bank.specs.declared.layout.Bank.{Bank}
 use Rattle.bank.specs.declared.layout.Bank.the-variants.{Zero, One}
 use Rattle.bank.specs.Layout.{sectorSize, goodN, otherOf}
-use Rattle.client.specs.declared.answer.Answer.{Answer}
-use Rattle.client.specs.declared.answer.Answer.the-variants.{Refused, FrameError, Response, BankIs, VersionIs, Written}
-use Rattle.client.specs.declared.answer.Notice.{Notice}
-use Rattle.client.specs.declared.answer.Refusal.{Refusal}
-use Rattle.client.specs.declared.answer.Refusal.the-variants.{BadN, BadLength, Closed}
+use Rattle.exchange.specs.declared.answer.Answer.{Answer}
+use Rattle.exchange.specs.declared.answer.Answer.the-variants.{Refused, FrameError, Response, BankIs, VersionIs, Written}
+use Rattle.client.specs.declared.notice.Notice.{Notice}
+use Rattle.exchange.specs.declared.answer.Refusal.{Refusal}
+use Rattle.exchange.specs.declared.answer.Refusal.the-variants.{BadN, BadLength, Closed}
 use Rattle.client.specs.declared.record.Client.{Client}
 use Rattle.client.specs.declared.record.Latest.{Latest}
-use Rattle.client.specs.declared.record.State.{State}
-use Rattle.client.specs.declared.record.State.the-variants as state
-use Rattle.client.specs.Answer.{refusalNumber, answerBytes}
-use Rattle.client.specs.Command.{byCode, askedBy}
+use Rattle.exchange.specs.declared.state.State.{State}
+use Rattle.exchange.specs.declared.state.State.the-variants as state
+use Rattle.exchange.specs.Answer.{refusalNumber, answerBytes}
+use Rattle.exchange.specs.Command.{byCode, askedBy}
 use Rattle.client.specs.Host.{isClosed, initiateOf, terminateOf}
 use Rattle.client.specs.Notice.{noNotice}
 use Rattle.client.specs.Perform.{fitOf, storeResult, storeOf, checkedOf, servedOf}
@@ -269,7 +269,7 @@ module _ (n : ℕ) (running next : Bank) (latest : Latest) (major minor revision
   module _ (sector m : ℕ) (footer : Footer) (reads : readOf (call .datagram) ≡ Write sector m footer) (good : goodN n ≡ true)
       (whole : length (lentTarget (at state.Write) call) ≡ n * sectorSize) where
     abbrev bytes : List ℕ
-    bytes = writtenOf (call .datagram) m
+    bytes = bytesIn (call .datagram) m
 
     abbrev before : List ℕ
     before = lentTarget (at state.Write) call

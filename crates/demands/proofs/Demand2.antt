@@ -16,7 +16,7 @@ use Rattle.buffer.proofs.Places.{front-take}
 use Rattle.frame.specs.Checksum.{checksumOf}
 use Rattle.crc.specs.Crc.{crcOf}
 use Rattle.frame.specs.Frame.{framed, controlFrame, writeFrame}
-use Rattle.frame.specs.Read.{readOf, writtenOf}
+use Rattle.frame.specs.Read.{readOf, bytesIn}
 use Rattle.frame.specs.declared.read.Footer.the-variants.{End}
 use Rattle.frame.specs.declared.read.Read.the-variants.{Control, Write}
 use Rattle.flash.specs.Bank.{sectorOf, withSector}
@@ -34,17 +34,18 @@ use Rattle.sender.specs.Packet.{sectorOf as imageSector}
 use Rattle.sender.specs.Request.{requestFrame}
 use Rattle.sender.proofs.Image.{SentAt, used-sent, packet-read, packet-bytes}
 use Rattle.sender.proofs.Packets.{Sent, sent-in, sector-length}
-use Rattle.client.specs.declared.answer.Answer.the-variants.{Response, Written}
+use Rattle.exchange.specs.declared.answer.Answer.the-variants.{Response, Written}
 use Rattle.client.specs.declared.record.Latest.the-variants.{Good}
-use Rattle.client.specs.declared.record.State.the-variants as state
-use Rattle.client.specs.Answer.{writtenBytes, answerBytes}
+use Rattle.exchange.specs.declared.state.State.the-variants as state
+use Rattle.exchange.specs.Answer.{writtenBytes, answerBytes}
 use Rattle.client.specs.Host.{isClosed}
 use Rattle.client.specs.Notice.{noNotice}
 use Rattle.client.specs.Perform.{Accepted, fitOf, storeResult}
 use Rattle.client.specs.Plan.{isWorn, anyWorn, valuesGood, addressesGood}
 use Rattle.client.specs.Record.{begun, ended}
 use Rattle.client.specs.Step.{targetOf}
-use Rattle.client.proofs.Courses.{accepted, not-write, answer-short}
+use Rattle.client.proofs.Courses.{accepted, not-write}
+use Rattle.exchange.proofs.Saying.{answer-short}
 use Rattle.client.proofs.Planning.{lent-buffer, values-words}
 use Rattle.demands.specs.Board.{Board, board, Call, Input, Datagram, Outcome, said, after, outcomes, targetBank, sectorsIn, lentTarget, stepMachine}
 use Rattle.demands.specs.Session.{isEnd, allBlank, exchanged, noted}
@@ -191,10 +192,10 @@ module _ (n : ℕ) (running : Bank) (good : goodN n ≡ true) (image : List ℕ)
     reads : readOf (call .datagram) ≡ Write k 512 (footerOf (packetCount image n) p)
     reads = ap readOf brings ∙ sym (packet-read image n p good by-sectors h)
 
-    bytes-are : writtenOf (call .datagram) 512 ≡ imageSector image k
-    bytes-are = ap (λ (d : List ℕ). writtenOf d 512) brings ∙ packet-bytes image n p good by-sectors h
+    bytes-are : bytesIn (call .datagram) 512 ≡ imageSector image k
+    bytes-are = ap (λ (d : List ℕ). bytesIn d 512) brings ∙ packet-bytes image n p good by-sectors h
 
-    padded-are : paddedOf (writtenOf (call .datagram) 512) ≡ imageSector image k
+    padded-are : paddedOf (bytesIn (call .datagram) 512) ≡ imageSector image k
     padded-are = ap paddedOf bytes-are ∙ padded-whole (imageSector image k) whole
 
     unworn : isWorn (getD (call .marks) (k - 1) 0) ≡ false
@@ -216,16 +217,16 @@ module _ (n : ℕ) (running : Bank) (good : goodN n ≡ true) (image : List ℕ)
         k 512 (footerOf (packetCount image n) p) (busy .writing) reads (ap (λ (x : ℕ). valuesGood x k 512) (busy .sectors) ∙ values) unworn
 
     abbrev result : ℕ
-    result = storeResult (blankOf (writtenOf (call .datagram) 512)) (sameOf (sectorOf (lentTarget b call) k) (paddedOf (writtenOf (call .datagram) 512)))
+    result = storeResult (blankOf (bytesIn (call .datagram) 512)) (sameOf (sectorOf (lentTarget b call) k) (paddedOf (bytesIn (call .datagram) 512)))
 
     is-accepted : Accepted result
-    is-accepted = accepted (blankOf (writtenOf (call .datagram) 512)) (sameOf (sectorOf (lentTarget b call) k) (paddedOf (writtenOf (call .datagram) 512)))
+    is-accepted = accepted (blankOf (bytesIn (call .datagram) 512)) (sameOf (sectorOf (lentTarget b call) k) (paddedOf (bytesIn (call .datagram) 512)))
 
     stored-said : said (stepMachine b (Datagram call)) ≡ writeFrame k (writtenBytes 0x06 result (crcOf (imageSector image k))) End
     stored-said =
         ap said stored-is
-        ∙ said-back call (writeFrame k (writtenBytes 0x06 result (crcOf (paddedOf (writtenOf (call .datagram) 512)))) End)
-        (written-short k 0x06 result (crcOf (paddedOf (writtenOf (call .datagram) 512)))) (l .room)
+        ∙ said-back call (writeFrame k (writtenBytes 0x06 result (crcOf (paddedOf (bytesIn (call .datagram) 512)))) End)
+        (written-short k 0x06 result (crcOf (paddedOf (bytesIn (call .datagram) 512)))) (l .room)
         ∙ ap (λ (s : List ℕ). writeFrame k (writtenBytes 0x06 result (crcOf s)) End) padded-are
 
     pub taken : Taken image n p (stepMachine b (Datagram call))

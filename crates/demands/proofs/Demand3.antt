@@ -9,12 +9,13 @@ use Rattle.buffer.specs.Place.{frontOf}
 use Rattle.buffer.proofs.Places.{front-fits}
 use Rattle.frame.specs.Frame.{writeFrame}
 use Rattle.frame.specs.declared.read.Footer.the-variants.{End}
-use Rattle.client.specs.declared.answer.Answer.{Answer}
-use Rattle.client.specs.declared.answer.Answer.the-variants.{Written}
+use Rattle.exchange.specs.declared.answer.Answer.{Answer}
+use Rattle.exchange.specs.declared.answer.Answer.the-variants.{Written}
 use Rattle.client.specs.declared.record.Client.{Client}
-use Rattle.client.specs.Answer.{writtenBytes, answerBytes}
+use Rattle.exchange.specs.Answer.{writtenBytes, answerBytes}
 use Rattle.client.specs.Step.{Carried, stepOf}
-use Rattle.client.proofs.Courses.{Match, same, either, written-long, same-length, step-alike, step-told, step-said, step-fits}
+use Rattle.client.proofs.Courses.{Match, same, either, same-length, step-alike, step-told, step-said, step-fits}
+use Rattle.exchange.proofs.Saying.{written-long}
 use Rattle.client.proofs.Courses.{Alike as AlikeSteps}
 use Rattle.client.proofs.Leading.{Finishing}
 use Rattle.demands.specs.Board.{Board, board, Call, Input, Initiate, Terminate, Datagram, said, after, outcomes, sectorsIn, lentTarget, answerNumber, called, stepMachine}

@@ -9,12 +9,12 @@ use lib.ListN.{length, getD, take, drop, replicate, getD-replicate}
 use lib.Seq.{take-at, length-take-le}
 use borrow.Author.Tests.{not-true, eq-eqb}
 use Rattle.buffer.specs.Compare.{sameOf, blankOf}
-use Rattle.buffer.specs.Number.{bytesOf}
+use Rattle.buffer.specs.Number.{bytesOf, byteAt}
 use Rattle.buffer.proofs.Comparing.{same-self}
 use Rattle.crc.specs.Crc.{crcOf}
 use Rattle.frame.specs.Checksum.{checksumOf}
 use Rattle.frame.specs.Frame.{framed, controlFrame, writeFrame, frameError}
-use Rattle.frame.specs.Read.{byteAt, readOf, writtenOf, readControl}
+use Rattle.frame.specs.Read.{readOf, bytesIn, readControl}
 use Rattle.frame.specs.declared.read.Footer.{Footer}
 use Rattle.frame.specs.declared.read.Footer.the-variants.{End}
 use Rattle.frame.specs.declared.read.Read.the-variants.{Fault, Control, Write}
@@ -34,9 +34,9 @@ use Rattle.hex.specs.Line.{lines}
 use Rattle.hex.specs.Record.{digitsIn, digitsWhole, recordOf, total, dataAt, typed, foundOf}
 use Rattle.hex.specs.Read.{readLines}
 use Rattle.hex.specs.Read.{readOf as readText}
-use Rattle.client.specs.declared.record.State.{State}
-use Rattle.client.specs.declared.record.State.the-variants as state
-use Rattle.client.specs.Answer.{writtenBytes, answerBytes}
+use Rattle.exchange.specs.declared.state.State.{State}
+use Rattle.exchange.specs.declared.state.State.the-variants as state
+use Rattle.exchange.specs.Answer.{writtenBytes, answerBytes}
 use Rattle.client.specs.Host.{isClosed}
 use Rattle.client.specs.Perform.{storeResult}
 use Rattle.client.specs.Plan.{isWorn, valuesGood}
@@ -52,6 +52,7 @@ use Rattle.demands.proofs.Bytes.{written-stored}
 use Rattle.demands.proofs.Demand2.{heard, said-back, control-short, written-short}
 use Rattle.demands.proofs.Rows.{Heard, mode-start, fault, no-request, packet, packet-wrong}
 use Rattle.demands.proofs.Steps.{machine-stays, zero-kept, one-kept}
+use Rattle.demands.proofs.Fresh.{started-bytes}
 use Rattle.demands.proofs.Storing.{storing}
 
 -- ---- bytes
@@ -59,10 +60,6 @@ use Rattle.demands.proofs.Storing.{storing}
 request-1 : controlFrame 0x61 [] ≡ 0x01 ∷ 0x01 ∷ 0x61 ∷ 0x9E ∷ 0x03 ∷ []
 unfolding controlFrame framed checksumOf
 request-1 = refl
-
-answer-1 : controlFrame 0x71 (0x06 ∷ []) ≡ 0x01 ∷ 0x02 ∷ 0x71 ∷ 0x06 ∷ 0x87 ∷ 0x03 ∷ []
-unfolding controlFrame framed checksumOf
-answer-1 = refl
 
 sum-2 : (footer : Footer) → byteAt (writeFrame 1 (0xFF ∷ 0x80 ∷ 0x40 ∷ 0x22 ∷ []) footer) 9 ≡ 0x1A
 unfolding writeFrame framed bytesOf checksumOf
@@ -113,7 +110,7 @@ example-1 b call c s d =
     let i = idle-only (b .client .state) s in
     ap said (mode-start b call (calling b call c (ap isClosed i)) i (ap readOf d ∙ reads-1))
     ∙ said-back call (controlFrame 0x71 (0x06 ∷ [])) (control-short 0x71 0x06) (c .lends .room)
-    ∙ answer-1
+    ∙ started-bytes
 
 example-3 : (b : Board) (call : Call) → Calls b call → live (b .client .state) ≡ true → call .datagram ≡ 0x01 ∷ 0x01 ∷ 0x60 ∷ 0x9F ∷ 0x03 ∷ []
     → said (stepMachine b (Datagram call)) ≡ 0x01 ∷ 0x02 ∷ 0xE0 ∷ 0x05 ∷ 0x19 ∷ 0x03 ∷ []
@@ -136,7 +133,7 @@ module _ (b : Board) (call : Call) (sector m : ℕ) (p : Brings b call sector m)
   packet-heard = calling b call (p .calls) (ap isClosed (p .writing))
 
   abbrev bytes : List ℕ
-  bytes = writtenOf (call .datagram) m
+  bytes = bytesIn (call .datagram) m
 
   abbrev result : ℕ
   result = storeResult (blankOf bytes) (sameOf (sectorOf (lentTarget b call) sector) (paddedOf bytes))
@@ -219,7 +216,7 @@ module _ (b : Board) (call again : Call) (sector m : ℕ) (p : Brings b call sec
   next = stepMachine b (Datagram call) .board
 
   abbrev data-bytes : List ℕ
-  data-bytes = writtenOf (call .datagram) m
+  data-bytes = bytesIn (call .datagram) m
 
   -- the target as it was left
   abbrev left : List ℕ
@@ -272,9 +269,9 @@ module _ (b : Board) (call again : Call) (sector m : ℕ) (p : Brings b call sec
         reads = ap readOf repeats ∙ p .reads;
       }
 
-  already : sameOf (sectorOf (lentTarget next again) sector) (paddedOf (writtenOf (again .datagram) m)) ≡ true
+  already : sameOf (sectorOf (lentTarget next again) sector) (paddedOf (bytesIn (again .datagram) m)) ≡ true
   already =
-      ap (λ (d : List ℕ). sameOf (sectorOf (lentTarget next again) sector) (paddedOf (writtenOf d m))) repeats
+      ap (λ (d : List ℕ). sameOf (sectorOf (lentTarget next again) sector) (paddedOf (bytesIn d m))) repeats
       ∙ ap (λ (t : List ℕ). sameOf (sectorOf t sector) (paddedOf data-bytes)) lent-again
       ∙ ap (λ (s : List ℕ). sameOf s (paddedOf data-bytes)) (with-here (lentTarget b call) sector (paddedOf data-bytes) (fits .inside) padded-size)
       ∙ same-self (paddedOf data-bytes)
@@ -287,7 +284,7 @@ module _ (b : Board) (call again : Call) (sector m : ℕ) (p : Brings b call sec
   example-9 =
       ap (λ (s : List ℕ). byteAt s 6) (stored-said next again sector m brings-again (ap (λ (x : ℕ). valuesGood x sector m) sectors-next ∙ values))
       ∙ write-result sector _ _
-      ∙ omitted (blankOf (writtenOf (again .datagram) m)) (sameOf (sectorOf (lentTarget next again) sector) (paddedOf (writtenOf (again .datagram) m))) already
+      ∙ omitted (blankOf (bytesIn (again .datagram) m)) (sameOf (sectorOf (lentTarget next again) sector) (paddedOf (bytesIn (again .datagram) m))) already
 
 -- 10
 module _ (bank : Bank) (n : ℕ) (image : List ℕ) (g : goodN n ≡ true) (e : length image ≡ sectorSize * n) where

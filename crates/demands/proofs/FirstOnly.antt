@@ -24,7 +24,7 @@ use Rattle.sender.specs.Packet.{sectorOf, sentOf, packetCount, packetSector, fo
 use Rattle.sender.specs.Request.{requestFrame}
 use Rattle.sender.proofs.Image.{packet-read}
 use Rattle.client.specs.Perform.{fitOf}
-use Rattle.client.specs.Answer.{answerBytes}
+use Rattle.exchange.specs.Answer.{answerBytes}
 use Rattle.demands.specs.Board.{Call, Input, Datagram, Outcome, said, Machine}
 use Rattle.demands.specs.Demand1.{isPacket}
 use Rattle.demands.specs.Demand2.{Fit, Taken, AllTaken, more-taken, Delivered, Meets2}

@@ -10,11 +10,11 @@ use Rattle.bank.specs.declared.layout.Bank.{Bank}
 use Rattle.bank.specs.Layout.{sectorSize, goodN}
 use Rattle.sender.specs.declared.request.Request.the-variants.{ModeStart, ModeEnd}
 use Rattle.sender.specs.Request.{requestFrame}
-use Rattle.client.specs.declared.answer.Kind.the-variants.{Started, Ended}
+use Rattle.client.specs.declared.notice.Kind.the-variants.{Started, Ended}
 use Rattle.client.specs.declared.record.Latest.{Latest}
 use Rattle.client.specs.Host.{isClosed, newOf}
 use Rattle.client.specs.Notice.{noticeWith, noticeBytes, latestNumber}
-use Rattle.client.specs.Record.{newClient, initiated, opened, closed}
+use Rattle.client.specs.Record.{newClient, initiated, opened, modeEnded}
 use Rattle.demands.specs.Board.{Board, board, Call, Input, Initiate, Datagram, Outcome, said, stepMachine}
 use Rattle.demands.specs.Demand1.{hostDone, changed}
 use Rattle.demands.specs.Demand2.{Lends, Ready, Fit, Delivery}
@@ -23,7 +23,7 @@ use Rattle.demands.proofs.Asking.{request-read}
 use Rattle.demands.proofs.Demand2.{heard, said-back, control-short, Over, over, demand2}
 use Rattle.demands.proofs.Rows.{initiate, mode-start, mode-end}
 
-started-bytes : controlFrame 0x71 (0x06 ∷ []) ≡ 0x01 ∷ 0x02 ∷ 0x71 ∷ 0x06 ∷ 0x87 ∷ 0x03 ∷ []
+pub started-bytes : controlFrame 0x71 (0x06 ∷ []) ≡ 0x01 ∷ 0x02 ∷ 0x71 ∷ 0x06 ∷ 0x87 ∷ 0x03 ∷ []
 unfolding controlFrame framed checksumOf
 started-bytes = refl
 
@@ -76,7 +76,7 @@ module _ (n : ℕ) (running : Bank) (major minor revision : ℕ) (bank0 bank1 : 
       size-is x p = p ∙ ap (λ (y : ℕ). y * sectorSize) (sym (done .sectors))
 
       end-is : stepMachine last (Datagram ending)
-          ≡ changed last ending (closed (last .client)) (noticeWith Ended (latestNumber (last .client .latest)) (ending .address)) (controlFrame 0x74 (0x06 ∷ []))
+          ≡ changed last ending (modeEnded (last .client)) (noticeWith Ended (latestNumber (last .client .latest)) (ending .address)) (controlFrame 0x74 (0x06 ∷ []))
       end-is =
           mode-end last ending
           (heard last ending (ap goodN (done .sectors ∙ sectors-in) ∙ fresh .good) (subst (λ (x : ℕ). Lends x ending) (sym (done .sectors ∙ sectors-in)) e)

@@ -9,14 +9,14 @@ use lib.Dec.{eqb}
 use lib.ListN.{length, length-replicate}
 use borrow.Author.Tests.{eqb-true, eqb-false}
 use Rattle.crc.specs.Crc.{crcOf}
-use Rattle.frame.specs.Read.{writtenOf}
+use Rattle.frame.specs.Read.{bytesIn}
 use Rattle.flash.specs.Bank.{sectorOf, withSector, blankSector}
 use Rattle.flash.specs.Sector.{paddedOf}
 use Rattle.flash.proofs.Blanks.{sector-blanks}
 use Rattle.flash.proofs.Sectors.{Has, has-still, length-with, with-here, with-other}
 use Rattle.flash.proofs.Words.{length-padded}
 use Rattle.bank.specs.Layout.{sectorSize}
-use Rattle.client.specs.Answer.{answerBytes}
+use Rattle.exchange.specs.Answer.{answerBytes}
 use Rattle.client.proofs.Courses.{Course, still, begins, stores, ends, fits-stored, step-course}
 use Rattle.demands.specs.Board.{Board, Call, Input, Initiate, Terminate, Datagram, said, outcomes, lentTarget, called, stepMachine}
 use Rattle.demands.specs.Session.{allBlank, exchanged, shown, lately, lastAccepted}
@@ -51,7 +51,7 @@ module _ (n k : ℕ) (low : 1 ≤ k) (high : k ≤ n) where
       step-at (still q t w) = rw (quiet-begin (called b call .answer) q, quiet-stored (called b call .answer) q) at
       step-at (begins a t m h) = rw (a, response-begin) blank-at
       step-at (stores number m write h v a t c) =
-          let bytes : List ℕ = writtenOf (call .datagram) m in
+          let bytes : List ℕ = bytesIn (call .datagram) m in
           let f = fits-stored (b .client) (lentTarget b call) (call .datagram) number m h in
           let whole : length image ≡ length (lentTarget b call) = at .size ∙ ap (λ (x : ℕ). x * sectorSize) (sym sectors) ∙ sym (h .whole) in
           rw (a, written-begin number 0x06 write (crcOf (paddedOf bytes)), written-stored number write (crcOf (paddedOf bytes)) v, h .reads)

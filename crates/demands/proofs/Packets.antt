@@ -11,7 +11,7 @@ use borrow.Author.Tests.{leb-true, eqb-true, lt-ltb, le-ltb, eq-eqb, le-leb}
 use Rattle.buffer.specs.Place.{frontOf}
 use Rattle.buffer.proofs.Bools.{and-left, and-right, and-both}
 use Rattle.buffer.proofs.Places.{front-take, front-drop}
-use Rattle.frame.specs.Read.{readOf, writtenOf}
+use Rattle.frame.specs.Read.{readOf, bytesIn}
 use Rattle.frame.specs.declared.read.Read.{Read}
 use Rattle.frame.specs.declared.read.Read.the-variants.{Fault, Control, Write}
 use Rattle.frame.proofs.Writing.{length-write}
@@ -59,7 +59,7 @@ module _ (img : List ℕ) (n p : ℕ) (before : List ℕ) (g : goodN n ≡ true)
           size = length (packetFrame img n p);
           made = made-is;
           reads = ap readOf front-is ∙ sym (packet-read img n p g sized h);
-          bytes = ap (λ (d : List ℕ). writtenOf d 512) front-is ∙ packet-bytes img n p g sized h;
+          bytes = ap (λ (d : List ℕ). bytesIn d 512) front-is ∙ packet-bytes img n p g sized h;
           rest = ap (drop (length (packetFrame img n p))) buffer-is ∙ front-drop before (packetFrame img n p) (omega (arith, frame-long));
         }
 

@@ -11,14 +11,14 @@ use lib.Dec.{eqb}
 use lib.ListN.{length, take}
 use borrow.Author.Tests.{leb-true}
 use Rattle.buffer.specs.Compare.{sameOf, blankOf}
-use Rattle.buffer.specs.Number.{bytesOf}
+use Rattle.buffer.specs.Number.{bytesOf, byteAt}
 use Rattle.buffer.specs.Place.{frontOf}
 use Rattle.buffer.proofs.Bools.{split}
 use Rattle.buffer.proofs.Numbers.{number-two}
 use Rattle.crc.specs.Crc.{crcOf}
 use Rattle.crc.proofs.Laws.{of-lt}
 use Rattle.frame.specs.Frame.{controlFrame, writeFrame, frameError}
-use Rattle.frame.specs.Read.{byteAt, readOf, writtenOf}
+use Rattle.frame.specs.Read.{readOf, bytesIn}
 use Rattle.frame.specs.declared.read.Footer.{Footer}
 use Rattle.frame.specs.declared.read.Footer.the-variants.{End}
 use Rattle.frame.specs.declared.read.Read.{Read}
@@ -29,19 +29,20 @@ use Rattle.flash.specs.Bank.{sectorOf}
 use Rattle.flash.specs.Sector.{paddedOf}
 use Rattle.bank.specs.declared.layout.Bank.{Bank}
 use Rattle.bank.specs.Layout.{goodN, bankNumber, otherOf}
-use Rattle.sender.specs.declared.response.Coded.the-variants.{Answers}
-use Rattle.sender.specs.declared.response.Kind.{Kind}
-use Rattle.sender.specs.declared.response.Kind.the-variants.{ModeStart, BankInfo, Version, WriteStart, Packet, WriteEnd, ModeEnd, Error}
-use Rattle.sender.specs.declared.response.Response.{Response}
-use Rattle.sender.specs.declared.response.Response.the-variants.{Plain, Target, Firmware, Written}
-use Rattle.sender.specs.Response.{kindOf, mayCarry, addedOf, repeatsOf, storedOf, crcFits, responseOf, responseNumber}
-use Rattle.sender.proofs.Answers.{plain-back, bank-back, version-back, written-back}
-use Rattle.client.specs.declared.answer.Answer.the-variants.{BankIs, VersionIs}
-use Rattle.client.specs.Answer.{versionBytes, writtenBytes, answerBytes}
+use Rattle.response.specs.declared.read.Coded.the-variants.{Answers}
+use Rattle.response.specs.declared.read.Kind.{Kind}
+use Rattle.response.specs.declared.read.Kind.the-variants.{ModeStart, BankInfo, Version, WriteStart, Packet, WriteEnd, ModeEnd, Error}
+use Rattle.response.specs.declared.read.Response.{Response}
+use Rattle.response.specs.declared.read.Response.the-variants.{Plain, Target, Firmware, Written}
+use Rattle.response.specs.Response.{kindOf, mayCarry, addedOf, repeatsOf, storedOf, crcFits, responseOf, responseNumber}
+use Rattle.response.proofs.Answers.{plain-back, bank-back, version-back, written-back}
+use Rattle.exchange.specs.declared.answer.Answer.the-variants.{BankIs, VersionIs}
+use Rattle.exchange.specs.Answer.{versionBytes, writtenBytes, answerBytes}
 use Rattle.client.specs.Host.{isClosed}
 use Rattle.client.specs.Perform.{Accepted, storeResult}
 use Rattle.client.specs.Plan.{lentGood}
-use Rattle.client.proofs.Courses.{accepted, answer-short}
+use Rattle.client.proofs.Courses.{accepted}
+use Rattle.exchange.proofs.Saying.{answer-short}
 use Rattle.client.proofs.Planning.{lent, lent-buffer}
 use Rattle.demands.specs.Board.{Board, Call, Datagram, Outcome, said, lentTarget, stepMachine}
 use Rattle.demands.specs.Demand1.{Row, firstOf, responseCode, isFault, refused, answered, afterFrame, callRows}
@@ -232,7 +233,7 @@ module _ (b : Board) (call : Call) (bytes : (i : ℕ) → byteAt (call .datagram
 
   of-packet : (sector m : ℕ) (footer : Footer) → sector < 65536 → Every Back (afterFrame b call (Write sector m footer))
   of-packet sector m footer s =
-      let data-bytes : List ℕ = writtenOf (call .datagram) m in
+      let data-bytes : List ℕ = bytesIn (call .datagram) m in
       let already : Bool = sameOf (sectorOf (lentTarget b call) sector) (paddedOf data-bytes) in
       let result : ℕ = storeResult (blankOf data-bytes) already in
       never refl

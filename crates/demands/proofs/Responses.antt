@@ -10,27 +10,26 @@ use lib.Dec.{eqb}
 use lib.ListN.{length, take, drop, length-take, List·getD-eq-default}
 use lib.Seq.{take-all, getD-take, getD-drop}
 use borrow.Author.Tests.{eqb-true}
-use Rattle.buffer.specs.Number.{bytesOf, numberAt}
+use Rattle.buffer.specs.Number.{bytesOf, byteAt, numberAt}
 use Rattle.buffer.proofs.Bools.{split}
 use Rattle.buffer.proofs.Numbers.{number-two, number-four, bytes-two, bytes-four}
 use Rattle.buffer.proofs.Parts.{part-next}
 use Rattle.frame.specs.Frame.{controlFrame, writeFrame}
-use Rattle.frame.specs.Read.{byteAt, parametersOf, readOf}
-use Rattle.frame.specs.Read.{writtenOf as bytesIn}
+use Rattle.frame.specs.Read.{parametersOf, readOf, bytesIn}
 use Rattle.frame.specs.declared.read.Footer.the-variants.{End, Continued}
 use Rattle.frame.specs.declared.read.Read.{Read}
 use Rattle.frame.specs.declared.read.Read.the-variants.{Fault, Control, Write}
 use Rattle.frame.proofs.RoundTrip.{control-only, write-only}
 use Rattle.frame.proofs.Told.{Told, told}
-use Rattle.sender.specs.declared.response.Coded.{Coded}
-use Rattle.sender.specs.declared.response.Coded.the-variants.{Unknown, Answers}
-use Rattle.sender.specs.declared.response.Kind.{Kind}
-use Rattle.sender.specs.declared.response.Kind.the-variants.{ModeStart, BankInfo, Version, WriteStart, Packet, WriteEnd, ModeEnd, Error}
-use Rattle.sender.specs.declared.response.Response.{Response}
-use Rattle.sender.specs.declared.response.Response.the-variants.{Unreadable, Plain, Target, Firmware, Written}
-use Rattle.sender.specs.Response.{kindOf, mayCarry, addsOf, addedOf, targetOf, acceptedOf, answerOf, repeatsOf, crcFits, writtenOf, responseIn, responseOf, responseNumber}
-use Rattle.sender.proofs.Responses.{adds-none, adds-some}
-use Rattle.sender.proofs.Six.{six-exactly}
+use Rattle.response.specs.declared.read.Coded.{Coded}
+use Rattle.response.specs.declared.read.Coded.the-variants.{Unknown, Answers}
+use Rattle.response.specs.declared.read.Kind.{Kind}
+use Rattle.response.specs.declared.read.Kind.the-variants.{ModeStart, BankInfo, Version, WriteStart, Packet, WriteEnd, ModeEnd, Error}
+use Rattle.response.specs.declared.read.Response.{Response}
+use Rattle.response.specs.declared.read.Response.the-variants.{Unreadable, Plain, Target, Firmware, Written}
+use Rattle.response.specs.Response.{kindOf, mayCarry, addsOf, addedOf, targetOf, acceptedOf, answerOf, repeatsOf, crcFits, writeOf, responseIn, responseOf, responseNumber}
+use Rattle.response.proofs.Responses.{adds-none, adds-some}
+use Rattle.response.proofs.Six.{six-exactly}
 use Rattle.demands.specs.Responses.{codeOf, spelled, MeetsReader}
 
 -- ---- the bytes of a short list
@@ -152,8 +151,8 @@ module _ (code : ℕ) (ps : List ℕ) (small : Bytes ps) where
 -- ---- a write response
 
 module _ (sector : ℕ) (bytes : List ℕ) (small : Bytes bytes) where
-  written : Gives (writeFrame sector bytes End) (writtenOf sector bytes)
-  unfolding writtenOf
+  written : Gives (writeFrame sector bytes End) (writeOf sector bytes)
+  unfolding writeOf
   written =
       let response : ℕ = byteAt bytes 0 in
       let write : ℕ = byteAt bytes 1 in

@@ -12,16 +12,16 @@ use Rattle.frame.specs.declared.read.Footer.{Footer}
 use Rattle.frame.specs.declared.read.Footer.the-variants.{End}
 use Rattle.frame.specs.declared.read.Read.the-variants.{Fault, Control, Write}
 use Rattle.bank.specs.Layout.{goodN, otherOf}
-use Rattle.client.specs.declared.answer.Kind.the-variants.{Started, Ended}
+use Rattle.client.specs.declared.notice.Kind.the-variants.{Started, Ended}
 use Rattle.client.specs.declared.record.Latest.the-variants.{Good, Otherwise}
-use Rattle.client.specs.declared.record.State.{State}
-use Rattle.client.specs.declared.record.State.the-variants as state
-use Rattle.client.specs.Answer.{writtenBytes}
+use Rattle.exchange.specs.declared.state.State.{State}
+use Rattle.exchange.specs.declared.state.State.the-variants as state
+use Rattle.exchange.specs.Answer.{writtenBytes}
 use Rattle.client.specs.Host.{isClosed}
 use Rattle.client.specs.Notice.{noNotice, noticeWith, latestNumber}
 use Rattle.client.specs.Perform.{fitOf}
 use Rattle.client.specs.Plan.{lentGood, isWorn, anyWorn, valuesGood, addressesGood}
-use Rattle.client.specs.Record.{initiated, opened, closed, begun, ended}
+use Rattle.client.specs.Record.{initiated, opened, modeEnded, begun, ended}
 use Rattle.demands.specs.Board.{Board, Call, Input, Initiate, Datagram, Outcome, stepMachine}
 use Rattle.demands.specs.Demand1.{firstOf, tableOf, isRequest, hostDone, answered, changed, stored, packetStored, sweptTarget, acceptedIn, takesPackets}
 use Rattle.demands.proofs.Demand1.{table}
@@ -74,7 +74,7 @@ module _ (b : Board) (call : Call) (h : Heard b call) where
       comes b (Datagram call) _ (rw (h .good, h .lengths, h .live, r, t))
 
   pub mode-end : b .client .state ≡ state.Control → readOf (call .datagram) ≡ Control 0x64 0
-      → stepMachine b (Datagram call) ≡ changed b call (closed (b .client)) (noticeWith Ended (latestNumber (b .client .latest)) (call .address)) (controlFrame 0x74 (0x06 ∷ []))
+      → stepMachine b (Datagram call) ≡ changed b call (modeEnded (b .client)) (noticeWith Ended (latestNumber (b .client .latest)) (call .address)) (controlFrame 0x74 (0x06 ∷ []))
   mode-end s r =
       let t : acceptedIn (b .client .state) 0x64 ≡ true = ap (λ (x : State). acceptedIn x 0x64) s in
       comes b (Datagram call) _ (rw (h .good, h .lengths, h .live, r, t))

@@ -10,10 +10,10 @@ use lib.Seq.{take-at, length-take-le}
 use Rattle.buffer.proofs.Bools.{split}
 use Rattle.buffer.proofs.Places.{front-take}
 use Rattle.crc.specs.Crc.{crcOf}
-use Rattle.frame.specs.Read.{writtenOf}
+use Rattle.frame.specs.Read.{bytesIn}
 use Rattle.flash.specs.Bank.{sectorOf, withSector, writtenAt, sweptOf}
 use Rattle.flash.specs.Sector.{paddedOf}
-use Rattle.flash.specs.Sector.{writtenOf as written}
+use Rattle.flash.specs.Sector.{writtenOf}
 use Rattle.flash.proofs.Changes.{at-has}
 use Rattle.flash.proofs.Received.{swept-written}
 use Rattle.flash.proofs.Sectors.{has, has-still, length-sector}
@@ -22,11 +22,11 @@ use Rattle.flash.proofs.Words.{written-fits}
 use Rattle.flash.proofs.Writes.{FitsAt, length-written}
 use Rattle.bank.specs.Layout.{sectorSize, goodN}
 use Rattle.bank.proofs.Layouts.{good-high}
-use Rattle.client.specs.declared.answer.Answer.{Answer}
+use Rattle.exchange.specs.declared.answer.Answer.{Answer}
 use Rattle.client.specs.declared.host.Hosted.{Hosted}
 use Rattle.client.specs.declared.record.Client.{Client}
-use Rattle.client.specs.declared.record.State.the-variants as state
-use Rattle.client.specs.Answer.{answerBytes}
+use Rattle.exchange.specs.declared.state.State.the-variants as state
+use Rattle.exchange.specs.Answer.{answerBytes}
 use Rattle.client.specs.Host.{isClosed, initiateOf, terminateOf}
 use Rattle.client.specs.Record.{noneReceived}
 use Rattle.client.specs.Step.{Carried}
@@ -52,7 +52,7 @@ Shows b image = b .client .state ≡ state.Write → Session b image
 -- a bank whose sector becomes the bytes and 0xFF behind them
 pub written-with : (bank : List ℕ) (k : ℕ) (bytes : List ℕ) → FitsAt bank k bytes → writtenAt bank k bytes ≡ withSector bank k (paddedOf bytes)
 written-with bank k bytes f =
-    at-has (λ (sector : List ℕ). written sector bytes) k bank (has (length bank) k (f .inside))
+    at-has (λ (sector : List ℕ). writtenOf sector bytes) k bank (has (length bank) k (f .inside))
     ∙ ap (withSector bank k)
     (written-fits (sectorOf bank k) bytes (record { whole = length-sector bank k (f .inside); short = f .short; words = f .words }))
 
@@ -153,7 +153,7 @@ module _ (b : Board) (call : Call) where
         (swept-blank (lentTarget b call) n noneReceived (h .whole) (λ i l. let most = good-high n (h .good) in none-received i (omega arith)) ∙ sym e)
     keeps (stores sector m write h v a t k) s =
         let n : ℕ = b .client .n in
-        let bytes : List ℕ = writtenOf (call .datagram) m in
+        let bytes : List ℕ = bytesIn (call .datagram) m in
         let o : Session b image = shows (h .writing) in
         let f : FitsAt (lentTarget b call) sector bytes = fits-stored (b .client) (lentTarget b call) (call .datagram) sector m h in
         let p : sweptOf (lentTarget b call) n (b .client .received) ≡ image =
@@ -182,7 +182,7 @@ module _ (b : Board) (call : Call) where
     closes (still q t w) e = absurd (false≢true (sym (quiet-end (r .answer) q) ∙ e))
     closes (begins a t m h) e = absurd (false≢true (sym (ap (λ (x : Answer). isEnd (answerBytes x)) a ∙ response-start-end) ∙ e))
     closes (stores sector m write h v a t k) e =
-        absurd (false≢true (sym (ap (λ (x : Answer). isEnd (answerBytes x)) a ∙ written-end sector 0x06 write (crcOf (paddedOf (writtenOf (call .datagram) m)))) ∙ e))
+        absurd (false≢true (sym (ap (λ (x : Answer). isEnd (answerBytes x)) a ∙ written-end sector 0x06 write (crcOf (paddedOf (bytesIn (call .datagram) m)))) ∙ e))
     closes (ends result u a t x h) e =
         let n : ℕ = b .client .n in
         let p : r .target ≡ image = t ∙ lent-shows image shows h in

@@ -5,7 +5,7 @@ use mathlib.Core.List.{List}
 use Prim.Native.Nat.{ℕ}
 use native.Mathlib.Omega.{arith}
 use lib.ListN.{getD}
-use Rattle.frame.specs.Read.{byteAt}
+use Rattle.buffer.specs.Number.{byteAt}
 use Rattle.bank.specs.declared.layout.Bank.the-variants.{One}
 use Rattle.sender.specs.declared.request.Request.the-variants.{WriteStart, WriteEnd}
 use Rattle.sender.specs.Packet.{packetCount}

@@ -7,17 +7,17 @@ use Prim.Native.Nat.{ℕ, _*_}
 use native.Mathlib.Omega.{arith}
 use lib.ListN.{length, drop, length-drop}
 use lib.Seq.{length-take-le}
-use Rattle.frame.specs.Read.{readOf, writtenOf}
+use Rattle.frame.specs.Read.{readOf, bytesIn}
 use Rattle.frame.specs.declared.read.Footer.{Footer}
 use Rattle.frame.specs.declared.read.Read.the-variants.{Write}
 use Rattle.frame.proofs.Told.{Told, told}
 use Rattle.bank.specs.Layout.{sectorSize, goodN}
 use Rattle.client.specs.declared.record.Client.{Client}
-use Rattle.client.specs.declared.record.State.the-variants as state
+use Rattle.exchange.specs.declared.state.State.the-variants as state
 use Rattle.client.specs.Plan.{valuesGood}
 use Rattle.client.proofs.Leading.{Storing}
 
-sent-whole : (d : List ℕ) (sector m : ℕ) (footer : Footer) → readOf d ≡ Write sector m footer → length (writtenOf d m) ≡ m
+sent-whole : (d : List ℕ) (sector m : ℕ) (footer : Footer) → readOf d ≡ Write sector m footer → length (bytesIn d m) ≡ m
 sent-whole d sector m footer e =
     let w = subst (Told d) e (told d) in
     length-take-le m (drop 5 d) (omega (arith, length-drop 5 d, w .whole))

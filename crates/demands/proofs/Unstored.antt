@@ -14,7 +14,7 @@ use Rattle.bank.specs.Layout.{goodN}
 use Rattle.sender.specs.declared.request.Request.the-variants.{WriteStart, WriteEnd}
 use Rattle.sender.specs.Request.{requestFrame}
 use Rattle.client.specs.declared.record.Latest.the-variants.{Nothing}
-use Rattle.client.specs.declared.record.State.the-variants as state
+use Rattle.exchange.specs.declared.state.State.the-variants as state
 use Rattle.client.specs.Notice.{noNotice}
 use Rattle.client.specs.Perform.{fitOf}
 use Rattle.client.specs.Record.{noneReceived, begun}

@@ -18,7 +18,7 @@ use Rattle.sender.specs.declared.request.Request.the-variants.{WriteStart, Writ
 use Rattle.sender.specs.Packet.{sectorOf, sentOf, packetCount, packetSector, packetFrame}
 use Rattle.sender.specs.Request.{requestFrame}
 use Rattle.client.specs.declared.record.Latest.the-variants.{Nothing}
-use Rattle.client.specs.declared.record.State.the-variants.{Control}
+use Rattle.exchange.specs.declared.state.State.the-variants.{Control}
 use Rattle.client.specs.Perform.{fitOf}
 use Rattle.client.specs.Record.{noneReceived}
 use Rattle.demands.specs.Board.{Board, Call, Input, Datagram, stepMachine}

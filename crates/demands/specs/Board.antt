@@ -6,12 +6,12 @@ use mathlib.Core.List.{List, [], _∷_, _++_}
 use Prim.Native.Nat.{ℕ, _*_}
 use lib.ListN.{take, drop}
 use Rattle.bank.specs.Layout.{sectorSize}
-use Rattle.client.specs.declared.answer.Answer.{Answer}
-use Rattle.client.specs.declared.answer.Answer.the-variants.{Refused, FrameError, Response, BankIs, VersionIs, Written}
-use Rattle.client.specs.declared.answer.Notice.{Notice}
+use Rattle.exchange.specs.declared.answer.Answer.{Answer}
+use Rattle.exchange.specs.declared.answer.Answer.the-variants.{Refused, FrameError, Response, BankIs, VersionIs, Written}
+use Rattle.client.specs.declared.notice.Notice.{Notice}
 use Rattle.client.specs.declared.host.Hosted.{Hosted}
 use Rattle.client.specs.declared.record.Client.{Client}
-use Rattle.client.specs.Answer.{refusalNumber}
+use Rattle.exchange.specs.Answer.{refusalNumber}
 use Rattle.client.specs.Body.{chosen}
 use Rattle.client.specs.Host.{toldNumber, initiateOf, terminateOf}
 use Rattle.client.specs.Notice.{noNotice}

@@ -13,25 +13,25 @@ use Rattle.buffer.specs.Compare.{sameOf, blankOf}
 use Rattle.buffer.specs.Place.{frontOf}
 use Rattle.crc.specs.Crc.{crcOf}
 use Rattle.frame.specs.Frame.{controlFrame, writeFrame, frameError}
-use Rattle.frame.specs.Read.{readOf, writtenOf}
+use Rattle.frame.specs.Read.{readOf, bytesIn}
 use Rattle.frame.specs.declared.read.Footer.the-variants.{End}
 use Rattle.frame.specs.declared.read.Read.{Read}
 use Rattle.frame.specs.declared.read.Read.the-variants.{Fault, Control, Write}
 use Rattle.flash.specs.Bank.{sectorOf, withSector, sweptOf}
 use Rattle.flash.specs.Sector.{paddedOf}
 use Rattle.bank.specs.Layout.{goodN, bankNumber, otherOf}
-use Rattle.client.specs.declared.answer.Kind.the-variants.{Started, Ended}
-use Rattle.client.specs.declared.answer.Notice.{Notice}
+use Rattle.client.specs.declared.notice.Kind.the-variants.{Started, Ended}
+use Rattle.client.specs.declared.notice.Notice.{Notice}
 use Rattle.client.specs.declared.record.Client.{Client}
 use Rattle.client.specs.declared.record.Latest.the-variants.{Good, Otherwise}
-use Rattle.client.specs.declared.record.State.{State}
-use Rattle.client.specs.declared.record.State.the-variants as state
-use Rattle.client.specs.Answer.{versionBytes, writtenBytes}
+use Rattle.exchange.specs.declared.state.State.{State}
+use Rattle.exchange.specs.declared.state.State.the-variants as state
+use Rattle.exchange.specs.Answer.{versionBytes, writtenBytes}
 use Rattle.client.specs.Host.{isClosed}
 use Rattle.client.specs.Notice.{noNotice, noticeWith, latestNumber}
 use Rattle.client.specs.Perform.{fitOf, storeResult}
 use Rattle.client.specs.Plan.{lentGood, isWorn, anyWorn, valuesGood, addressesGood}
-use Rattle.client.specs.Record.{Stays, initiated, terminated, opened, closed, begun, marked, ended}
+use Rattle.client.specs.Record.{Stays, initiated, terminated, opened, modeEnded, begun, marked, ended}
 use Rattle.client.specs.Step.{zeroOf, oneOf}
 use Rattle.demands.specs.Board.{Board, board, Call, Input, Initiate, Terminate, Datagram, Outcome, Machine, after, runningBank, backIn, lentTarget}
 
@@ -163,7 +163,7 @@ abbrev pub packetStored : Board → Call → Read → Outcome
 packetStored b call Fault = answered b call []
 packetStored b call (Control code n) = answered b call []
 packetStored b call (Write sector m footer) =
-    let bytes : List ℕ = writtenOf (call .datagram) m in
+    let bytes : List ℕ = bytesIn (call .datagram) m in
     let result : ℕ = storeResult (blankOf bytes) (sameOf (sectorOf (lentTarget b call) sector) (paddedOf bytes)) in
     stored b call (marked (b .client) sector) (withSector (lentTarget b call) sector (paddedOf bytes))
     (writeFrame sector (writtenBytes 0x06 result (crcOf (paddedOf bytes))) End)
@@ -196,7 +196,7 @@ afterFrame b call r =
     ∷ row (isCode 0x62 r) (answered b call (controlFrame 0x72 (0x06 ∷ bankNumber (otherOf (c .running)) ∷ [])))
     ∷ row (isCode 0x68 r) (answered b call (controlFrame 0x78 (versionBytes (c .major) (c .minor) (c .revision))))
     ∷ row (isCode 0x40 r) (changed b call (begun c) noNotice (controlFrame 0x70 (0x06 ∷ [])))
-    ∷ row (isCode 0x64 r) (changed b call (closed c) (noticeWith Ended (latestNumber (c .latest)) (call .address)) (controlFrame 0x74 (0x06 ∷ [])))
+    ∷ row (isCode 0x64 r) (changed b call (modeEnded c) (noticeWith Ended (latestNumber (c .latest)) (call .address)) (controlFrame 0x74 (0x06 ∷ [])))
     ∷ row (isCode 0x45 r && fitOf (sweptTarget b call)) (stored b call (ended c Good (otherOf (c .running))) (sweptTarget b call) (controlFrame 0x75 (0x06 ∷ [])))
     ∷ row (isCode 0x45 r) (stored b call (ended c Otherwise (c .next)) (sweptTarget b call) (controlFrame 0x75 (0x1E ∷ [])))
     ∷ []

@@ -15,8 +15,8 @@ use Rattle.bank.specs.Layout.{sectorSize, goodN, otherOf}
 use Rattle.sender.specs.declared.request.Request.the-variants.{WriteStart, WriteEnd}
 use Rattle.sender.specs.Packet.{sectorOf, packetCount, packetSector, packetFrame}
 use Rattle.sender.specs.Request.{requestFrame}
-use Rattle.client.specs.declared.record.State.the-variants.{Control}
-use Rattle.client.specs.Answer.{writtenBytes}
+use Rattle.exchange.specs.declared.state.State.the-variants.{Control}
+use Rattle.exchange.specs.Answer.{writtenBytes}
 use Rattle.client.specs.Perform.{Accepted, fitOf}
 use Rattle.client.specs.Step.{targetOf}
 use Rattle.demands.specs.Board.{Board, Call, Input, Datagram, Outcome, said, Machine, after, outcomes}

@@ -10,8 +10,8 @@ use Prim.Native.Nat.{ℕ}
 use lib.ListN.{length}
 use Rattle.frame.specs.Frame.{writeFrame}
 use Rattle.frame.specs.declared.read.Footer.the-variants.{End}
-use Rattle.client.specs.declared.record.State.the-variants as state
-use Rattle.client.specs.Answer.{writtenBytes}
+use Rattle.exchange.specs.declared.state.State.the-variants as state
+use Rattle.exchange.specs.Answer.{writtenBytes}
 use Rattle.client.specs.Perform.{Accepted}
 use Rattle.demands.specs.Board.{Board, Input, Outcome, said, Machine, after, outcomes, runningBank, sectorsIn}
 use Rattle.demands.specs.Session.{isEnd, allBlank, shown}

@@ -11,6 +11,9 @@ use Rattle.bank.specs.declared.layout.Bank.{Bank}
 use Rattle.hex.specs.declared.fault.Kind.{Kind}
 use Rattle.hex.specs.declared.line.LineReader.{LineReader}
 use Rattle.sender.specs.declared.request.Request.{Request}
+use Rattle.exchange.specs.declared.answer.Answer.{Answer}
+use Rattle.exchange.specs.declared.command.Command.{Command}
+use Rattle.exchange.specs.declared.state.State.{State}
 use Rattle.client.specs.declared.record.Client.{Client}
 use Rattle.client.specs.declared.step.Stepped.{Stepped}
 use Rattle.buffer.specs.Compare.{Same·Is, Blank·Is}
@@ -30,7 +33,9 @@ use Rattle.hex.specs.Read.{KindNumber·Is}
 use Rattle.hex.specs.Read.{Read·Is as ReadText·Is}
 use Rattle.sender.specs.Packet.{Count·Is, Packet·Is}
 use Rattle.sender.specs.Request.{Request·Is}
-use Rattle.sender.specs.Response.{Response·Is}
+use Rattle.response.specs.Response.{Response·Is}
+use Rattle.exchange.specs.Answer.{Say·Is}
+use Rattle.exchange.specs.Command.{Asked·Is, FitsState·Is, Declined·Is}
 use Rattle.client.specs.Body.{Body·Is as NextBody·Is}
 use Rattle.client.specs.Host.{New·Is, Initiate·Is, Terminate·Is}
 use Rattle.client.specs.Step.{Step·Is}
@@ -98,6 +103,11 @@ pub record Determined : Type 0 where
   pub packet : (image : List ℕ) (n p : ℕ) (before : List ℕ) → Twice (Packet·Is image n p before)
   pub request : (request : Request) (before : List ℕ) → Twice (Request·Is request before)
   pub read-response : (datagram : List ℕ) → Once (Response·Is datagram)
+  -- what is asked and answered
+  pub asked : (datagram : List ℕ) → Once (Asked·Is datagram)
+  pub fits-state : (state : State) (command : Command) → Once (FitsState·Is state command)
+  pub declined : (command : Command) (result : ℕ) → Once (Declined·Is command result)
+  pub say : (answer : Answer) (before : List ℕ) → Twice (Say·Is answer before)
   -- the client
   pub new : (n : ℕ) (running : Bank) (major minor revision : ℕ) → Once (New·Is n running major minor revision)
   pub initiate : (c : Client) → Once (Initiate·Is c)

@@ -8,7 +8,7 @@ use mathlib.Core.Bool.{true}
 use mathlib.Core.List.{List, [], _∷_}
 use Prim.Native.Nat.{ℕ, _+_, _-_, _*_, _^_, _≤_, _<_}
 use lib.ListN.{length, getD, drop}
-use Rattle.frame.specs.Read.{byteAt}
+use Rattle.buffer.specs.Number.{byteAt}
 use Rattle.bank.specs.declared.layout.Bank.{Bank}
 use Rattle.bank.specs.Layout.{sectorSize, otherOf, startOf}
 use Rattle.hex.specs.declared.read.Answer.the-variants.{Accepted}
@@ -18,7 +18,7 @@ use Rattle.hex.specs.Line.{lines}
 use Rattle.hex.specs.Meaning.{saysAt}
 use Rattle.hex.specs.Read.{fresh, readOf}
 use Rattle.hex.specs.Record.{dataOf}
-use Rattle.sender.specs.Response.{responseOf}
+use Rattle.response.specs.Response.{responseOf}
 use Rattle.client.specs.Perform.{fitOf}
 use Rattle.client.specs.Step.{targetOf}
 use Rattle.demands.specs.Board.{Board, Call, Input, Datagram, said, Machine, after}

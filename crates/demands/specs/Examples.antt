@@ -6,8 +6,9 @@ use mathlib.Core.List.{List, [], _∷_, _++_}
 use Prim.Native.Nat.{ℕ, _+_, _*_, _%_, _≤_}
 use lib.Dec.{eqb, leb}
 use lib.ListN.{length, replicate}
+use Rattle.buffer.specs.Number.{byteAt}
 use Rattle.frame.specs.Frame.{writeFrame}
-use Rattle.frame.specs.Read.{byteAt, readOf}
+use Rattle.frame.specs.Read.{readOf}
 use Rattle.frame.specs.declared.read.Footer.{Footer}
 use Rattle.frame.specs.declared.read.Footer.the-variants.{End}
 use Rattle.frame.specs.declared.read.Read.the-variants.{Write}
@@ -21,9 +22,9 @@ use Rattle.hex.specs.Read.{readOf as readText}
 use Rattle.sender.specs.declared.request.Request.{Request}
 use Rattle.sender.specs.declared.request.Request.the-variants.{ModeStart, WriteStart}
 use Rattle.sender.specs.Request.{requestFrame}
-use Rattle.client.specs.declared.record.State.{State}
-use Rattle.client.specs.declared.record.State.the-variants as state
-use Rattle.client.specs.Answer.{writtenBytes}
+use Rattle.exchange.specs.declared.state.State.{State}
+use Rattle.exchange.specs.declared.state.State.the-variants as state
+use Rattle.exchange.specs.Answer.{writtenBytes}
 use Rattle.client.specs.Host.{isClosed}
 use Rattle.demands.specs.Board.{Board, Call, Datagram, said, stepMachine}
 use Rattle.demands.specs.Demand2.{Lends}

@@ -7,7 +7,7 @@ use mathlib.Core.List.{List}
 use Prim.Native.Nat.{ℕ, _≤_, _<_}
 use lib.Dec.{leb}
 use lib.ListN.{length, take, drop}
-use Rattle.frame.specs.Read.{readOf, writtenOf}
+use Rattle.frame.specs.Read.{readOf, bytesIn}
 use Rattle.frame.specs.declared.read.Read.the-variants.{Write}
 use Rattle.bank.specs.Layout.{goodN}
 use Rattle.sender.specs.declared.made.Made.{Made}
@@ -32,7 +32,7 @@ pub record Packet (image : List ℕ) (n p : ℕ) (before : List ℕ) (o : Made·
   pub size : ℕ
   pub made : o .answer ≡ Frame size
   pub reads : readOf (take size (o .buffer)) ≡ Write (packetSector image n p) 512 (footerOf (packetCount image n) p)
-  pub bytes : writtenOf (take size (o .buffer)) 512 ≡ sectorOf image (packetSector image n p)
+  pub bytes : bytesIn (take size (o .buffer)) 512 ≡ sectorOf image (packetSector image n p)
   pub rest : drop size (o .buffer) ≡ drop size before
 
 -- 3, 2, 5, and then the packet

@@ -5,18 +5,17 @@ use mathlib.Core.Path.{_≡_}
 use mathlib.Core.Bool.{true, false}
 use mathlib.Core.List.{List, [], _∷_, _++_}
 use Prim.Native.Nat.{ℕ, _<_}
-use Rattle.buffer.specs.Number.{bytesOf}
+use Rattle.buffer.specs.Number.{bytesOf, byteAt}
 use Rattle.frame.specs.Frame.{controlFrame, writeFrame}
-use Rattle.frame.specs.Read.{byteAt}
 use Rattle.frame.specs.declared.read.Footer.the-variants.{End}
 use Rattle.bank.specs.Layout.{bankNumber}
-use Rattle.sender.specs.declared.response.Kind.{Kind}
-use Rattle.sender.specs.declared.response.Kind.the-variants.{ModeStart, BankInfo, Version, WriteStart, Packet, WriteEnd, ModeEnd, Error}
-use Rattle.sender.specs.declared.response.Response.{Response}
-use Rattle.sender.specs.declared.response.Response.the-variants.{Unreadable, Plain, Target, Firmware, Written}
-use Rattle.sender.specs.Meaning.{sixOf}
-use Rattle.sender.specs.Response.{responseNumber}
-use Rattle.client.specs.Answer.{writtenBytes}
+use Rattle.response.specs.declared.read.Kind.{Kind}
+use Rattle.response.specs.declared.read.Kind.the-variants.{ModeStart, BankInfo, Version, WriteStart, Packet, WriteEnd, ModeEnd, Error}
+use Rattle.response.specs.declared.read.Response.{Response}
+use Rattle.response.specs.declared.read.Response.the-variants.{Unreadable, Plain, Target, Firmware, Written}
+use Rattle.response.specs.Six.{sixOf}
+use Rattle.response.specs.Response.{responseNumber}
+use Rattle.exchange.specs.Answer.{writtenBytes}
 
 abbrev pub codeOf : Kind → ℕ
 codeOf ModeStart = 0x71

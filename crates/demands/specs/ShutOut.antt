@@ -4,7 +4,8 @@ use mathlib.Core.Path.{_≡_}
 use mathlib.Core.Bool.{Bool, true, false, _&&_, _||_, cond}
 use mathlib.Core.List.{List, [], _∷_}
 use Prim.Native.Nat.{ℕ}
-use Rattle.frame.specs.Read.{byteAt, readOf}
+use Rattle.buffer.specs.Number.{byteAt}
+use Rattle.frame.specs.Read.{readOf}
 use Rattle.frame.specs.declared.read.Footer.{Footer}
 use Rattle.frame.specs.declared.read.Read.the-variants.{Write}
 use Rattle.sender.specs.declared.request.Request.the-variants.{WriteEnd}

@@ -11,7 +11,7 @@ use borrow.Author.Tests.{not-true}
 use Rattle.buffer.specs.Compare.{blankOf}
 use Rattle.buffer.proofs.Comparing.{blank-true}
 use Rattle.flash.specs.Sector.{sectorBytes, blanks, erasedOf, paddedOf}
-use Rattle.flash.specs.Bank.{startOf, hasSector, sectorOf, blankSector, blankAt, SectorBlank·Is}
+use Rattle.flash.specs.Bank.{sectorStart, hasSector, sectorOf, blankSector, blankAt, SectorBlank·Is}
 use Rattle.flash.proofs.Sectors.{Has, has, length-sector, lent-out}
 
 pub length-blanks : (n : ℕ) → length (blanks n) ≡ n
@@ -43,19 +43,19 @@ pub sector-blanks : (n k : ℕ) → 1 ≤ k → k ≤ n → sectorOf (blanks (n 
 unfolding sectorOf blankSector
 sector-blanks n k a l =
     let size : length (blanks (n * sectorBytes)) ≡ n * sectorBytes = length-blanks (n * sectorBytes) in
-    let part : length (take sectorBytes (drop (startOf k) (blanks (n * sectorBytes)))) ≡ sectorBytes =
+    let part : length (take sectorBytes (drop (sectorStart k) (blanks (n * sectorBytes)))) ≡ sectorBytes =
     length-sector (blanks (n * sectorBytes)) k (record { first = a; last = omega arith }) in
-    ext-getD 0 (take sectorBytes (drop (startOf k) (blanks (n * sectorBytes)))) (blanks sectorBytes) (part ∙ sym (length-blanks sectorBytes))
+    ext-getD 0 (take sectorBytes (drop (sectorStart k) (blanks (n * sectorBytes)))) (blanks sectorBytes) (part ∙ sym (length-blanks sectorBytes))
     (λ i h.
-    getD-take sectorBytes (drop (startOf k) (blanks (n * sectorBytes))) i 0 (omega arith)
-    ∙ getD-drop (startOf k) (blanks (n * sectorBytes)) i 0
-    ∙ getD-replicate {A = ℕ} (n * sectorBytes) (startOf k + i) 0xFF 0 (omega arith)
+    getD-take sectorBytes (drop (sectorStart k) (blanks (n * sectorBytes))) i 0 (omega arith)
+    ∙ getD-drop (sectorStart k) (blanks (n * sectorBytes)) i 0
+    ∙ getD-replicate {A = ℕ} (n * sectorBytes) (sectorStart k + i) 0xFF 0 (omega arith)
     ∙ sym (getD-replicate {A = ℕ} sectorBytes i 0xFF 0 (omega arith)))
 
 -- ---- the look at sector k
 
 module _ (bank : List ℕ) (k : ℕ) where
-  pub blank-here : Has (length bank) k → blankAt bank k ≡ blankOf (sectorOf bank k)
+  blank-here : Has (length bank) k → blankAt bank k ≡ blankOf (sectorOf bank k)
   unfolding blankAt
   blank-here h = rw (has (length bank) k h)
 
@@ -66,6 +66,6 @@ module _ (bank : List ℕ) (k : ℕ) where
       let n : hasSector (length bank) k ≡ false = sym h ∙ not-true r t in
       rw n
 
-  pub blank-inside : (start : ℕ) (r : Bool) → Has (length bank) k → start ≡ startOf k
+  pub blank-inside : (start : ℕ) (r : Bool) → Has (length bank) k → start ≡ sectorStart k
       → r ≡ blankOf (take ((start + sectorBytes) - start) (drop start bank)) → SectorBlank·Is bank k r
   blank-inside start r h e b = b ∙ ap blankOf (lent-out bank k start e) ∙ sym (blank-here h)

@@ -13,7 +13,7 @@ use borrow.Author.Tests.{eqb-true, eqb-false, leb-true, leb-false, le-leb, lt-le
 use Rattle.buffer.proofs.Bools.{and-left, and-right}
 use Rattle.buffer.proofs.Parts.{part-out, part-back, part-length, part-rest}
 use Rattle.flash.specs.Sector.{sectorBytes}
-use Rattle.flash.specs.Bank.{startOf, hasSector, sectorOf, withSector}
+use Rattle.flash.specs.Bank.{sectorStart, hasSector, sectorOf, withSector}
 
 -- ---- the sectors that a bank of so many bytes has
 
@@ -63,16 +63,16 @@ module _ (bytes k : ℕ) where
 module _ (bank : List ℕ) (k : ℕ) where
   pub length-sector : Has (length bank) k → length (sectorOf bank k) ≡ sectorBytes
   unfolding sectorOf
-  length-sector h = part-length bank (startOf k) sectorBytes (omega arith)
+  length-sector h = part-length bank (sectorStart k) sectorBytes (omega arith)
 
-  byte-sector : (q : ℕ) → q < sectorBytes → getD (sectorOf bank k) q 0 ≡ getD bank (startOf k + q) 0
+  byte-sector : (q : ℕ) → q < sectorBytes → getD (sectorOf bank k) q 0 ≡ getD bank (sectorStart k + q) 0
   unfolding sectorOf
-  byte-sector q h = getD-take sectorBytes (drop (startOf k) bank) q 0 h ∙ getD-drop (startOf k) bank q 0
+  byte-sector q h = getD-take sectorBytes (drop (sectorStart k) bank) q 0 h ∙ getD-drop (sectorStart k) bank q 0
 
 -- a byte of a bank lies in the sector that its index says
 byte-of : (bank : List ℕ) (p : ℕ) → getD bank p 0 ≡ getD (sectorOf bank (p / sectorBytes + 1)) (p % sectorBytes) 0
 byte-of bank p =
-    let e : startOf (p / sectorBytes + 1) + p % sectorBytes ≡ p = omega arith in
+    let e : sectorStart (p / sectorBytes + 1) + p % sectorBytes ≡ p = omega arith in
     sym (byte-sector bank (p / sectorBytes + 1) (p % sectorBytes) (omega arith) ∙ ap (λ (i : ℕ). getD bank i 0) e)
 
 -- two banks of n sectors are the same where their sectors are
@@ -88,36 +88,36 @@ ext-sector a b n la lb e =
 -- ---- another sector k
 
 module _ (bank : List ℕ) (k : ℕ) (sector : List ℕ) (h : Has (length bank) k) (s : length sector ≡ sectorBytes) where
-  length-front : length (take (startOf k) bank) ≡ startOf k
-  length-front = length-take-le (startOf k) bank (omega arith)
+  length-front : length (take (sectorStart k) bank) ≡ sectorStart k
+  length-front = length-take-le (sectorStart k) bank (omega arith)
 
-  length-begun : length (take (startOf k) bank ++ sector) ≡ k * sectorBytes
-  length-begun = let f = length-front in omega (arith, length-append (take (startOf k) bank) sector)
+  length-begun : length (take (sectorStart k) bank ++ sector) ≡ k * sectorBytes
+  length-begun = let f = length-front in omega (arith, length-append (take (sectorStart k) bank) sector)
 
   -- the same, the sector put to the front
-  with-begun : withSector bank k sector ≡ (take (startOf k) bank ++ sector) ++ drop (k * sectorBytes) bank
+  with-begun : withSector bank k sector ≡ (take (sectorStart k) bank ++ sector) ++ drop (k * sectorBytes) bank
   unfolding withSector
-  with-begun = sym (append-assoc (take (startOf k) bank) sector (drop (k * sectorBytes) bank))
+  with-begun = sym (append-assoc (take (sectorStart k) bank) sector (drop (k * sectorBytes) bank))
 
   pub length-with : length (withSector bank k sector) ≡ length bank
   length-with =
       let b = length-begun in
       let d : length (drop (k * sectorBytes) bank) ≡ length bank - k * sectorBytes = length-drop (k * sectorBytes) bank in
-      ap length with-begun ∙ length-append (take (startOf k) bank ++ sector) (drop (k * sectorBytes) bank) ∙ omega arith
+      ap length with-begun ∙ length-append (take (sectorStart k) bank ++ sector) (drop (k * sectorBytes) bank) ∙ omega arith
 
-  front-with : take (startOf k) (withSector bank k sector) ≡ take (startOf k) bank
+  front-with : take (sectorStart k) (withSector bank k sector) ≡ take (sectorStart k) bank
   unfolding withSector
-  front-with = take-at (take (startOf k) bank) (sector ++ drop (k * sectorBytes) bank) (startOf k) length-front
+  front-with = take-at (take (sectorStart k) bank) (sector ++ drop (k * sectorBytes) bank) (sectorStart k) length-front
 
   back-with : drop (k * sectorBytes) (withSector bank k sector) ≡ drop (k * sectorBytes) bank
   back-with =
       ap (drop (k * sectorBytes)) with-begun
-      ∙ drop-at (take (startOf k) bank ++ sector) (drop (k * sectorBytes) bank) (k * sectorBytes) length-begun
+      ∙ drop-at (take (sectorStart k) bank ++ sector) (drop (k * sectorBytes) bank) (k * sectorBytes) length-begun
 
   pub with-here : sectorOf (withSector bank k sector) k ≡ sector
   unfolding sectorOf withSector
   with-here =
-      ap (take sectorBytes) (drop-at (take (startOf k) bank) (sector ++ drop (k * sectorBytes) bank) (startOf k) length-front)
+      ap (take sectorBytes) (drop-at (take (sectorStart k) bank) (sector ++ drop (k * sectorBytes) bank) (sectorStart k) length-front)
       ∙ take-at sector (drop (k * sectorBytes) bank) sectorBytes s
 
   -- a byte of that sector, and one of another
@@ -127,15 +127,15 @@ module _ (bank : List ℕ) (k : ℕ) (sector : List ℕ) (h : Has (length bank) 
       ∙ ap (λ (i : ℕ). getD (sectorOf (withSector bank k sector) i) (p % sectorBytes) 0) e
       ∙ ap (λ (l : List ℕ). getD l (p % sectorBytes) 0) with-here
 
-  byte-before : (p : ℕ) → p < startOf k → getD (withSector bank k sector) p 0 ≡ getD bank p 0
+  byte-before : (p : ℕ) → p < sectorStart k → getD (withSector bank k sector) p 0 ≡ getD bank p 0
   unfolding withSector
   byte-before p l =
       let n = length-front in
-      List·getD-append (take (startOf k) bank) (sector ++ drop (k * sectorBytes) bank) 0 p (omega arith) ∙ getD-take (startOf k) bank p 0 l
+      List·getD-append (take (sectorStart k) bank) (sector ++ drop (k * sectorBytes) bank) 0 p (omega arith) ∙ getD-take (sectorStart k) bank p 0 l
 
   byte-after : (p : ℕ) → k * sectorBytes ≤ p → getD (withSector bank k sector) p 0 ≡ getD bank p 0
   byte-after p l =
-      let a : List ℕ = take (startOf k) bank ++ sector in
+      let a : List ℕ = take (sectorStart k) bank ++ sector in
       let n : length a ≡ k * sectorBytes = length-begun in
       let e : p ≡ length a + (p - k * sectorBytes) = omega arith in
       let f : k * sectorBytes + (p - k * sectorBytes) ≡ p = omega arith in
@@ -161,7 +161,7 @@ module _ (bank : List ℕ) (k : ℕ) (sector : List ℕ) (h : Has (length bank) 
       ext-getD 0 (sectorOf (withSector bank k sector) j) (sectorOf bank j) (l ∙ sym (length-sector bank j g))
       (λ q m.
       byte-sector (withSector bank k sector) j q (omega arith)
-      ∙ byte-outside (startOf j + q) (λ e. n (omega arith))
+      ∙ byte-outside (sectorStart j + q) (λ e. n (omega arith))
       ∙ sym (byte-sector bank j q (omega arith)))
 
   -- the sector once more another
@@ -169,21 +169,21 @@ module _ (bank : List ℕ) (k : ℕ) (sector : List ℕ) (h : Has (length bank) 
   unfolding withSector
   with-again other = by (withSector bank k sector) front-with back-with
     where
-      by : (b : List ℕ) → take (startOf k) b ≡ take (startOf k) bank → drop (k * sectorBytes) b ≡ drop (k * sectorBytes) bank → withSector b k other ≡ withSector bank k other
+      by : (b : List ℕ) → take (sectorStart k) b ≡ take (sectorStart k) bank → drop (k * sectorBytes) b ≡ drop (k * sectorBytes) bank → withSector b k other ≡ withSector bank k other
       by b f d = ap₂ (λ (x y : List ℕ). x ++ (other ++ y)) f d
 
 -- the sector that it has
 pub with-same : (bank : List ℕ) (k : ℕ) → 1 ≤ k → withSector bank k (sectorOf bank k) ≡ bank
 unfolding withSector sectorOf
 with-same bank k h =
-    let e : k * sectorBytes ≡ startOf k + sectorBytes = omega arith in
-    ap (λ (i : ℕ). take (startOf k) bank ++ (take sectorBytes (drop (startOf k) bank) ++ drop i bank)) e
-    ∙ ap (λ (l : List ℕ). take (startOf k) bank ++ l) (sym (part-rest bank (startOf k) sectorBytes))
-    ∙ take-append-drop (startOf k) bank
+    let e : k * sectorBytes ≡ sectorStart k + sectorBytes = omega arith in
+    ap (λ (i : ℕ). take (sectorStart k) bank ++ (take sectorBytes (drop (sectorStart k) bank) ++ drop i bank)) e
+    ∙ ap (λ (l : List ℕ). take (sectorStart k) bank ++ l) (sym (part-rest bank (sectorStart k) sectorBytes))
+    ∙ take-append-drop (sectorStart k) bank
 
 -- ---- the part of a bank that is its sector k, lent and come back
 
-module _ (bank : List ℕ) (k start : ℕ) (e : start ≡ startOf k) where
+module _ (bank : List ℕ) (k start : ℕ) (e : start ≡ sectorStart k) where
   pub lent-out : take ((start + sectorBytes) - start) (drop start bank) ≡ sectorOf bank k
   unfolding sectorOf
   lent-out = part-out bank start sectorBytes ∙ ap (λ (i : ℕ). take sectorBytes (drop i bank)) e

@@ -17,14 +17,14 @@ use Rattle.flash.proofs.Words.{stores-leave}
 
 -- ---- a sector keeps its length
 
-pub keeps-made : (store : Store) → Keeps (made store)
+keeps-made : (store : Store) → Keeps (made store)
 keeps-made Erase sector = keeps-erased sector
 keeps-made (Word at word) sector = length-place sector at word
 
 -- ---- stores to one sector
 
 -- several stores to sector k, done to the sector
-pub at-stores : (stores : List Store) (k : ℕ) (bank : List ℕ) → allMadeIn (map (λ (s : Store). (k, s)) stores) bank ≡ atSector (allMade stores) k bank
+at-stores : (stores : List Store) (k : ℕ) (bank : List ℕ) → allMadeIn (map (λ (s : Store). (k, s)) stores) bank ≡ atSector (allMade stores) k bank
 unfolding allMadeIn allMade
 at-stores [] k bank = sym (at-same (allMade []) k bank refl)
 at-stores (store ∷ stores) k bank =
@@ -54,7 +54,7 @@ module _ (bank : List ℕ) (k : ℕ) (bytes : List ℕ) where
 
 -- ---- a sweep
 
-pub all-in-append : (a b : List (ℕ × Store)) (bank : List ℕ) → allMadeIn (a ++ b) bank ≡ allMadeIn b (allMadeIn a bank)
+all-in-append : (a b : List (ℕ × Store)) (bank : List ℕ) → allMadeIn (a ++ b) bank ≡ allMadeIn b (allMadeIn a bank)
 unfolding allMadeIn
 all-in-append [] b bank = refl
 all-in-append (x ∷ a) b bank = all-in-append a b _

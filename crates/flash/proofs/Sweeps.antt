@@ -12,7 +12,7 @@ use borrow.Author.Tests.{eqb-true, eqb-false, leb-true, leb-false, lt-leb, not-t
 use borrow.Rule.Slice.PartMut.{putMid}
 use Rattle.buffer.proofs.Bools.{and-false}
 use Rattle.flash.specs.Sector.{sectorBytes, blanks, erasedOf}
-use Rattle.flash.specs.Bank.{startOf, hasSector, sectorOf, withSector, blankSector, sweptOne, swept, sweptOf}
+use Rattle.flash.specs.Bank.{sectorStart, hasSector, sectorOf, withSector, blankSector, sweptOne, swept, sweptOf}
 use Rattle.flash.proofs.Blanks.{erased-blank, sector-blanks}
 use Rattle.flash.proofs.Changes.{Keeps, at-has, at-none, length-at, at-here, at-other}
 use Rattle.flash.proofs.Sectors.{Has, has, has-still, length-sector, ext-sector, lent-out, lent-back}
@@ -103,7 +103,7 @@ module _ (bank : List ℕ) (n : ℕ) (received : List Bool) where
       by false e = first-past received bank k h n (leb-false k n e)
 
   -- not received
-  pub swept-missed : (k : ℕ) → Has (length bank) k → k ≤ n → getD received (k - 1) false ≡ false → sectorOf (sweptOf bank n received) k ≡ blankSector
+  swept-missed : (k : ℕ) → Has (length bank) k → k ≤ n → getD received (k - 1) false ≡ false → sectorOf (sweptOf bank n received) k ≡ blankSector
   swept-missed k h l r =
       swept-sector k h l ∙ ap (λ (t : Bool). cond t (sectorOf bank k) blankSector) r
 
@@ -125,7 +125,7 @@ pub one-outside : (bank : List ℕ) (k : ℕ) (received r : Bool) → received �
 one-outside bank k received r e h t = rw e (sym (at-none erasedOf k bank (sym h ∙ not-true r t)))
 
 -- the part that was lent for the sector, and what came back
-pub one-erased : (bank : List ℕ) (k start : ℕ) (received : Bool) (sector : List ℕ) → received ≡ false → Has (length bank) k → start ≡ startOf k
+pub one-erased : (bank : List ℕ) (k start : ℕ) (received : Bool) (sector : List ℕ) → received ≡ false → Has (length bank) k → start ≡ sectorStart k
     → sector ≡ erasedOf (take ((start + sectorBytes) - start) (drop start bank))
     → putMid start ((start + sectorBytes) - start) bank sector ≡ sweptOne bank k received
 one-erased bank k start received sector e h s a =

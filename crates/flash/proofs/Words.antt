@@ -13,7 +13,7 @@ use borrow.Author.Tests.{eqb-true, leb-true, le-leb, lt-leb, eq-eqb, ne-eqb}
 use Rattle.buffer.specs.Compare.{sameOf, blankOf}
 use Rattle.buffer.specs.Place.{placeOf}
 use Rattle.buffer.proofs.Bools.{and-left, and-right}
-use Rattle.buffer.proofs.Comparing.{blank-true, blank-filled, blank-part, same-append, same-filled, same-true}
+use Rattle.buffer.proofs.Comparing.{blank-true, blank-part, same-append, same-filled, same-true}
 use Rattle.buffer.proofs.Parts.{part-next, part-length}
 use Rattle.buffer.proofs.Places.{place-next}
 use Rattle.flash.specs.Sector.{sectorBytes, wordBytes, blanks, erasedOf, paddedOf, fitsSector, writtenOf, alreadyOf, WriteSector·Is}
@@ -27,8 +27,9 @@ unfolding paddedOf
 length-padded bytes h = omega (arith, length-append bytes (blanks (sectorBytes - length bytes)), length-blanks (sectorBytes - length bytes))
 
 -- a sector that was erased is no bytes, followed by 0xFF
-pub padded-none : (sector : List ℕ) → length sector ≡ sectorBytes → erasedOf sector ≡ paddedOf []
-padded-none sector e = erased-blank sector e ∙ sym (padded-blanks [] (omega arith) (blank-filled 0))
+padded-none : (sector : List ℕ) → length sector ≡ sectorBytes → erasedOf sector ≡ paddedOf []
+unfolding blankOf
+padded-none sector e = erased-blank sector e ∙ sym (padded-blanks [] (omega arith) refl)
 
 -- 0xFF over and over is some of it and the rest
 filled-parts : (n w m : ℕ) → n ≡ w + m → blanks n ≡ blanks w ++ blanks m
@@ -40,7 +41,7 @@ module _ (begun word : List ℕ) (h : length begun + length word ≤ sectorBytes
   left-over = omega (arith, length-append begun word)
 
   -- bytes stored right behind others
-  pub padded-put : placeOf (paddedOf begun) (length begun) word ≡ paddedOf (begun ++ word)
+  padded-put : placeOf (paddedOf begun) (length begun) word ≡ paddedOf (begun ++ word)
   unfolding paddedOf
   padded-put =
       let n : ℕ = sectorBytes - length begun in
@@ -52,7 +53,7 @@ module _ (begun word : List ℕ) (h : length begun + length word ≤ sectorBytes
       ∙ drop-at (blanks (length word)) (blanks m) (length word) (length-blanks (length word)))
 
   -- blank bytes behind others are there already
-  pub padded-blank : blankOf word ≡ true → paddedOf begun ≡ paddedOf (begun ++ word)
+  padded-blank : blankOf word ≡ true → paddedOf begun ≡ paddedOf (begun ++ word)
   unfolding paddedOf
   padded-blank b =
       let m : ℕ = sectorBytes - length (begun ++ word) in
@@ -83,7 +84,7 @@ module _ (sector bytes : List ℕ) (s : length sector ≡ sectorBytes) (h : leng
 
 -- ---- the words
 
-pub all-append : (a b : List Store) (sector : List ℕ) → allMade (a ++ b) sector ≡ allMade b (allMade a sector)
+all-append : (a b : List Store) (sector : List ℕ) → allMade (a ++ b) sector ≡ allMade b (allMade a sector)
 unfolding allMade
 all-append [] b sector = refl
 all-append (x ∷ a) b sector = all-append a b _
@@ -166,7 +167,7 @@ module _ (sector bytes : List ℕ) where
         words = eqb-true (length bytes % wordBytes) 0 (and-right s v r);
       }
 
-  pub fits : Fits sector bytes → fitsSector sector bytes ≡ true
+  fits : Fits sector bytes → fitsSector sector bytes ≡ true
   unfolding fitsSector
   fits f = rw (eq-eqb (length sector) sectorBytes (f .whole), le-leb (length bytes) sectorBytes (f .short), eq-eqb (length bytes % wordBytes) 0 (f .words))
 

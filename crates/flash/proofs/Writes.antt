@@ -11,8 +11,8 @@ use Rattle.buffer.specs.Compare.{sameOf}
 use Rattle.buffer.proofs.Bools.{and-left, and-right}
 use Rattle.buffer.proofs.Comparing.{same-self, same-true}
 use Rattle.flash.specs.Sector.{sectorBytes, wordBytes, paddedOf, fitsSector, writtenOf, alreadyOf, WriteSector·Is}
-use Rattle.flash.specs.Bank.{startOf, hasSector, sectorOf, withSector, writtenAt, alreadyAt, WriteAt·Is}
-use Rattle.flash.proofs.Changes.{Keeps, at-has, at-none, at-same, at-alike, length-at, at-here, at-other, at-then, at-swap}
+use Rattle.flash.specs.Bank.{sectorStart, hasSector, sectorOf, withSector, writtenAt, alreadyAt, WriteAt·Is}
+use Rattle.flash.proofs.Changes.{Keeps, at-has, at-none, at-same, length-at, at-here, at-other, at-swap}
 use Rattle.flash.proofs.Sectors.{Has, has, has-told, has-still, length-sector, lent-out, lent-back}
 use Rattle.flash.proofs.Words.{Fits, fits-told, length-padded, written-fits, already-fits}
 
@@ -23,25 +23,9 @@ abbrev write : List ℕ → List ℕ → List ℕ
 write bytes sector = writtenOf sector bytes
 
 module _ (sector bytes : List ℕ) where
-  pub written-unfit : fitsSector sector bytes ≡ false → writtenOf sector bytes ≡ sector
+  written-unfit : fitsSector sector bytes ≡ false → writtenOf sector bytes ≡ sector
   unfolding writtenOf
   written-unfit e = rw e
-
-  -- written once more it stays
-  written-stays : writtenOf (writtenOf sector bytes) bytes ≡ writtenOf sector bytes
-  written-stays = by (fitsSector sector bytes) refl
-    where
-      by : (t : Bool) → fitsSector sector bytes ≡ t → writtenOf (writtenOf sector bytes) bytes ≡ writtenOf sector bytes
-      by true e =
-          let f : Fits sector bytes = fits-told sector bytes e in
-          let g : Fits (writtenOf sector bytes) bytes =
-          record {
-            whole = ap length (written-fits sector bytes f) ∙ length-padded bytes (f .short);
-            short = f .short;
-            words = f .words;
-          } in
-          written-fits (writtenOf sector bytes) bytes g ∙ sym (written-fits sector bytes f)
-      by false e = ap (write bytes) (written-unfit e)
 
   -- one that already was what it should become stays
   already-stays : alreadyOf sector bytes ≡ true → writtenOf sector bytes ≡ sector
@@ -51,7 +35,7 @@ module _ (sector bytes : List ℕ) where
       written-fits sector bytes f
       ∙ sym (same-true sector (paddedOf bytes) (and-right (fitsSector sector bytes) (sameOf sector (paddedOf bytes)) e))
 
-pub keeps-written : (bytes : List ℕ) → Keeps (λ (sector : List ℕ). writtenOf sector bytes)
+keeps-written : (bytes : List ℕ) → Keeps (λ (sector : List ℕ). writtenOf sector bytes)
 keeps-written bytes sector = by (fitsSector sector bytes) refl
   where
     by : (t : Bool) → fitsSector sector bytes ≡ t → length (writtenOf sector bytes) ≡ length sector
@@ -76,7 +60,7 @@ module _ (bank : List ℕ) (k : ℕ) (bytes : List ℕ) where
   length-written = length-at (write bytes) (keeps-written bytes) k bank
 
   -- it fits as it did
-  pub fits-still : FitsAt bank k bytes → FitsAt (writtenAt bank k bytes) k bytes
+  fits-still : FitsAt bank k bytes → FitsAt (writtenAt bank k bytes) k bytes
   fits-still f = record { inside = has-still length-written (f .inside); short = f .short; words = f .words }
 
   -- sector k becomes the bytes followed by 0xFF
@@ -100,13 +84,7 @@ module _ (bank : List ℕ) (k : ℕ) (bytes : List ℕ) where
       at-same (write bytes) k bank
       (already-stays (sectorOf bank k) bytes (and-right (hasSector (length bank) k) (alreadyOf (sectorOf bank k) bytes) e))
 
-  -- the same once more changes nothing
-  pub written-again : writtenAt (writtenAt bank k bytes) k bytes ≡ writtenAt bank k bytes
-  written-again =
-      at-then (write bytes) (keeps-written bytes) k bank (write bytes)
-      ∙ at-alike (λ (sector : List ℕ). write bytes (write bytes sector)) k bank (write bytes) (written-stays (sectorOf bank k) bytes)
-
--- and answers so
+-- what was written already is there the next time
 pub already-again : (bank : List ℕ) (k : ℕ) (bytes : List ℕ) → FitsAt bank k bytes → alreadyAt (writtenAt bank k bytes) k bytes ≡ true
 already-again bank k bytes f =
     already-same (writtenAt bank k bytes) k bytes (fits-still bank k bytes f)
@@ -140,7 +118,7 @@ write-outside bank k bytes r h t =
     record { written = sym (at-none (write bytes) k bank n); already = rw n }
 
 -- the part that was lent for the sector, and what came back
-pub write-inside : (bank : List ℕ) (k start : ℕ) (bytes sector : List ℕ) (r : Bool) → Has (length bank) k → start ≡ startOf k
+pub write-inside : (bank : List ℕ) (k start : ℕ) (bytes sector : List ℕ) (r : Bool) → Has (length bank) k → start ≡ sectorStart k
     → WriteSector·Is (take ((start + sectorBytes) - start) (drop start bank)) bytes sector r
     → WriteAt·Is bank k bytes (putMid start ((start + sectorBytes) - start) bank sector) r
 unfolding alreadyAt

@@ -10,8 +10,8 @@ use Rattle.buffer.specs.Compare.{blankOf}
 use Rattle.flash.specs.Sector.{sectorBytes, blanks, erasedOf, writtenOf, alreadyOf}
 
 -- the index of the first byte of sector k ("sector k starts at start + (k - 1)·512")
-abbrev pub startOf : ℕ → ℕ
-startOf k = (k - 1) * sectorBytes
+abbrev pub sectorStart : ℕ → ℕ
+sectorStart k = (k - 1) * sectorBytes
 
 -- whether a bank of so many bytes has a sector k ("Sector numbers run from 1")
 unfoldable pub hasSector : ℕ → ℕ → Bool
@@ -19,11 +19,11 @@ hasSector bytes k = not (eqb k 0) && leb (k * sectorBytes) bytes
 
 -- the bytes of sector k
 unfoldable pub sectorOf : List ℕ → ℕ → List ℕ
-sectorOf bank k = take sectorBytes (drop (startOf k) bank)
+sectorOf bank k = take sectorBytes (drop (sectorStart k) bank)
 
 -- the bank with another sector k
 unfoldable pub withSector : List ℕ → ℕ → List ℕ → List ℕ
-withSector bank k sector = take (startOf k) bank ++ (sector ++ drop (k * sectorBytes) bank)
+withSector bank k sector = take (sectorStart k) bank ++ (sector ++ drop (k * sectorBytes) bank)
 
 -- a sector that was erased
 unfoldable pub blankSector : List ℕ

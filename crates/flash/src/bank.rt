@@ -2,10 +2,10 @@
 use crate::sector::SECTOR;
 ghost use mathlib.Core.Path.{_≡_};
 ghost use mathlib.Core.Bool.{false};
-ghost use Prim.Native.Nat.{_*_, _/_, _^_, _≤_, _<_, min};
+ghost use Prim.Native.Nat.{_+_, _*_, _/_, _≤_, min};
 ghost use lib.ListN.{getD};
 ghost use Rattle.flash.specs.Sector.{sectorBytes};
-ghost use Rattle.flash.specs.Bank.{startOf, hasSector, sweptOne, WriteAt·Is, SectorBlank·Is, Sweep·Is};
+ghost use Rattle.flash.specs.Bank.{sectorStart, hasSector, sweptOne, WriteAt·Is, SectorBlank·Is, Sweep·Is};
 
 // Whether sector `k` lies within a bank of so many bytes.
 fn has_sector(bytes: usize, k: usize) -> bool
@@ -17,10 +17,10 @@ fn has_sector(bytes: usize, k: usize) -> bool
     k <= bytes / SECTOR
 }
 
-// The index of the first byte of sector `k`.
-fn start(k: usize) -> usize
-    requires { ⌜ (1 ≤ k) × (k * sectorBytes < 2 ^ 64) ⌝ }
-    ensures { λ r. ⌜ r ≡ startOf k ⌝ }
+// The index of the first byte of sector `k`, which a bank of so many bytes has.
+fn start(bytes: usize, k: usize) -> usize
+    requires { ⌜ (1 ≤ k) × (k * sectorBytes ≤ bytes) ⌝ }
+    ensures { λ r. ⌜ (r ≡ sectorStart k) × (r + sectorBytes ≤ bytes) ⌝ }
 {
     (k - 1) * SECTOR
 }
@@ -32,7 +32,7 @@ pub fn write_at(bank: &mut [u8], k: usize, bytes: &[u8]) -> bool
     if !has_sector(bank.len(), k) {
         return false;
     }
-    let from = start(k);
+    let from = start(bank.len(), k);
     crate::sector::write_sector(&mut bank[from..from + SECTOR], bytes)
 }
 
@@ -43,7 +43,7 @@ pub fn sector_blank(bank: &[u8], k: usize) -> bool
     if !has_sector(bank.len(), k) {
         return true;
     }
-    let from = start(k);
+    let from = start(bank.len(), k);
     buffer::compare::blank(&bank[from..from + SECTOR])
 }
 
@@ -57,7 +57,7 @@ fn sweep_one(bank: &mut [u8], k: usize, received: bool)
     if !has_sector(bank.len(), k) {
         return;
     }
-    let from = start(k);
+    let from = start(bank.len(), k);
     crate::sector::erase(&mut bank[from..from + SECTOR]);
 }
 

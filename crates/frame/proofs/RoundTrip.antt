@@ -9,12 +9,13 @@ use native.Mathlib.Numerals.{add-one}
 use lib.ListN.{length, take, drop, drop-of-length-le}
 use lib.Seq.{take-at, getD-at, getD-append-add, drop-cons}
 use borrow.Author.Tests.{eq-eqb, ne-eqb}
-use Rattle.buffer.specs.Number.{bytesOf}
+use Rattle.buffer.specs.Number.{bytesOf, byteAt}
+use Rattle.buffer.proofs.Bools.{no-way}
 use Rattle.buffer.proofs.Numbers.{number-two, bytes-two}
 use Rattle.buffer.proofs.Parts.{part-next, part-rest, part-length}
 use Rattle.frame.specs.Checksum.{checksumOf}
 use Rattle.frame.specs.Frame.{footerByte, framed, controlFrame, writeFrame, frameError}
-use Rattle.frame.specs.Read.{byteAt, checkedAt, parametersOf, writtenOf, readOf}
+use Rattle.frame.specs.Read.{checkedAt, parametersOf, bytesIn, readOf}
 use Rattle.frame.specs.declared.read.Footer.{Footer}
 use Rattle.frame.specs.declared.read.Read.the-variants.{Fault, Control, Write}
 use Rattle.frame.proofs.Cases.{control-good, write-good, read-control, read-write}
@@ -128,15 +129,15 @@ write-back sector bytes footer h k =
     rw (bytes-two sector, bytes-two (length bytes))
     (ap₂ (λ (x y : ℕ). Write x y footer) s l ∙ spelt (sector / 256 % 256) (sector % 256) (m / 256 % 256) (m % 256) bytes footer l)
 
-pub write-bytes : (sector : ℕ) (bytes : List ℕ) (footer : Footer) → writtenOf (writeFrame sector bytes footer) (length bytes) ≡ bytes
+pub write-bytes : (sector : ℕ) (bytes : List ℕ) (footer : Footer) → bytesIn (writeFrame sector bytes footer) (length bytes) ≡ bytes
 unfolding writeFrame framed
 write-bytes sector bytes footer = rw (bytes-two sector, bytes-two (length bytes)) (take-at bytes _ (length bytes) refl)
 
-pub write-only : (d : List ℕ) (sector m : ℕ) (footer : Footer) → ((i : ℕ) → byteAt d i < 256) → WriteIn d sector m footer → d ≡ writeFrame sector (writtenOf d m) footer
+pub write-only : (d : List ℕ) (sector m : ℕ) (footer : Footer) → ((i : ℕ) → byteAt d i < 256) → WriteIn d sector m footer → d ≡ writeFrame sector (bytesIn d m) footer
 unfolding writeFrame
 write-only d sector m footer b t =
     let w : length d ≡ m + 7 = t .whole in
-    let u : List ℕ = writtenOf d m in
+    let u : List ℕ = bytesIn d m in
     let s : sector ≡ byteAt d 1 * 256 + byteAt d 2 = sym (t .addressed) ∙ number-two d 1 (omega arith) in
     let l : m ≡ byteAt d 3 * 256 + byteAt d 4 = sym (t .counted) ∙ number-two d 3 (omega arith) in
     let four : m + 4 ≡ suc (suc (suc (suc m))) = omega arith in
@@ -166,20 +167,20 @@ control-read d code n t =
 pub write-read : (d : List ℕ) (sector m : ℕ) (footer : Footer) → ((i : ℕ) → byteAt d i < 256) → WriteIn d sector m footer → Write sector m footer ≡ readOf d
 write-read d sector m footer b t =
     let w : length d ≡ m + 7 = t .whole in
-    let l : length (writtenOf d m) ≡ m = part-length d 5 m (omega arith) in
+    let l : length (bytesIn d m) ≡ m = part-length d 5 m (omega arith) in
     let s : sector ≡ byteAt d 1 * 256 + byteAt d 2 = sym (t .addressed) ∙ number-two d 1 (omega arith) in
     let k : m ≡ byteAt d 3 * 256 + byteAt d 4 = sym (t .counted) ∙ number-two d 3 (omega arith) in
     sym
     (ap readOf (write-only d sector m footer b t)
-    ∙ sym (write-back sector (writtenOf d m) footer (omega (arith, b 1, b 2)) (omega (arith, b 3, b 4)))
+    ∙ sym (write-back sector (bytesIn d m) footer (omega (arith, b 1, b 2)) (omega (arith, b 3, b 4)))
     ∙ ap (λ (x : ℕ). Write sector x footer) l)
 
 -- so a fault is neither kind of frame
 pub fault-control : (d : List ℕ) (code n : ℕ) → Fault ≡ readOf d → ControlIn d code n → ⊥
-fault-control d code n e t = let r = control-read d code n t in let z : _≡_ {A = ℕ} 0 1 = cc in omega arith
+fault-control d code n e t = let r = control-read d code n t in no-way cc
 
 pub fault-write : (d : List ℕ) (sector m : ℕ) (footer : Footer) → ((i : ℕ) → byteAt d i < 256) → Fault ≡ readOf d → WriteIn d sector m footer → ⊥
-fault-write d sector m footer b e t = let r = write-read d sector m footer b t in let z : _≡_ {A = ℕ} 0 1 = cc in omega arith
+fault-write d sector m footer b e t = let r = write-read d sector m footer b t in no-way cc
 
 -- the frame error is the control frame of E0 and 07
 pub error-frame : frameError ≡ controlFrame 0xE0 (0x07 ∷ [])

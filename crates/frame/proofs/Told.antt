@@ -9,11 +9,11 @@ use native.Mathlib.Omega.{arith}
 use lib.Dec.{eqb}
 use lib.ListN.{length, take, drop}
 use borrow.Author.Tests.{eqb-true, eqb-false, not-true}
-use Rattle.buffer.specs.Number.{numberAt}
+use Rattle.buffer.specs.Number.{byteAt, numberAt}
 use Rattle.buffer.proofs.Bools.{split, and-left, and-right}
 use Rattle.frame.specs.Checksum.{checksumOf}
 use Rattle.frame.specs.Frame.{footerByte}
-use Rattle.frame.specs.Read.{byteAt, checkedAt, readControl, readWrite, readOf}
+use Rattle.frame.specs.Read.{checkedAt, readControl, readWrite, readOf}
 use Rattle.frame.specs.declared.read.Footer.{Footer}
 use Rattle.frame.specs.declared.read.Footer.the-variants.{End, Continued}
 use Rattle.frame.specs.declared.read.Read.{Read}

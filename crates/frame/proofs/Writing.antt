@@ -32,7 +32,7 @@ length-write sector bytes footer =
     length-framed 0x02 (bytesOf 2 sector ++ bytesOf 2 (length bytes) ++ bytes) (footerByte footer)
     ∙ (rw (length-append (bytesOf 2 sector ++ bytesOf 2 (length bytes)) bytes, length-append (bytesOf 2 sector) (bytesOf 2 (length bytes)), length-bytes 2 sector, length-bytes 2 (length bytes)) (omega arith))
 
--- ---- what the length field can count
+-- ---- what the length field can count stands at the front
 
 pub control-fits : (buffer : List ℕ) (code : ℕ) (parameters : List ℕ) → length parameters ≤ 254 → putControl buffer code parameters ≡ frontOf buffer (controlFrame code parameters)
 unfolding putControl
@@ -59,7 +59,7 @@ behind buffer a b c =
     drop-drop c b (drop a buffer) ∙ drop-drop (b + c) a buffer ∙ ap (λ (n : ℕ). drop n buffer) e
 
 module _ (buffer : List ℕ) (first : ℕ) (begun bytes : List ℕ) (footer : ℕ) where
-  pub pieces : length begun + length bytes + 3 ≤ length buffer
+  pieces : length begun + length bytes + 3 ≤ length buffer
       → closedAt (placeOf (frontOf buffer (first ∷ begun)) (suc (length begun)) bytes) (suc (length begun) + length bytes) footer
       ≡ frontOf buffer (framed first (begun ++ bytes) footer)
   pieces h =
@@ -83,11 +83,6 @@ module _ (buffer : List ℕ) (first : ℕ) (begun bytes : List ℕ) (footer : �
 -- ---- each way out of the writing of a frame
 
 module _ (buffer : List ℕ) (code : ℕ) (parameters : List ℕ) where
-  -- what the length field can tell stands at the front
-  pub control-front : length parameters ≤ 254 → putControl buffer code parameters ≡ frontOf buffer (controlFrame code parameters)
-  unfolding putControl
-  control-front h = rw (le-leb (length parameters) 254 h)
-
   pub control-too-long : 254 < length parameters → buffer ≡ putControl buffer code parameters
   unfolding putControl
   control-too-long h = rw (lt-leb (length parameters) 254 h)
@@ -108,10 +103,6 @@ module _ (buffer : List ℕ) (code : ℕ) (parameters : List ℕ) where
       ∙ pieces buffer 0x01 (suc (length parameters) ∷ code ∷ []) parameters 0x03 (omega arith))
 
 module _ (buffer : List ℕ) (sector : ℕ) (bytes : List ℕ) (footer : Footer) where
-  pub write-front : length bytes ≤ 65535 → putWrite buffer sector bytes footer ≡ frontOf buffer (writeFrame sector bytes footer)
-  unfolding putWrite
-  write-front h = rw (le-leb (length bytes) 65535 h)
-
   pub write-too-long : 65535 < length bytes → buffer ≡ putWrite buffer sector bytes footer
   unfolding putWrite
   write-too-long h = rw (lt-leb (length bytes) 65535 h)

@@ -6,22 +6,19 @@ use mathlib.Core.Bool.{Bool, _&&_, not, cond}
 use mathlib.Core.List.{List}
 use Prim.Native.Nat.{ℕ, _+_, _-_}
 use lib.Dec.{eqb}
-use lib.ListN.{length, getD, take, drop}
-use Rattle.buffer.specs.Number.{numberAt}
+use lib.ListN.{length, take, drop}
+use Rattle.buffer.specs.Number.{byteAt, numberAt}
 use Rattle.frame.specs.Checksum.{checksumOf}
 use Rattle.frame.specs.declared.read.Footer.the-variants.{End, Continued}
 use Rattle.frame.specs.declared.read.Read.{Read}
 use Rattle.frame.specs.declared.read.Read.the-variants.{Fault, Control, Write}
 
-abbrev pub byteAt : List ℕ → ℕ → ℕ
-byteAt d i = getD d i 0
-
 -- the n parameters of a control frame, and the m bytes of a write frame, where they lie
 abbrev pub parametersOf : List ℕ → ℕ → List ℕ
 parametersOf d n = take n (drop 3 d)
 
-abbrev pub writtenOf : List ℕ → ℕ → List ℕ
-writtenOf d m = take m (drop 5 d)
+abbrev pub bytesIn : List ℕ → ℕ → List ℕ
+bytesIn d m = take m (drop 5 d)
 
 -- at index i stands the checksum of "everything between the first byte and itself"
 abbrev pub checkedAt : List ℕ → ℕ → Bool

@@ -11,7 +11,7 @@ use lib.Dec.{eqb, leb, ltb}
 use lib.ListN.{length, getD, take, drop, drop-of-length-le, length-drop}
 use lib.Seq.{drop-cons, drop-drop, take-nil, slice}
 use borrow.Author.Tests.{eq-eqb, ne-eqb, eqb-false, ltb-true, ltb-false, leb-true}
-use Rattle.buffer.proofs.Bools.{and-left, and-right, and-false}
+use Rattle.buffer.proofs.Bools.{and-left, and-right, and-false, no-way}
 use Rattle.hex.specs.declared.line.Line.{Line}
 use Rattle.hex.specs.declared.line.Ahead.the-variants.{One, Nothing}
 use Rattle.hex.specs.Line.{front, lfNext, lines}
@@ -56,7 +56,7 @@ end-fits t i h = rw (drop-cons t i 0 h) (by (eqb (getD t i 0) 0x0A) (drop (suc i
 
 -- ---- a byte from 14 on ends no line
 
-pub no-end : (t : List ℕ) (i : ℕ) → i < length t → 14 ≤ getD t i 0 → endLen (drop i t) ≡ 0
+no-end : (t : List ℕ) (i : ℕ) → i < length t → 14 ≤ getD t i 0 → endLen (drop i t) ≡ 0
 no-end t i h k = end-here t i h ∙ simp (ne-eqb (getD t i 0) 0x0A (λ e. omega arith), ne-eqb (getD t i 0) 0x0D (λ e. omega arith))
 
 pub quiet-goes :
@@ -153,9 +153,6 @@ all-some c t = by (eqb (endLen (c ∷ t)) 0) refl
     by : (b : Bool) → eqb (endLen (c ∷ t)) 0 ≡ b → 0 < cond b (suc (lineAll t)) (endLen (c ∷ t))
     by true e = omega arith
     by false e = let n = eqb-false (endLen (c ∷ t)) 0 e in omega arith
-
-no-way : {A : Type 0} → _≡_ {A = ℕ} 0 1 → A
-no-way z = absurd (omega arith)
 
 pub ahead-line : (t : List ℕ) (at : ℕ) (l : Line) → aheadAt t at ≡ One l → (at < length t) × LineAt t at (l .end) (l .next)
 unfolding aheadAt

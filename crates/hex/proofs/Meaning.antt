@@ -5,14 +5,14 @@ use mathlib.Core.Path.{_≡_, refl, sym, ap, _∙_}
 use mathlib.Core.Bool.{Bool, true, false}
 use mathlib.Core.List.{List, [], _∷_}
 use mathlib.Core.Logic.{_⊎_, ⊎-elim}
-use Prim.Native.Nat.{ℕ, zero, suc, _+_, _-_, _*_, _%_, _<_, _≤_}
+use Prim.Native.Nat.{ℕ, zero, suc, _+_, _-_, _*_, _<_, _≤_}
 use native.Mathlib.Nat.{not-suc-le-zero, le-of-suc-le-suc}
 use native.Mathlib.Omega.{arith}
 use lib.Dec.{eqb}
-use lib.ListN.{length, getD, set, replicate, length-drop, length-take, length-replicate, length-set, getD-replicate}
+use lib.ListN.{length, getD, set, replicate, length-replicate, length-set, getD-replicate}
 use lib.Seq.{sets, length-sets, getD-set-same, getD-set-other}
-use borrow.Author.Tests.{eqb-true, eqb-false}
-use Rattle.buffer.proofs.Bools.{split}
+use borrow.Author.Tests.{eqb-true}
+use Rattle.buffer.proofs.Bools.{split, no-way}
 use Rattle.bank.specs.declared.layout.Bank.{Bank}
 use Rattle.bank.specs.Layout.{goodN, startOf, sectorSize}
 use Rattle.hex.specs.declared.fault.Kind.{Kind}
@@ -24,15 +24,12 @@ use Rattle.hex.specs.declared.record.Found.the-variants.{Fault, Data, Up
 use Rattle.hex.specs.declared.read.Answer.the-variants.{BadN, BadLength, Refused, Accepted}
 use Rattle.hex.specs.declared.read.Outcome.{Outcome}
 use Rattle.hex.specs.declared.read.Outcome.the-variants.{Stopped, Through}
-use Rattle.hex.specs.Record.{countOf, dataOf, total, typed, foundOf}
+use Rattle.hex.specs.Record.{dataOf, foundOf}
 use Rattle.hex.specs.Line.{lines}
 use Rattle.hex.specs.Read.{stateAfter, imageAfter, Done, refused, readLines, fresh, Reading, answerOf, answered, answerNumber, readOf}
 use Rattle.hex.specs.Meaning.{stateAt, saysAt, Sound, Faulted, at-line, past-the-last}
-use Rattle.hex.proofs.Records.{spelledBy, isRecord, typed-by, record-fields, found-over, found-1, found-2, found-typed}
+use Rattle.hex.proofs.Records.{spelledBy, data-in}
 use Rattle.hex.proofs.Steps.{erased}
-
-no-way : {A : Type 0} → _≡_ {A = ℕ} 0 1 → A
-no-way z = absurd (omega arith)
 
 -- ---- a run of stores, byte by byte
 
@@ -52,46 +49,6 @@ sets-in (v ∷ vs) l at zero h k =
 sets-in (v ∷ vs) l at (suc j) h k =
     let e : at + suc j ≡ suc at + j = omega arith in
     rw e (sets-in vs (set l at v) (suc at) j (le-of-suc-le-suc h) (let n = length-set l at v in omega arith))
-
--- ---- what a line that has data tells
-
-pub record DataIn (base size last : ℕ) (line : List ℕ) (start n : ℕ) : Type 0 where
-  pub low : base ≤ start
-  pub high : start + n ≤ base + size
-  pub after : last ≤ start
-  pub whole : length (dataOf n (spelledBy line)) ≡ n
-
-abbrev Told : ℕ → ℕ → ℕ → List ℕ → Found → Type 0
-Told base size last line (Fault k) = Unit {0}
-Told base size last line (Data start n) = DataIn base size last line start n
-Told base size last line (Upper u) = Unit {0}
-Told base size last line End = Unit {0}
-Told base size last line Other = Unit {0}
-
-told-typed :
-    (base size upper last : ℕ) (line : List ℕ) → length (spelledBy line) ≡ countOf (spelledBy line) + 5
-    → Told base size last line (typed base size upper last (spelledBy line))
-told-typed base size upper last line w =
-    typed-by (Told base size last line) (λ k. tt) tt base size last upper (spelledBy line) tt tt
-    (λ start low high after. record { low = low; high = high; after = after; whole = simp (length-take, length-drop) (omega arith) })
-
-told : (base size : ℕ) (s : State) (line : List ℕ) → Told base size (s .last) line (foundOf base size s line)
-told base size s line = by (s .over) refl
-  where
-    sum : s .over ≡ false → isRecord line ≡ true → (b : Bool) → eqb (total (spelledBy line) % 256) 0 ≡ b → Told base size (s .last) line (foundOf base size s line)
-    sum o q false e = rw (found-2 base size s line o q (eqb-false _ 0 e)) tt
-    sum o q true e = rw (found-typed base size s line o q (eqb-true _ 0 e)) (told-typed base size (s .upper) (s .last) line (record-fields line q .1 .1))
-
-    spelt : s .over ≡ false → (b : Bool) → isRecord line ≡ b → Told base size (s .last) line (foundOf base size s line)
-    spelt o false q = rw (found-1 base size s line o q) tt
-    spelt o true q = sum o q (eqb (total (spelledBy line) % 256) 0) refl
-
-    by : (b : Bool) → s .over ≡ b → Told base size (s .last) line (foundOf base size s line)
-    by true o = rw (found-over base size s line o) tt
-    by false o = spelt o (isRecord line) refl
-
-pub data-in : (base size : ℕ) (s : State) (line : List ℕ) (start n : ℕ) → foundOf base size s line ≡ Data start n → DataIn base size (s .last) line start n
-data-in base size s line start n e = rw e at (told base size s line)
 
 -- ---- an accepted text
 
@@ -261,7 +218,7 @@ module _ (base size : ℕ) where
   abbrev Untold : State → List (List ℕ) → ℕ → Type 0
   Untold s ls a = (i start n : ℕ) → i < length ls → saysAt base size s ls i ≡ Data start n → a < start ⊎ start + n ≤ a
 
-  pub rest-stays :
+  rest-stays :
       (s : State) (k : ℕ) (image : List ℕ) (ls : List (List ℕ)) → Read s k image ls .outcome ≡ Through → (i : ℕ) → Untold s ls (base + i)
       → getD (Read s k image ls .image) i 0 ≡ getD image i 0
   rest-stays s k image [] e i u = ap (λ (m : List ℕ). getD m i 0) (ends s k image e .0)

@@ -1,17 +1,19 @@
 -- A line and its record: what the code's tests on positions say of the definitions.
 -- Assumes nothing.
 use mathlib.Core.Path.{_≡_, refl, sym, ap, _∙_}
-use mathlib.Core.List.{List, [], _∷_}
+use mathlib.Core.List.{List, [], _∷_, _++_}
 use mathlib.Core.Bool.{Bool, true, false, _&&_, false≢true}
-use Prim.Native.Nat.{ℕ, zero, suc, _+_, _-_, _*_, _%_, _<_, _≤_}
-use native.Mathlib.Nat.{not-suc-le-zero, le-of-suc-le-suc, suc-add, zero-add}
+use Prim.Native.Nat.{ℕ, zero, suc, _+_, _-_, _*_, _/_, _%_, _<_, _≤_}
+use native.Mathlib.Nat.{zero-add}
 use native.Mathlib.Numerals.{add-one}
 use native.Mathlib.Omega.{arith}
 use lib.Dec.{eqb, leb, ltb}
-use lib.ListN.{length, getD, take, drop, length-drop}
-use lib.Seq.{slice, slice-cons, slice-empty, length-slice}
-use borrow.Author.Tests.{eq-eqb, ne-eqb, eqb-true, lt-ltb, ltb-true, leb-true}
-use Rattle.buffer.proofs.Bools.{and-left, and-right, and-both, not-so, same-tests, split}
+use lib.ListN.{length, getD, take, drop, length-take, length-drop, List·getD-append}
+use lib.Seq.{take-append-le, drop-append-le, take-at, sets, sets-eq, slice, slice-cons, slice-empty, length-slice}
+use borrow.Author.Tests.{eq-eqb, ne-eqb, eqb-true, eqb-false, lt-ltb, ltb-true, leb-true}
+use Rattle.buffer.proofs.Bools.{and-left, and-right, and-both, not-so, same-tests, split, no-way}
+use Rattle.buffer.proofs.Numbers.{number-two}
+use Rattle.buffer.specs.Number.{numberAt}
 use Rattle.hex.specs.declared.fault.Kind.{Kind}
 use Rattle.hex.specs.declared.fault.Kind.the-variants.{H1, H2, H3, H4, H5, H6}
 use Rattle.hex.specs.declared.record.State.{State}
@@ -19,8 +21,8 @@ use Rattle.hex.specs.declared.record.Found.{Found}
 use Rattle.hex.specs.declared.record.Found.the-variants.{Fault, Data, Upper, End, Other}
 use Rattle.hex.specs.Digit.{isDigit, byteOf, bytesOf}
 use Rattle.hex.specs.Record.{Whole, digitsIn, countOf, addressOf, typeOf, dataOf, dueOf, digitsWhole, recordOf, total, inBank, dataAt, typed, says, foundOf}
-use Rattle.hex.specs.Places.{byteAt, bytesAt, allBytes, checkFrom, FoundFits}
-use Rattle.hex.proofs.Digits.{byte-small, pair-small, pair-so}
+use Rattle.hex.specs.Places.{bytesAt, allBytes, checkFrom, Looked}
+use Rattle.hex.proofs.Digits.{pair-small, pair-so}
 
 not-both : (a b c d : ℕ) → (a ≡ b → c ≡ d → ⊥) → (eqb a b && eqb c d) ≡ false
 not-both a b c d h = not-so _ (λ e. h (eqb-true a b (and-left (eqb a b) (eqb c d) e)) (eqb-true c d (and-right (eqb a b) (eqb c d) e)))
@@ -31,34 +33,12 @@ spelledBy line = bytesOf (drop 1 line)
 
 -- THE BYTES OF A RECORD, BY POSITION
 
-pub bytes-get : (t : List ℕ) (p k i : ℕ) → i < k → getD (bytesAt t p k) i 0 ≡ byteAt t (p + 2 * i)
-unfolding bytesAt
-bytes-get t p zero i h = absurd (not-suc-le-zero h)
-bytes-get t p (suc k) zero h = let e : p + 2 * zero ≡ p = omega arith in ap (byteAt t) (sym e)
-bytes-get t p (suc k) (suc i) h = let e : p + 2 + 2 * i ≡ p + 2 * suc i = omega arith in bytes-get t (p + 2) k i (le-of-suc-le-suc h) ∙ ap (byteAt t) e
-
-pub bytes-small : (t : List ℕ) (p k i : ℕ) → getD (bytesAt t p k) i 0 ≤ 256
-unfolding bytesAt
-bytes-small t p zero i = omega arith
-bytes-small t p (suc k) zero = byte-small _ _
-bytes-small t p (suc k) (suc i) = bytes-small t (p + 2) k i
-
-pub bytes-length : (t : List ℕ) (p k : ℕ) → length (bytesAt t p k) ≡ k
+bytes-length : (t : List ℕ) (p k : ℕ) → length (bytesAt t p k) ≡ k
 unfolding bytesAt
 bytes-length t p zero = refl
 bytes-length t p (suc k) = ap suc (bytes-length t (p + 2) k)
 
-pub bytes-take : (t : List ℕ) (p n m : ℕ) → take n (bytesAt t p (n + m)) ≡ bytesAt t p n
-unfolding bytesAt
-bytes-take t p zero m = refl
-bytes-take t p (suc n) m = rw suc-add (ap (λ (l : List ℕ). byteAt t p ∷ l) (bytes-take t (p + 2) n m))
-
-pub bytes-drop : (t : List ℕ) (p i k : ℕ) → drop i (bytesAt t p (i + k)) ≡ bytesAt t (p + 2 * i) k
-unfolding bytesAt
-bytes-drop t p zero k = let e : p + 2 * zero ≡ p = omega arith in rw (zero-add, e)
-bytes-drop t p (suc i) k = let e : p + 2 + 2 * i ≡ p + 2 * suc i = omega arith in rw suc-add (bytes-drop t (p + 2) i k ∙ ap (λ (q : ℕ). bytesAt t q k) e)
-
-pub bytes-slice : (t : List ℕ) (p k : ℕ) → p + 2 * k ≤ length t → bytesOf (slice p (p + 2 * k) t) ≡ bytesAt t p k
+bytes-slice : (t : List ℕ) (p k : ℕ) → p + 2 * k ≤ length t → bytesOf (slice p (p + 2 * k) t) ≡ bytesAt t p k
 unfolding bytesOf bytesAt
 bytes-slice t p zero h = let e : p + 2 * zero ≡ p = omega arith in rw (e, slice-empty p t)
 bytes-slice t p (suc k) h =
@@ -68,20 +48,14 @@ bytes-slice t p (suc k) h =
     let f : suc (suc p) ≡ p + 2 = omega arith in
     rw (e, a, b, add-one p, f) (ap (λ (l : List ℕ). byteOf (getD t p 0) (getD t (suc p) 0) ∷ l) (bytes-slice t (p + 2) k (omega arith)))
 
-pub all-drop : (i : ℕ) (bs : List ℕ) → allBytes bs ≡ true → allBytes (drop i bs) ≡ true
+all-small : (bs : List ℕ) → allBytes bs ≡ true → (i : ℕ) → getD bs i 0 < 256
 unfolding allBytes
-all-drop zero bs e = e
-all-drop (suc i) [] e = refl
-all-drop (suc i) (b ∷ bs) e = all-drop i bs (and-right (ltb b 256) (allBytes bs) e)
-
-pub all-take : (i : ℕ) (bs : List ℕ) → allBytes bs ≡ true → allBytes (take i bs) ≡ true
-unfolding allBytes
-all-take zero bs e = refl
-all-take (suc i) [] e = refl
-all-take (suc i) (b ∷ bs) e = rw (and-left (ltb b 256) (allBytes bs) e) (all-take i bs (and-right (ltb b 256) (allBytes bs) e))
+all-small [] e i = omega arith
+all-small (b ∷ bs) e zero = ltb-true b 256 (and-left (ltb b 256) (allBytes bs) e)
+all-small (b ∷ bs) e (suc i) = all-small bs (and-right (ltb b 256) (allBytes bs) e) i
 
 -- digits that all spell bytes are two for each
-pub all-even : (ds : List ℕ) → allBytes (bytesOf ds) ≡ true → length ds ≡ 2 * length (bytesOf ds)
+all-even : (ds : List ℕ) → allBytes (bytesOf ds) ≡ true → length ds ≡ 2 * length (bytesOf ds)
 unfolding bytesOf allBytes
 all-even [] e = refl
 all-even (a ∷ []) e = absurd (false≢true e)
@@ -89,11 +63,11 @@ all-even (a ∷ b ∷ ds) e = let q = all-even ds (and-right (ltb (byteOf a b) 2
 
 -- THE SUM
 
-pub sum-bad : (bs : List ℕ) → checkFrom 0 bs ≡ 256 → allBytes bs ≡ false
+sum-bad : (bs : List ℕ) → checkFrom 0 bs ≡ 256 → allBytes bs ≡ false
 unfolding checkFrom
 sum-bad bs e = not-so _ (λ a. let f : (0 + total bs) % 256 ≡ 256 = (rw a at e) in omega arith)
 
-pub sum-good : (bs : List ℕ) → (checkFrom 0 bs ≡ 256 → ⊥) → (allBytes bs ≡ true) × (checkFrom 0 bs ≡ total bs % 256)
+sum-good : (bs : List ℕ) → (checkFrom 0 bs ≡ 256 → ⊥) → (allBytes bs ≡ true) × (checkFrom 0 bs ≡ total bs % 256)
 unfolding checkFrom
 sum-good bs h = by (allBytes bs) refl
   where
@@ -169,7 +143,7 @@ module _ (ds : List ℕ) where
   unfolding digitsWhole
   digits-whole = same-tests (found && long) (all && counted) whole-counted counted-whole
 
-pub spelled-whole : (line : List ℕ) → isRecord line ≡ true → recordOf line ≡ Whole (spelledBy line)
+spelled-whole : (line : List ℕ) → isRecord line ≡ true → recordOf line ≡ Whole (spelledBy line)
 unfolding isRecord recordOf
 spelled-whole [] e = absurd (false≢true e)
 spelled-whole (c ∷ ds) e =
@@ -177,7 +151,7 @@ spelled-whole (c ∷ ds) e =
     simp (and-left (eqb c 0x3A) rest e, digits-whole ds ∙ and-right (eqb c 0x3A) rest e)
 
 -- any other line has H1
-pub spelled-broken : (base size : ℕ) (s : State) (line : List ℕ) → isRecord line ≡ false → says base size s (recordOf line) ≡ Fault H1
+spelled-broken : (base size : ℕ) (s : State) (line : List ℕ) → isRecord line ≡ false → says base size s (recordOf line) ≡ Fault H1
 unfolding isRecord recordOf
 spelled-broken base size s [] e = refl
 spelled-broken base size s (c ∷ ds) e = by (eqb c 0x3A) refl
@@ -186,7 +160,7 @@ spelled-broken base size s (c ∷ ds) e = by (eqb c 0x3A) refl
     by false f = simp f
     by true f = simp (f, digits-whole ds ∙ (rw f at e))
 
-pub record-fields : (line : List ℕ) → isRecord line ≡ true → (getD line 0 0 ≡ 0x3A) × ((allBytes (spelledBy line) ≡ true) × (length (spelledBy line) ≡ countOf (spelledBy line) + 5))
+record-fields : (line : List ℕ) → isRecord line ≡ true → (getD line 0 0 ≡ 0x3A) × ((allBytes (spelledBy line) ≡ true) × (length (spelledBy line) ≡ countOf (spelledBy line) + 5))
 unfolding isRecord
 record-fields line e =
     let colon : Bool = eqb (getD line 0 0) 0x3A in
@@ -196,52 +170,41 @@ record-fields line e =
     (eqb-true _ _ (and-left colon (all && counted) e), (and-left all counted r, eqb-true _ _ (and-right all counted r)))
 
 module _ (t : List ℕ) (from to : ℕ) (k : to ≤ length t) where
-  pub line-colon : from < to → getD (slice from to t) 0 0 ≡ getD t from 0
+  line-colon : from < to → getD (slice from to t) 0 0 ≡ getD t from 0
   line-colon h = rw (slice-cons from to t 0 h k)
 
-  pub line-digits : from < to → drop 1 (slice from to t) ≡ slice (from + 1) to t
+  line-digits : from < to → drop 1 (slice from to t) ≡ slice (from + 1) to t
   line-digits h = rw (add-one, slice-cons from to t 0 h k)
 
-  -- a record's line is as long as its countOf says
-  pub record-length : isRecord (slice from to t) ≡ true → to - from ≡ 11 + 2 * countOf (spelledBy (slice from to t))
-  record-length e =
-      let f = record-fields (slice from to t) e in
+  -- a record's line is as long as its count says
+  length-not : ((n : ℕ) → n < 256 → to - from ≡ 11 + 2 * n → ⊥) → isRecord (slice from to t) ≡ false
+  length-not d =
+      not-so _
+      (λ r.
+      let f = record-fields (slice from to t) r in
       let a = all-even (drop 1 (slice from to t)) (f .1 .0) in
       let b = length-drop 1 (slice from to t) in
       let c = length-slice from to t k in
-      omega (arith, f .1 .1)
+      d (countOf (spelledBy (slice from to t))) (all-small (spelledBy (slice from to t)) (f .1 .0) 0) (omega (arith, f .1 .1)))
 
-  pub record-countOf : from + 3 ≤ to → countOf (spelledBy (slice from to t)) ≡ byteAt t (from + 1)
-  unfolding bytesOf
-  record-countOf h = rw (line-digits (omega arith), slice-cons (from + 1) to t 0 (omega arith) k, slice-cons (suc (from + 1)) to t 0 (omega arith) k, add-one (from + 1))
-
-  pub short-not : to - from < 11 → isRecord (slice from to t) ≡ false
-  short-not h = not-so _ (λ e. let l = record-length e in omega arith)
-
-  pub colon-not : from < to → (getD t from 0 ≡ 0x3A → ⊥) → isRecord (slice from to t) ≡ false
+  colon-not : from < to → (getD t from 0 ≡ 0x3A → ⊥) → isRecord (slice from to t) ≡ false
   colon-not h n = not-so _ (λ e. n (sym (line-colon h) ∙ record-fields (slice from to t) e .0))
 
-  pub length-not : {n : ℕ} → n ≡ byteAt t (from + 1) → from + 3 ≤ to → (to - from ≡ 11 + 2 * n → ⊥) → isRecord (slice from to t) ≡ false
-  length-not {n} e h d = not-so _ (λ r. d (record-length r ∙ ap (λ (m : ℕ). 11 + 2 * m) (record-countOf h ∙ sym e)))
-
-  module _ (n : ℕ) (len : to - from ≡ 11 + 2 * n) where
-    pub record-at : spelledBy (slice from to t) ≡ bytesAt t (from + 1) (n + 5)
+  module _ (m : ℕ) (len : to - from ≡ 2 * m + 1) where
+    record-at : spelledBy (slice from to t) ≡ bytesAt t (from + 1) m
     record-at =
-        let e : to ≡ from + 1 + 2 * (n + 5) = omega arith in
-        ap bytesOf (line-digits (omega arith)) ∙ rw e (bytes-slice t (from + 1) (n + 5) (omega arith))
+        let e : to ≡ from + 1 + 2 * m = omega arith in
+        ap bytesOf (line-digits (omega arith)) ∙ rw e (bytes-slice t (from + 1) m (omega arith))
 
-    pub bytes-not : allBytes (bytesAt t (from + 1) (n + 5)) ≡ false → isRecord (slice from to t) ≡ false
+    bytes-not : allBytes (bytesAt t (from + 1) m) ≡ false → isRecord (slice from to t) ≡ false
     bytes-not a = not-so _ (λ r. let b = record-fields (slice from to t) r .1 .0 in let z : _≡_ {A = ℕ} 0 1 = cc record-at in omega arith)
 
-    pub is-record : n ≡ byteAt t (from + 1) → getD t from 0 ≡ 0x3A → allBytes (bytesAt t (from + 1) (n + 5)) ≡ true → isRecord (slice from to t) ≡ true
+    count-not : (m ≡ countOf (bytesAt t (from + 1) m) + 5 → ⊥) → isRecord (slice from to t) ≡ false
+    count-not n = not-so _ (λ r. n (sym (bytes-length t (from + 1) m) ∙ (rw record-at at (record-fields (slice from to t) r .1 .1))))
+
+    is-record : getD t from 0 ≡ 0x3A → allBytes (bytesAt t (from + 1) m) ≡ true → m ≡ countOf (bytesAt t (from + 1) m) + 5 → isRecord (slice from to t) ≡ true
     unfolding isRecord
-    is-record e c a =
-        simp (
-          eq-eqb _ 0x3A (line-colon (omega arith) ∙ c),
-          record-at,
-          a,
-          eq-eqb _ _ (bytes-length t (from + 1) (n + 5) ∙ ap (λ (m : ℕ). m + 5) (e ∙ sym (record-countOf (omega arith)) ∙ ap countOf record-at)),
-        )
+    is-record c a e = simp (eq-eqb _ 0x3A (line-colon (omega arith) ∙ c), record-at, a, eq-eqb _ _ (bytes-length t (from + 1) m ∙ e))
 
 -- WHAT A LINE SAYS, CASE BY CASE
 
@@ -263,69 +226,61 @@ module _ (base size : ℕ) (s : State) (line : List ℕ) where
     unfolding foundOf
     found-typed r z = rw (o, spelled-whole line r, eq-eqb (total (spelledBy line) % 256) 0 z)
 
--- a record's type, by the bytes at its positions
-module _ (base size upper last : ℕ) (t : List ℕ) (p : ℕ) {n h l k : ℕ}
-    (en : n ≡ byteAt t p) (eh : h ≡ byteAt t (p + 2)) (el : l ≡ byteAt t (p + 4)) (ek : k ≡ byteAt t (p + 6)) where
-  n-is : countOf (bytesAt t p (byteAt t p + 5)) ≡ n
-  n-is = let e : p + 2 * 0 ≡ p = omega arith in bytes-get t p (byteAt t p + 5) 0 (omega arith) ∙ ap (byteAt t) e ∙ sym en
+-- a record's type, case by case
+module _ (base size upper last : ℕ) (r : List ℕ) (counted : countOf r + 5 ≤ length r) {a : ℕ} (read : a ≡ numberAt 2 r 1) where
+  ea : a ≡ addressOf r
+  ea = read ∙ number-two r 1 (omega arith)
 
-  a-is : addressOf (bytesAt t p (byteAt t p + 5)) ≡ h * 256 + l
-  a-is = rw (bytes-get t p (byteAt t p + 5) 1 (omega arith), bytes-get t p (byteAt t p + 5) 2 (omega arith), eh, el)
-
-  k-is : typeOf (bytesAt t p (byteAt t p + 5)) ≡ k
-  k-is = bytes-get t p (byteAt t p + 5) 3 (omega arith) ∙ sym ek
-
-  pub typed-data : k ≡ 0 → typed base size upper last (bytesAt t p (byteAt t p + 5)) ≡ dataAt base size last (upper * 65536 + (h * 256 + l)) n
+  pub typed-data : typeOf r ≡ 0 → typed base size upper last r ≡ dataAt base size last (upper * 65536 + a) (countOf r)
   unfolding typed
-  typed-data z = simp (k-is, eq-eqb k 0 z, a-is, n-is)
+  typed-data z = simp (eq-eqb (typeOf r) 0 z, ea)
 
-  module _ (nz : k ≡ 0 → ⊥) where
-    pub typed-field : (h * 256 + l ≡ 0 → ⊥) → typed base size upper last (bytesAt t p (byteAt t p + 5)) ≡ Fault H3
+  module _ (nz : typeOf r ≡ 0 → ⊥) where
+    pub typed-field : (a ≡ 0 → ⊥) → typed base size upper last r ≡ Fault H3
     unfolding typed
-    typed-field a = simp (k-is, ne-eqb k 0 nz, a-is, ne-eqb (h * 256 + l) 0 a)
+    typed-field n = simp (ne-eqb (typeOf r) 0 nz, ne-eqb (addressOf r) 0 (λ z. n (ea ∙ z)))
 
-    module _ (az : h * 256 + l ≡ 0) where
-      pub typed-end : k ≡ 1 → n ≡ 0 → typed base size upper last (bytesAt t p (byteAt t p + 5)) ≡ End
+    module _ (az : a ≡ 0) where
+      pub typed-end : typeOf r ≡ 1 → countOf r ≡ 0 → typed base size upper last r ≡ End
       unfolding typed
-      typed-end e f = simp (k-is, ne-eqb k 0 nz, a-is, eq-eqb (h * 256 + l) 0 az, n-is, eq-eqb k 1 e, eq-eqb n 0 f)
+      typed-end e f = simp (ne-eqb (typeOf r) 0 nz, eq-eqb (addressOf r) 0 (sym ea ∙ az), eq-eqb (typeOf r) 1 e, eq-eqb (countOf r) 0 f)
 
-      pub typed-upper : k ≡ 4 → n ≡ 2 → typed base size upper last (bytesAt t p (byteAt t p + 5)) ≡ Upper (byteAt t (p + 8) * 256 + byteAt t (p + 10))
+      pub typed-upper : {u : ℕ} → u ≡ numberAt 2 r 4 → typeOf r ≡ 4 → countOf r ≡ 2 → typed base size upper last r ≡ Upper u
       unfolding typed
-      typed-upper e f =
+      typed-upper high e f =
           simp (
-            k-is,
-            ne-eqb k 0 nz,
-            a-is,
-            eq-eqb (h * 256 + l) 0 az,
-            n-is,
-            not-both k 1 n 0 (λ x y. omega arith),
-            eq-eqb k 4 e,
-            eq-eqb n 2 f,
-            bytes-get t p (byteAt t p + 5) 4 (omega arith),
-            bytes-get t p (byteAt t p + 5) 5 (omega arith),
+            ne-eqb (typeOf r) 0 nz,
+            eq-eqb (addressOf r) 0 (sym ea ∙ az),
+            not-both (typeOf r) 1 (countOf r) 0 (λ x y. omega arith),
+            eq-eqb (typeOf r) 4 e,
+            eq-eqb (countOf r) 2 f,
+            high ∙ number-two r 4 (omega arith),
           )
 
-      pub typed-other : k ≡ 5 → n ≡ 4 → typed base size upper last (bytesAt t p (byteAt t p + 5)) ≡ Other
+      pub typed-other : typeOf r ≡ 5 → countOf r ≡ 4 → typed base size upper last r ≡ Other
       unfolding typed
       typed-other e f =
           simp (
-            k-is,
-            ne-eqb k 0 nz,
-            a-is,
-            eq-eqb (h * 256 + l) 0 az,
-            n-is,
-            not-both k 1 n 0 (λ x y. omega arith),
-            not-both k 4 n 2 (λ x y. omega arith),
-            eq-eqb k 5 e,
-            eq-eqb n 4 f,
+            ne-eqb (typeOf r) 0 nz,
+            eq-eqb (addressOf r) 0 (sym ea ∙ az),
+            not-both (typeOf r) 1 (countOf r) 0 (λ x y. omega arith),
+            not-both (typeOf r) 4 (countOf r) 2 (λ x y. omega arith),
+            eq-eqb (typeOf r) 5 e,
+            eq-eqb (countOf r) 4 f,
           )
 
       pub typed-bad :
-          (k ≡ 1 → n ≡ 0 → ⊥) → (k ≡ 4 → n ≡ 2 → ⊥) → (k ≡ 5 → n ≡ 4 → ⊥)
-          → typed base size upper last (bytesAt t p (byteAt t p + 5)) ≡ Fault H3
+          (typeOf r ≡ 1 → countOf r ≡ 0 → ⊥) → (typeOf r ≡ 4 → countOf r ≡ 2 → ⊥) → (typeOf r ≡ 5 → countOf r ≡ 4 → ⊥)
+          → typed base size upper last r ≡ Fault H3
       unfolding typed
       typed-bad x y z =
-          simp (k-is, ne-eqb k 0 nz, a-is, eq-eqb (h * 256 + l) 0 az, n-is, not-both k 1 n 0 x, not-both k 4 n 2 y, not-both k 5 n 4 z)
+          simp (
+            ne-eqb (typeOf r) 0 nz,
+            eq-eqb (addressOf r) 0 (sym ea ∙ az),
+            not-both (typeOf r) 1 (countOf r) 0 x,
+            not-both (typeOf r) 4 (countOf r) 2 y,
+            not-both (typeOf r) 5 (countOf r) 4 z,
+          )
 
 in-bank : (base size start n : ℕ) → inBank base size start n ≡ true → (base ≤ start) × (start + n ≤ base + size)
 unfolding inBank
@@ -343,7 +298,7 @@ module _ (P : Found → Type 0) (faulty : (k : Kind) → P (Fault k)) (other : P
       (λ y. split P (leb last start) (λ z. f (in-bank base size start n y .0) (in-bank base size start n y .1) (leb-true last start z)) (λ z. faulty H5))
       (λ y. faulty H4))
 
-  pub typed-by :
+  typed-by :
       (upper : ℕ) (r : List ℕ) → P End → P (Upper (getD r 4 0 * 256 + getD r 5 0))
       → ((start : ℕ) → base ≤ start → start + countOf r ≤ base + size → last ≤ start → P (Data start (countOf r))) → P (typed base size upper last r)
   unfolding typed
@@ -355,29 +310,153 @@ module _ (P : Found → Type 0) (faulty : (k : Kind) → P (Fault k)) (other : P
       (λ u. split P (eqb (typeOf r) 5 && eqb (countOf r) 4) (λ v. other) (λ v. faulty H3))))
       (λ y. faulty H3))
 
--- what the record of a line lets the caller do
-module _ (t : List ℕ) (from to base size upper last n : ℕ) (r : List ℕ)
-    (k : to ≤ length t) (len : to - from ≡ 11 + 2 * n) (o : from ≤ to) (is : r ≡ bytesAt t (from + 1) (n + 5)) (all : allBytes r ≡ true) (c : countOf r ≡ n) where
-  data-is : dataOf (countOf r) r ≡ bytesAt t (from + 9) (countOf r)
-  data-is =
-      let e : n + 5 ≡ 4 + (n + 1) = omega arith in
-      let f : from + 1 + 2 * 4 ≡ from + 9 = omega arith in
-      rw (c, is, e, bytes-drop t (from + 1) 4 (n + 1), f) (bytes-take t (from + 9) n 1)
+-- WHAT DATA AND AN UPPER HALF TELL OF THE LINE THAT SAYS THEM
 
-  pub typed-fits : FoundFits t from to base size (typed base size upper last r)
-  typed-fits =
-      typed-by (FoundFits t from to base size) (λ f. tt) tt base size last upper r tt
-      (rw is (let a = bytes-small t (from + 1) (n + 5) 4 in let b = bytes-small t (from + 1) (n + 5) 5 in omega arith))
-      (λ start low high after. (
-        low,
-        (
-          high,
-          (
-            omega arith,
-            (
-              rw data-is at (all-take (countOf r) (drop 4 r) (all-drop 4 r all)),
-              ap (dataOf (countOf r)) (record-at t from to k n len ∙ sym is) ∙ data-is,
-            ),
-          ),
-        ),
-      ))
+pub record DataIn (base size last : ℕ) (line : List ℕ) (start n : ℕ) : Type 0 where
+  pub low : base ≤ start
+  pub high : start + n ≤ base + size
+  pub after : last ≤ start
+  pub whole : length (dataOf n (spelledBy line)) ≡ n
+
+abbrev Told : ℕ → ℕ → ℕ → List ℕ → Found → Type 0
+Told base size last line (Fault k) = Unit {0}
+Told base size last line (Data start n) = DataIn base size last line start n
+Told base size last line (Upper u) = u < 65536
+Told base size last line End = Unit {0}
+Told base size last line Other = Unit {0}
+
+told-typed :
+    (base size upper last : ℕ) (line : List ℕ) → allBytes (spelledBy line) ≡ true → length (spelledBy line) ≡ countOf (spelledBy line) + 5
+    → Told base size last line (typed base size upper last (spelledBy line))
+told-typed base size upper last line all w =
+    typed-by (Told base size last line) (λ k. tt) tt base size last upper (spelledBy line) tt
+    (let a = all-small (spelledBy line) all 4 in let b = all-small (spelledBy line) all 5 in omega arith)
+    (λ start low high after. record { low = low; high = high; after = after; whole = simp (length-take, length-drop) (omega arith) })
+
+told : (base size : ℕ) (s : State) (line : List ℕ) → Told base size (s .last) line (foundOf base size s line)
+told base size s line = by (s .over) refl
+  where
+    sum : s .over ≡ false → isRecord line ≡ true → (b : Bool) → eqb (total (spelledBy line) % 256) 0 ≡ b → Told base size (s .last) line (foundOf base size s line)
+    sum o q false e = rw (found-2 base size s line o q (eqb-false _ 0 e)) tt
+    sum o q true e = rw (found-typed base size s line o q (eqb-true _ 0 e)) (told-typed base size (s .upper) (s .last) line (record-fields line q .1 .0) (record-fields line q .1 .1))
+
+    spelt : s .over ≡ false → (b : Bool) → isRecord line ≡ b → Told base size (s .last) line (foundOf base size s line)
+    spelt o false q = rw (found-1 base size s line o q) tt
+    spelt o true q = sum o q (eqb (total (spelledBy line) % 256) 0) refl
+
+    by : (b : Bool) → s .over ≡ b → Told base size (s .last) line (foundOf base size s line)
+    by true o = rw (found-over base size s line o) tt
+    by false o = spelt o (isRecord line) refl
+
+pub data-in : (base size : ℕ) (s : State) (line : List ℕ) (start n : ℕ) → foundOf base size s line ≡ Data start n → DataIn base size (s .last) line start n
+data-in base size s line start n e = rw e at (told base size s line)
+
+pub upper-in : (base size : ℕ) (s : State) (line : List ℕ) (u : ℕ) → foundOf base size s line ≡ Upper u → u < 65536
+upper-in base size s line u e = rw e at (told base size s line)
+
+-- WHAT WAS LOOKED AT, CASE BY CASE
+
+-- the bytes of a record at the front of what the code holds
+module _ (t : List ℕ) (p m : ℕ) {held : List ℕ} (before : List ℕ) (room : m ≤ length before) (put : held ≡ sets before 0 (bytesAt t p m)) where
+  held-is : held ≡ bytesAt t p m ++ drop m before
+  held-is = let l = bytes-length t p m in put ∙ sets-eq (bytesAt t p m) before 0 (omega arith) ∙ rw (zero-add, l)
+
+  front-is : take m held ≡ bytesAt t p m
+  front-is = rw held-is (take-at (bytesAt t p m) _ m (bytes-length t p m))
+
+  front-count : 0 < m → countOf held ≡ countOf (bytesAt t p m)
+  front-count h = let l = bytes-length t p m in rw held-is (List·getD-append (bytesAt t p m) (drop m before) 0 0 (omega arith))
+
+  front-data : (n : ℕ) → 4 ≤ m → length (dataOf n (bytesAt t p m)) ≡ n → dataOf n held ≡ dataOf n (bytesAt t p m)
+  front-data n h w =
+      let l = bytes-length t p m in
+      let w' = simp (length-take, length-drop) at w in
+      rw (held-is, drop-append-le 4 (bytesAt t p m) (drop m before) (omega arith))
+      (take-append-le n (drop 4 (bytesAt t p m)) (drop m before) (simp length-drop (omega arith)))
+
+-- how many pairs of digits a line of odd length has behind its colon
+abbrev pairs : ℕ → ℕ → ℕ
+pairs from to = (to - from) / 2
+
+module _ (t : List ℕ) (from to : ℕ) (k : to ≤ length t) (base size : ℕ) (s : State) (held : List ℕ) where
+  looked-fault : (f : Kind) → foundOf base size s (slice from to t) ≡ Fault f → Looked t from to base size s held (Fault f)
+  looked-fault f e = record { is = sym e; holds = λ start n z. no-way (cc) }
+
+  pub looked-over : s .over ≡ true → Looked t from to base size s held (Fault H6)
+  looked-over o = looked-fault H6 (found-over base size s (slice from to t) o)
+
+  module _ (o : s .over ≡ false) where
+    looked-1 : isRecord (slice from to t) ≡ false → Looked t from to base size s held (Fault H1)
+    looked-1 r = looked-fault H1 (found-1 base size s (slice from to t) o r)
+
+    pub looked-short : to - from < 11 → Looked t from to base size s held (Fault H1)
+    looked-short h = looked-1 (length-not t from to k (λ n l e. omega arith))
+
+    pub looked-long : 521 < to - from → Looked t from to base size s held (Fault H1)
+    looked-long h = looked-1 (length-not t from to k (λ n l e. omega arith))
+
+    pub looked-even : (to - from) % 2 ≡ 0 → Looked t from to base size s held (Fault H1)
+    looked-even h = looked-1 (length-not t from to k (λ n l e. omega arith))
+
+    module _ (short : 11 ≤ to - from) where
+      pub looked-colon : (getD t from 0 ≡ 0x3A → ⊥) → Looked t from to base size s held (Fault H1)
+      looked-colon n = looked-1 (colon-not t from to k (omega arith) n)
+
+      module _ (odd : (to - from) % 2 ≡ 0 → ⊥) {sum : ℕ} (added : sum ≡ checkFrom 0 (bytesAt t (from + 1) (pairs from to))) where
+        record-is : spelledBy (slice from to t) ≡ bytesAt t (from + 1) (pairs from to)
+        record-is = record-at t from to k (pairs from to) (omega arith)
+
+        pub looked-bytes : sum ≡ 256 → Looked t from to base size s held (Fault H1)
+        looked-bytes z = looked-1 (bytes-not t from to k (pairs from to) (omega arith) (sum-bad _ (sym added ∙ z)))
+
+        module _
+            (g : sum ≡ 256 → ⊥) (long : to - from ≤ 521) (before : List ℕ) (wide : 260 ≤ length before)
+            (put : held ≡ sets before 0 (bytesAt t (from + 1) (pairs from to))) {n : ℕ} (e : n ≡ countOf held) where
+          room : pairs from to ≤ length before
+          room = omega arith
+
+          count-is : n ≡ countOf (bytesAt t (from + 1) (pairs from to))
+          count-is = e ∙ front-count t (from + 1) (pairs from to) before room put (omega arith)
+
+          pub looked-count : (pairs from to ≡ n + 5 → ⊥) → Looked t from to base size s held (Fault H1)
+          looked-count d = looked-1 (count-not t from to k (pairs from to) (omega arith) (λ z. d (z ∙ ap (λ (c : ℕ). c + 5) (sym count-is))))
+
+          module _ (colon : getD t from 0 ≡ 0x3A) (fit : pairs from to ≡ n + 5) where
+            good : (allBytes (spelledBy (slice from to t)) ≡ true) × (checkFrom 0 (spelledBy (slice from to t)) ≡ total (spelledBy (slice from to t)) % 256)
+            good = sum-good (spelledBy (slice from to t)) (λ z. g (added ∙ (rw record-is at z)))
+
+            whole : isRecord (slice from to t) ≡ true
+            whole = is-record t from to k (pairs from to) (omega arith) colon (rw record-is at (good .0)) (fit ∙ ap (λ (c : ℕ). c + 5) count-is)
+
+            added-is : sum ≡ total (spelledBy (slice from to t)) % 256
+            added-is = added ∙ sym (ap (checkFrom 0) record-is) ∙ good .1
+
+            pub looked-sum : (sum ≡ 0 → ⊥) → Looked t from to base size s held (Fault H2)
+            looked-sum h = looked-fault H2 (found-2 base size s (slice from to t) o whole (λ z. h (added-is ∙ z)))
+
+            pub looked-counted : countOf (take (pairs from to) held) + 5 ≤ length (take (pairs from to) held)
+            looked-counted =
+                let l = bytes-length t (from + 1) (pairs from to) in
+                let c = count-is in
+                rw (front-is t (from + 1) (pairs from to) before room put) (omega arith)
+
+            pub looked-typed :
+                {r : Found} → sum ≡ 0 → r ≡ typed base size (s .upper) (s .last) (take (pairs from to) held) → Looked t from to base size s held r
+            looked-typed z q =
+                let f = q ∙ ap (typed base size (s .upper) (s .last)) (front-is t (from + 1) (pairs from to) before room put ∙ sym record-is) ∙ sym (found-typed base size s (slice from to t) o whole (sym added-is ∙ z)) in
+                record {
+                  is = f;
+                  holds =
+                      λ start n h.
+                      rw record-is
+                      (front-data t (from + 1) (pairs from to) before room put n (omega arith)
+                      (rw record-is at (data-in base size s (slice from to t) start n (sym f ∙ h) .whole)));
+                }
+
+-- data that were found: where they belong, and that they lie within the record
+module _ {t : List ℕ} {from to base size : ℕ} {s : State} {held : List ℕ} {start n : ℕ} (l : Looked t from to base size s held (Data start n)) where
+  pub looked-in : DataIn base size (s .last) (slice from to t) start n
+  looked-in = data-in base size s (slice from to t) start n (sym (l .is))
+
+  pub data-held : 4 ≤ length held → 4 + n ≤ length held
+  data-held h = let e = ap length (l .holds start n refl) ∙ looked-in .whole in omega (arith, simp (length-take, length-drop) at e)

@@ -5,9 +5,13 @@ use mathlib.Core.List.{List, [], _∷_}
 use mathlib.Core.Bool.{Bool, true, false, cond}
 use Prim.Native.Nat.{ℕ, _+_, _-_, _*_, _<_, _≤_}
 use native.Mathlib.Omega.{arith}
-use lib.ListN.{length, drop, replicate, length-replicate}
-use lib.Seq.{slice, sets}
+use lib.ListN.{length, take, drop, replicate, length-replicate}
+use lib.Seq.{slice, sets-eq}
 use borrow.Author.Tests.{eq-eqb, ne-eqb}
+use Rattle.buffer.proofs.Bools.{no-way}
+use Rattle.buffer.specs.Place.{placeOf}
+use Rattle.buffer.proofs.Parts.{part-out}
+use Rattle.buffer.proofs.Places.{place-fits}
 use Rattle.bank.specs.declared.layout.Bank.{Bank}
 use Rattle.bank.specs.Layout.{goodN, startOf, sectorSize}
 use Rattle.hex.specs.declared.fault.Kind.{Kind}
@@ -24,8 +28,9 @@ use Rattle.hex.specs.Digit.{bytesOf}
 use Rattle.hex.specs.Line.{lines}
 use Rattle.hex.specs.Record.{dataOf, foundOf}
 use Rattle.hex.specs.Read.{stateAfter, imageAfter, Done, refused, goes, readLines, finishOf, fresh, answered, readOf, Read·Is}
-use Rattle.hex.specs.Places.{LineAt, stepOf, Took, Came}
+use Rattle.hex.specs.Places.{LineAt, Looked, stepOf, Took, Came}
 use Rattle.hex.proofs.Lines.{lines-here, lines-none}
+use Rattle.hex.proofs.Records.{upper-in, looked-in}
 
 abbrev pub outcome-of : Done → Outcome
 outcome-of d = d .outcome
@@ -33,35 +38,45 @@ outcome-of d = d .outcome
 abbrev image-of : Done → List ℕ
 image-of d = d .image
 
-no-way : {A : Type 0} → _≡_ {A = ℕ} 0 1 → A
-no-way z = absurd (omega arith)
-
 -- A LINE TAKEN, by what it says
 
-module _ (base : ℕ) (line : List ℕ) (s : State) (image : List ℕ) where
-  abbrev says : Found
-  says = foundOf base (length image) s line
-
-  pub took-fault : (k : Kind) → says ≡ Fault k → Took base s line image image (Stop k)
-  took-fault k e = record { is = rw e; image = rw e; fits = tt }
+module _ {t : List ℕ} {from to base : ℕ} {s : State} {image held : List ℕ} where
+  pub took-fault : {k : Kind} → Looked t from to base (length image) s held (Fault k) → Took base s (slice from to t) image image (Stop k)
+  took-fault l = record { is = rw (sym (l .is)); image = rw (sym (l .is)) }
 
   pub took-data :
-      (start n : ℕ) {after : List ℕ} → says ≡ Data start n → after ≡ sets image (start - base) (dataOf n (bytesOf (drop 1 line))) → s .upper ≤ 65792
-      → Took base s line image after (On (record { upper = s .upper; last = start + n; over = s .over }))
-  took-data start n e i u = record { is = rw e; image = rw e i; fits = u }
+      {start n : ℕ} {after : List ℕ} → Looked t from to base (length image) s held (Data start n)
+      → after ≡ placeOf image (start - base) (take (4 + n - 4) (drop 4 held))
+      → Took base s (slice from to t) image after (On (record { upper = s .upper; last = start + n; over = s .over }))
+  took-data {start} {n} l e =
+      let d = looked-in l in
+      let fits : start - base + length (dataOf n (bytesOf (drop 1 (slice from to t)))) ≤ length image = omega (arith, d .low, d .high, d .whole) in
+      let i = rw (part-out held 4 n, l .holds start n refl) at e in
+      record { is = rw (sym (l .is)); image = rw (sym (l .is)) (i ∙ place-fits image (start - base) _ fits ∙ sym (sets-eq _ image (start - base) fits)) }
 
   pub took-upper :
-      (x : ℕ) → says ≡ Upper x → x ≤ 65792
-      → Took base s line image image (On (record { upper = x; last = s .last; over = s .over }))
-  took-upper x e u = record { is = rw e; image = rw e; fits = u }
+      {u : ℕ} → Looked t from to base (length image) s held (Upper u)
+      → Took base s (slice from to t) image image (On (record { upper = u; last = s .last; over = s .over }))
+  took-upper l = record { is = rw (sym (l .is)); image = rw (sym (l .is)) }
 
   pub took-end :
-      says ≡ End → s .upper ≤ 65792
-      → Took base s line image image (On (record { upper = s .upper; last = s .last; over = true }))
-  took-end e u = record { is = rw e; image = rw e; fits = u }
+      Looked t from to base (length image) s held End
+      → Took base s (slice from to t) image image (On (record { upper = s .upper; last = s .last; over = true }))
+  took-end l = record { is = rw (sym (l .is)); image = rw (sym (l .is)) }
 
-  pub took-other : says ≡ Other → s .upper ≤ 65792 → Took base s line image image (On s)
-  took-other e u = record { is = rw e; image = rw e; fits = u }
+  pub took-other : Looked t from to base (length image) s held Other → Took base s (slice from to t) image image (On s)
+  took-other l = record { is = rw (sym (l .is)); image = rw (sym (l .is)) }
+
+-- the upper half stays two bytes
+pub step-upper : (base size : ℕ) (s q : State) (line : List ℕ) → s .upper < 65536 → stepOf (foundOf base size s line) s ≡ On q → q .upper < 65536
+step-upper base size s q line u e = by (foundOf base size s line) refl e
+  where
+    by : (d : Found) → foundOf base size s line ≡ d → stepOf d s ≡ On q → q .upper < 65536
+    by (Fault k) f z = no-way (cc)
+    by (Data start n) f z = let g : stateAfter (Data start n) s ≡ q = cc in rw (sym g) u
+    by (Upper x) f z = let g : stateAfter (Upper x) s ≡ q = cc in rw (sym g) (upper-in base size s line x f)
+    by End f z = let g : stateAfter End s ≡ q = cc in rw (sym g) u
+    by Other f z = let g : s ≡ q = cc in rw (sym g) u
 
 -- LINE AFTER LINE
 
@@ -98,11 +113,11 @@ module _ (base size : ℕ) (s : State) (k : ℕ) (image : List ℕ) where
     unfolding readLines
     read-stop x e = rw (lines-here t at end next h line) (go-stop _ x (foundOf base size s (slice at end t)) e)
 
-  pub read-accepts : (t : List ℕ) (at : ℕ) → length t ≤ at → s .over ≡ true → readLines base size s k image (lines (drop at t)) ≡ record { outcome = Through; image = image }
+  read-accepts : (t : List ℕ) (at : ℕ) → length t ≤ at → s .over ≡ true → readLines base size s k image (lines (drop at t)) ≡ record { outcome = Through; image = image }
   unfolding readLines
   read-accepts t at h o = rw (lines-none t at h) (simp o)
 
-  pub read-ends : (t : List ℕ) (at : ℕ) → length t ≤ at → s .over ≡ false → readLines base size s k image (lines (drop at t)) ≡ refused size H6 k
+  read-ends : (t : List ℕ) (at : ℕ) → length t ≤ at → s .over ≡ false → readLines base size s k image (lines (drop at t)) ≡ refused size H6 k
   unfolding readLines
   read-ends t at h o = rw (lines-none t at h) (simp o)
 

@@ -1,12 +1,12 @@
 -- The same by positions in the text, as the code goes; proofs/ ties these to the lines and their records.
 -- Assumes nothing.
-use Prim.Native.Nat.{ℕ, zero, suc, _+_, _*_, _%_, _≤_, _<_}
+use Prim.Native.Nat.{ℕ, zero, suc, _+_, _%_, _≤_, _<_}
 use mathlib.Core.Path.{_≡_}
 use mathlib.Core.List.{List, [], _∷_}
 use mathlib.Core.Bool.{Bool, true, _&&_, cond}
 use denote.Ref.{RefT}
 use lib.ListN.{length, getD, drop}
-use lib.Seq.{slice}
+use lib.Seq.{sets, slice}
 use lib.Dec.{eqb, leb, ltb}
 use Rattle.hex.specs.declared.record.State.{State}
 use Rattle.hex.specs.declared.record.Found.{Found}
@@ -18,7 +18,7 @@ use Rattle.hex.specs.declared.read.Outcome.{Outcome}
 use Rattle.hex.specs.declared.read.Outcome.the-variants.{Stopped, Through}
 use Rattle.hex.specs.declared.read.Step.{Step}
 use Rattle.hex.specs.declared.read.Step.the-variants.{Stop, On}
-use Rattle.hex.specs.Digit.{digitOf, isDigit, byteOf, bytesOf}
+use Rattle.hex.specs.Digit.{isDigit, byteOf, bytesOf}
 use Rattle.hex.specs.Line.{lfNext}
 use Rattle.hex.specs.Record.{total, dataOf, foundOf}
 use Rattle.hex.specs.Read.{stateAfter, imageAfter, Done}
@@ -74,20 +74,17 @@ pub record Reader·Is (text : RefT (List ℕ)) (at : ℕ) (r : LineReader) : Typ
 abbrev pub Next·Is : LineReader → Ahead → Type 0
 Next·Is reader r = r ≡ aheadAt (reader .text .now) (reader .at)
 
--- DIGITS. Whether two stand at i, the byte that they spell, and what the code makes of them where they are none
+-- DIGITS. Whether two stand at i, and the byte that they spell
 abbrev pub pairAt : List ℕ → ℕ → Bool
 pairAt t i = isDigit (getD t i 0) && isDigit (getD t (i + 1) 0)
 
-abbrev pub byteAt : List ℕ → ℕ → ℕ
-byteAt t i = byteOf (getD t i 0) (getD t (i + 1) 0)
-
-abbrev pub valueAt : List ℕ → ℕ → ℕ
-valueAt t i = digitOf (getD t i 0) % 16 * 16 + digitOf (getD t (i + 1) 0) % 16
+abbrev pub pairByte : List ℕ → ℕ → ℕ
+pairByte t i = byteOf (getD t i 0) (getD t (i + 1) 0)
 
 -- what k pairs of digits from p on spell
 unfoldable pub bytesAt : List ℕ → ℕ → ℕ → List ℕ
 bytesAt t p zero = []
-bytesAt t p (suc k) = byteAt t p ∷ bytesAt t (p + 2) k
+bytesAt t p (suc k) = pairByte t p ∷ bytesAt t (p + 2) k
 
 unfoldable pub allBytes : List ℕ → Bool
 allBytes [] = true
@@ -97,31 +94,22 @@ allBytes (b ∷ bs) = ltb b 256 && allBytes bs
 unfoldable pub checkFrom : ℕ → List ℕ → ℕ
 checkFrom s bs = cond (allBytes bs) ((s + total bs) % 256) 256
 
--- RECORDS. What a line that was looked at lets the caller do
-abbrev pub FoundFits : List ℕ → ℕ → ℕ → ℕ → ℕ → Found → Type 0
-FoundFits text from to base size (Fault k) = Unit
-FoundFits text from to base size (Data start n) =
-    (base ≤ start) × ((start + n ≤ base + size) × ((from + 11 + 2 * n ≡ to)
-    × ((allBytes (bytesAt text (from + 9) n) ≡ true) × (dataOf n (bytesOf (drop 1 (slice from to text))) ≡ bytesAt text (from + 9) n))))
-FoundFits text from to base size (Upper u) = u ≤ 65792
-FoundFits text from to base size End = Unit
-FoundFits text from to base size Other = Unit
+-- their sum, and the bytes at the front of a record where all are bytes
+pub record SpelledAt (text : List ℕ) (at k : ℕ) (before after : List ℕ) (r : ℕ) : Type 0 where
+  pub sum : r ≡ checkFrom 0 (bytesAt text at k)
+  pub bytes : (r ≡ 256 → ⊥) → after ≡ sets before 0 (bytesAt text at k)
 
-pub record Looked (text : List ℕ) (from to base size : ℕ) (s : State) (r : Found) : Type 0 where
+-- RECORDS. What a line says; where it has data, they lie in the record
+pub record Looked (text : List ℕ) (from to base size : ℕ) (s : State) (held : List ℕ) (r : Found) : Type 0 where
   pub is : r ≡ foundOf base size s (slice from to text)
-  pub fits : FoundFits text from to base size r
+  pub holds : (start n : ℕ) → r ≡ Data start n → dataOf n held ≡ dataOf n (bytesOf (drop 1 (slice from to text)))
 
 pub record LookFits (text : List ℕ) (from to base size : ℕ) (s : State) : Type 0 where
   pub ordered : from ≤ to
   pub within : to ≤ length text
-  pub upper-small : s .upper ≤ 65792
+  pub upper-small : s .upper < 65536
   pub base-small : base < 4294967296
   pub size-small : size < 4294967296
-
-pub record StoreFits (text : List ℕ) (from n : ℕ) (image : List ℕ) (at : ℕ) : Type 0 where
-  pub text-fits : from + 2 * n ≤ length text
-  pub image-fits : at + n ≤ length image
-  pub bytes : allBytes (bytesAt text from n) ≡ true
 
 -- A LINE TAKEN
 abbrev pub stepOf : Found → State → Step
@@ -131,15 +119,9 @@ stepOf (Upper u) s = On (stateAfter (Upper u) s)
 stepOf End s = On (stateAfter End s)
 stepOf Other s = On s
 
--- a state that a step leads to keeps its upper half small
-abbrev pub StepFits : Step → Type 0
-StepFits (Stop k) = Unit
-StepFits (On s) = s .upper ≤ 65792
-
 pub record Took (base : ℕ) (s : State) (line before after : List ℕ) (r : Step) : Type 0 where
   pub is : r ≡ stepOf (foundOf base (length before) s line) s
   pub image : after ≡ imageAfter base line (foundOf base (length before) s line) before
-  pub fits : StepFits r
 
 -- what the lines come to: a refusal leaves the image unsaid
 abbrev pub outcome-is : Done → Outcome → Type 0

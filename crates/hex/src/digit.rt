@@ -1,12 +1,11 @@
-// Digits, and the bytes that they spell two by two. The tests are joined by `&`, and a loop over digits has no way out, so that
-// the compiler takes many at once.
+// Digits, and the bytes that they spell two by two. The tests are joined by `&`, so that none branches.
 ghost use mathlib.Core.Path.{_≡_};
 ghost use mathlib.Core.Bool.{true, _&&_, cond};
-ghost use Prim.Native.Nat.{_+_, _-_, _≤_, _<_};
+ghost use Prim.Native.Nat.{_+_, _-_, _<_};
 ghost use lib.Dec.{leb};
 ghost use lib.ListN.{length};
 ghost use Rattle.hex.specs.Digit.{digitOf};
-ghost use Rattle.hex.specs.Places.{pairAt, valueAt, byteAt};
+ghost use Rattle.hex.specs.Places.{pairAt, pairByte};
 
 // Stands for what is no digit.
 const NONE: u8 = 16;
@@ -49,18 +48,7 @@ pub(crate) fn pair_at(text: &[u8], at: usize) -> bool
 // The byte that two digits at `at` spell, and some byte where they are none.
 pub(crate) fn value_at(text: &[u8], at: usize) -> u8
     requires { ⌜ at + 1 < length (now text) ⌝ }
-    ensures { λ r. ⌜ (r ≡ valueAt (now (text .entry)) at) × (pairAt (now (text .entry)) at ≡ true → r ≡ byteAt (now (text .entry)) at) ⌝ }
+    ensures { λ r. ⌜ (pairAt (now (text .entry)) at ≡ true → r ≡ pairByte (now (text .entry)) at) ⌝ }
 {
     digit(text[at]) % 16 * 16 + digit(text[at + 1]) % 16
-}
-
-// The byte that the two digits at `at` spell; 256 where they are none.
-pub(crate) fn byte_at(text: &[u8], at: usize) -> usize
-    requires { ⌜ at + 1 < length (now text) ⌝ }
-    ensures { λ r. ⌜ (r ≡ byteAt (now (text .entry)) at) × (r ≤ 256) ⌝ }
-{
-    if pair_at(text, at) {
-        return wide(value_at(text, at));
-    }
-    256
 }

@@ -9,11 +9,10 @@ use bank::layout::Bank;
 ghost use mathlib.Core.Path.{_≡_};
 ghost use Prim.Native.Nat.{_<_};
 ghost use lib.ListN.{length};
-ghost use lib.Seq.{sets, slice};
+ghost use lib.Seq.{slice};
 ghost use Rattle.hex.specs.Line.{lines};
-ghost use Rattle.hex.specs.Record.{foundOf};
-ghost use Rattle.hex.specs.Read.{imageAfter, readLines, fresh, finishOf, Read·Is};
-ghost use Rattle.hex.specs.Places.{bytesAt, LookFits, StoreFits, Took, Came};
+ghost use Rattle.hex.specs.Read.{readLines, fresh, finishOf, Read·Is};
+ghost use Rattle.hex.specs.Places.{LookFits, Took, Came};
 
 // What comes back of a text.
 pub enum Answer {
@@ -37,22 +36,6 @@ pub(crate) enum Step {
     On(State),
 }
 
-// The bytes that `n` pairs of digits from `from` spell go into the image from `at` on.
-fn store(text: &[u8], from: usize, n: usize, image: &mut [u8], at: usize)
-    requires { ⌜ StoreFits (now text) from n (now image) at ⌝ }
-    ensures { λ _. ⌜ now (image .exit) ≡ sets (now (image .entry)) at (bytesAt (now (text .entry)) from n) ⌝ }
-{
-    let mut p = from;
-    let mut a = at;
-    let mut left = n;
-    while 0 < left {
-        image[a] = crate::digit::value_at(text, p);
-        p += 2;
-        a += 1;
-        left -= 1;
-    }
-}
-
 // One line: looked at, and what it says done.
 fn take_line(
     text: &[u8],
@@ -65,11 +48,12 @@ fn take_line(
     requires { ⌜ LookFits (now text) from to base (length (now image)) state ⌝ }
     ensures { λ r. ⌜ Took base state (slice from to (now (text .entry))) (now (image .entry)) (now (image .exit)) r ⌝ }
 {
-    let seen = crate::record::look(text, from, to, base, image.len(), state);
+    let mut bytes = [0u8; crate::record::LONGEST];
+    let seen = crate::record::look(text, from, to, base, image.len(), state, &mut bytes);
     match seen {
         Found::Fault(kind) => Step::Stop(kind),
         Found::Data { start, n } => {
-            store(text, from + 9, n, image, start - base);
+            buffer::place::put_at(image, start - base, &bytes[4..4 + n]);
             Step::On(State {
                 upper: state.upper,
                 last: start + n,

@@ -1,14 +1,17 @@
 // The record of a line, and what it says.
-use crate::digit::byte_at;
 use crate::digit::pair_at;
 use crate::digit::value_at;
 use crate::digit::wide;
 use crate::fault::Kind;
+use buffer::number::number2;
 ghost use mathlib.Core.Path.{_≡_};
 ghost use Prim.Native.Nat.{_+_, _*_, _<_, _≤_};
 ghost use lib.ListN.{length};
-ghost use Rattle.hex.specs.Record.{dataAt, typed};
-ghost use Rattle.hex.specs.Places.{byteAt, bytesAt, checkFrom, LookFits, Looked};
+ghost use Rattle.hex.specs.Record.{countOf, dataAt, typed};
+ghost use Rattle.hex.specs.Places.{SpelledAt, LookFits, Looked};
+
+// As many bytes as a record has at most: a count of 255, and 5 beside the data.
+pub(crate) const LONGEST: usize = 260;
 
 // Where the reading stands: the upper half of addresses, the end of earlier data, whether the end record was seen.
 pub struct State {
@@ -26,21 +29,25 @@ pub enum Found {
     Other,
 }
 
-// The sum, modulo 256, of the bytes that `k` pairs of digits from `at` spell; 256 where one is no byte.
-fn sum_at(text: &[u8], at: usize, k: usize) -> usize
-    requires { ⌜ (at + 2 * k ≤ length (now text)) × (k ≤ 261) ⌝ }
-    ensures { λ r. ⌜ r ≡ checkFrom 0 (bytesAt (now (text .entry)) at k) ⌝ }
+// What `k` pairs of digits from `at` on spell, to the front of `bytes`, and their sum modulo 256; 256 where one pair is no byte.
+// The loop has no way out, so that the compiler takes many at once.
+fn spell(text: &[u8], at: usize, k: usize, bytes: &mut [u8]) -> usize
+    requires { ⌜ (at + 2 * k ≤ length (now text)) × (k ≤ length (now bytes)) ⌝ }
+    ensures { λ r. ⌜ SpelledAt (now (text .entry)) at k (now (bytes .entry)) (now (bytes .exit)) r ⌝ }
 {
     let mut sum: u8 = 0;
     let mut good = true;
     let mut p = at;
+    let mut j = 0;
     let mut left = k;
     while 0 < left {
         let g = pair_at(text, p);
         let b = value_at(text, p);
+        bytes[j] = b;
         good = good & g;
         sum = std::num::wrapping_add_u8(sum, b);
         p += 2;
+        j += 1;
         left -= 1;
     }
     if good {
@@ -69,18 +76,22 @@ fn data_at(base: usize, size: usize, last: usize, start: usize, n: usize) -> Fou
     Found::Data { start, n }
 }
 
-// What the record says whose digits start at `p`.
-fn typed_at(text: &[u8], p: usize, base: usize, size: usize, state: State) -> Found
-    requires { ⌜ (p + 2 * (byteAt (now text) p + 5) ≤ length (now text)) × ((state .upper ≤ 65792) × ((base < 4294967296) × (size < 4294967296))) ⌝ }
-    ensures { λ r. ⌜ r ≡ typed base size (state .upper) (state .last) (bytesAt (now (text .entry)) p (byteAt (now (text .entry)) p + 5)) ⌝ }
+// What a record of these bytes says.
+fn typed_at(bytes: &[u8], base: usize, size: usize, state: State) -> Found
+    requires { ⌜ (countOf (now bytes) + 5 ≤ length (now bytes)) × ((state .upper < 65536) × ((base < 4294967296) × (size < 4294967296))) ⌝ }
+    ensures { λ r. ⌜ r ≡ typed base size (state .upper) (state .last) (now (bytes .entry)) ⌝ }
 {
-    let n = byte_at(text, p);
-    let high = byte_at(text, p + 2);
-    let low = byte_at(text, p + 4);
-    let kind = byte_at(text, p + 6);
-    let address = high * 256 + low;
+    let n = bytes[0];
+    let address = number2(bytes, 1) as usize;
+    let kind = bytes[3];
     if kind == 0 {
-        return data_at(base, size, state.last, state.upper * 65536 + address, n);
+        return data_at(
+            base,
+            size,
+            state.last,
+            state.upper * 65536 + address,
+            wide(n),
+        );
     }
     if address != 0 {
         return Found::Fault(Kind::H3);
@@ -93,9 +104,7 @@ fn typed_at(text: &[u8], p: usize, base: usize, size: usize, state: State) -> Fo
     }
     if kind == 4 {
         if n == 2 {
-            let first = byte_at(text, p + 8);
-            let second = byte_at(text, p + 10);
-            return Found::Upper(first * 256 + second);
+            return Found::Upper(number2(bytes, 4) as usize);
         }
         return Found::Fault(Kind::H3);
     }
@@ -107,7 +116,7 @@ fn typed_at(text: &[u8], p: usize, base: usize, size: usize, state: State) -> Fo
     Found::Fault(Kind::H3)
 }
 
-// What the line from `from` to `to` says.
+// What the line from `from` to `to` says; its record's bytes go to the front of `bytes`.
 pub(crate) fn look(
     text: &[u8],
     from: usize,
@@ -115,9 +124,10 @@ pub(crate) fn look(
     base: usize,
     size: usize,
     state: State,
+    bytes: &mut [u8],
 ) -> Found
-    requires { ⌜ LookFits (now text) from to base size state ⌝ }
-    ensures { λ r. ⌜ Looked (now (text .entry)) from to base size state r ⌝ }
+    requires { ⌜ LookFits (now text) from to base size state × (260 ≤ length (now bytes)) ⌝ }
+    ensures { λ r. ⌜ Looked (now (text .entry)) from to base size state (now (bytes .exit)) r ⌝ }
 {
     if state.over {
         return Found::Fault(Kind::H6);
@@ -126,20 +136,25 @@ pub(crate) fn look(
     if len < 11 {
         return Found::Fault(Kind::H1);
     }
+    if 2 * LONGEST + 1 < len {
+        return Found::Fault(Kind::H1);
+    }
+    if len % 2 == 0 {
+        return Found::Fault(Kind::H1);
+    }
     if text[from] != b':' {
         return Found::Fault(Kind::H1);
     }
-    let p = from + 1;
-    let n = byte_at(text, p);
-    if len != 11 + 2 * n {
+    let k = len / 2;
+    let sum = spell(text, from + 1, k, bytes);
+    if sum == 256 {
         return Found::Fault(Kind::H1);
     }
-    let sum = sum_at(text, p, n + 5);
-    if sum == 256 {
+    if k != wide(bytes[0]) + 5 {
         return Found::Fault(Kind::H1);
     }
     if sum != 0 {
         return Found::Fault(Kind::H2);
     }
-    typed_at(text, p, base, size, state)
+    typed_at(&bytes[..k], base, size, state)
 }

@@ -10,14 +10,7 @@ ghost use Rattle.hex_c.specs.Code.{Code·Is};
 fn code_of(kind: Kind) -> usize
     ensures { λ r. ⌜ r ≡ 10 + kindNumber kind ⌝ }
 {
-    match kind {
-        Kind::H1 => 11,
-        Kind::H2 => 12,
-        Kind::H3 => 13,
-        Kind::H4 => 14,
-        Kind::H5 => 15,
-        Kind::H6 => 16,
-    }
+    10 + hex::fault::kind_number(kind) as usize
 }
 
 // For bank 0, with the answer as one number.

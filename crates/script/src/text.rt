@@ -33,6 +33,15 @@ pub fn rest(text: &[u8]) -> &[u8] {
     }
 }
 
+// Whether the last field is an empty one, behind a blank.
+pub fn ends_in_blank(text: &[u8]) -> bool {
+    if text.len() == 0 {
+        return false;
+    }
+    let last = text.len() - 1;
+    text[last] == b' '
+}
+
 // A hex digit's value, in either case, and 16 for any other byte.
 fn digit(byte: u8) -> u8
     ensures { λ r. ⌜ r ≤ 16 ⌝ }
@@ -77,6 +86,9 @@ pub fn number(text: &[u8], digits: usize) -> usize {
     }
     value(text, 16)
 }
+
+// Of six digits.
+pub const LARGEST_NUMBER: usize = 999_999;
 
 // A decimal number of one to so many digits.
 pub fn decimal(text: &[u8], most: usize) -> usize {

@@ -14,13 +14,12 @@ use Rattle.buffer.specs.Compare.{blankOf}
 use Rattle.buffer.specs.Place.{placeOf}
 use Rattle.buffer.proofs.Comparing.{blank-true}
 use Rattle.buffer.proofs.Places.{place-next}
-use Rattle.frame.specs.Read.{readOf}
-use Rattle.frame.specs.Read.{writtenOf as bytesIn}
+use Rattle.frame.specs.Read.{readOf, bytesIn}
 use Rattle.frame.specs.declared.read.Footer.{Footer}
 use Rattle.frame.specs.declared.read.Footer.the-variants.{End, Continued}
 use Rattle.frame.specs.declared.read.Read.the-variants.{Write}
 use Rattle.frame.proofs.RoundTrip.{write-back, write-bytes}
-use Rattle.bank.specs.Layout.{goodN, sectorOffset}
+use Rattle.bank.specs.Layout.{sectorSize, goodN, sectorOffset}
 use Rattle.bank.proofs.Layouts.{good-below}
 use Rattle.sender.specs.Packet.{sectorOf, sentOf, packetCount, packetSector, footerOf, packetFrame}
 use Rattle.sender.specs.Meaning.{putBack, restored}
@@ -83,20 +82,20 @@ used-sent image n k le b =
 
 -- ---- what a packet's bytes say
 
-module _ (image : List ℕ) (n p : ℕ) (g : goodN n ≡ true) (e : length image ≡ 512 * n) (h : p < packetCount image n) where
-  data-length : length (sectorOf image (packetSector image n p)) ≡ 512
+module _ (image : List ℕ) (n p : ℕ) (g : goodN n ≡ true) (e : length image ≡ sectorSize * n) (h : p < packetCount image n) where
+  data-length : length (sectorOf image (packetSector image n p)) ≡ sectorSize
   data-length =
       let s : Sent image n (packetSector image n p) = sent-in image n p h in
       sector-length image n g e (packetSector image n p) (s .low) (s .high)
 
-  pub packet-read : Write (packetSector image n p) 512 (footerOf (packetCount image n) p) ≡ readOf (packetFrame image n p)
+  pub packet-read : Write (packetSector image n p) sectorSize (footerOf (packetCount image n) p) ≡ readOf (packetFrame image n p)
   unfolding packetFrame
   packet-read =
       let k : ℕ = packetSector image n p in
       let f : Footer = footerOf (packetCount image n) p in
       ap (λ (m : ℕ). Write k m f) (sym data-length) ∙ write-back k (sectorOf image k) f (packet-small image n p g k h refl) (omega (arith, data-length))
 
-  pub packet-bytes : bytesIn (packetFrame image n p) 512 ≡ sectorOf image (packetSector image n p)
+  pub packet-bytes : bytesIn (packetFrame image n p) sectorSize ≡ sectorOf image (packetSector image n p)
   unfolding packetFrame
   packet-bytes =
       let k : ℕ = packetSector image n p in
@@ -104,48 +103,48 @@ module _ (image : List ℕ) (n p : ℕ) (g : goodN n ≡ true) (e : length image
       ap (bytesIn (packetFrame image n p)) (sym data-length) ∙ write-bytes k (sectorOf image k) f
 
   -- 03 on the last packet, 17 on the others
-  pub last-footer : p + 1 ≡ packetCount image n → Write (packetSector image n p) 512 End ≡ readOf (packetFrame image n p)
+  pub last-footer : p + 1 ≡ packetCount image n → Write (packetSector image n p) sectorSize End ≡ readOf (packetFrame image n p)
   unfolding footerOf
-  last-footer q = ap (Write (packetSector image n p) 512) (rw (eq-eqb (p + 1) (packetCount image n) q)) ∙ packet-read
+  last-footer q = ap (Write (packetSector image n p) sectorSize) (rw (eq-eqb (p + 1) (packetCount image n) q)) ∙ packet-read
 
-  pub other-footer : p + 1 < packetCount image n → Write (packetSector image n p) 512 Continued ≡ readOf (packetFrame image n p)
+  pub other-footer : p + 1 < packetCount image n → Write (packetSector image n p) sectorSize Continued ≡ readOf (packetFrame image n p)
   unfolding footerOf
-  other-footer q = ap (Write (packetSector image n p) 512) (rw (ne-eqb (p + 1) (packetCount image n) (λ r. omega arith))) ∙ packet-read
+  other-footer q = ap (Write (packetSector image n p) sectorSize) (rw (ne-eqb (p + 1) (packetCount image n) (λ r. omega arith))) ∙ packet-read
 
 -- ---- the packets put back give the image
 
-module _ (image : List ℕ) (n : ℕ) (g : goodN n ≡ true) (e : length image ≡ 512 * n) where
+module _ (image : List ℕ) (n : ℕ) (g : goodN n ≡ true) (e : length image ≡ sectorSize * n) where
   blanks : ℕ → List ℕ
-  blanks k = replicate (512 * (n - k)) 0xFF
+  blanks k = replicate (sectorSize * (n - k)) 0xFF
 
   -- the first k sectors, and 0xFF behind them
   begun : ℕ → List ℕ
-  begun k = take (512 * k) image ++ blanks k
+  begun k = take (sectorSize * k) image ++ blanks k
 
   -- where the sector behind them lies
-  sector-at : (k : ℕ) → k < n → 512 * k ≡ sectorOffset (suc k)
+  sector-at : (k : ℕ) → k < n → sectorSize * k ≡ sectorOffset (suc k)
   sector-at k h =
-      let c : 512 * k ≡ k * 512 = omega arith in
+      let c : sectorSize * k ≡ k * sectorSize = omega arith in
       c ∙ sector-from k (good-below n g (k + 1) (omega arith) (omega arith)) ∙ ap sectorOffset (add-one k)
 
-  sector-behind : (k : ℕ) → k < n → take (512 * suc k) image ≡ take (512 * k) image ++ sectorOf image (suc k)
+  sector-behind : (k : ℕ) → k < n → take (sectorSize * suc k) image ≡ take (sectorSize * k) image ++ sectorOf image (suc k)
   unfolding sectorOf
   sector-behind k h =
-      let m : 512 * suc k ≡ 512 * k + 512 = omega arith in
+      let m : sectorSize * suc k ≡ sectorSize * k + sectorSize = omega arith in
       ap (λ (j : ℕ). take j image) m
-      ∙ take-add (512 * k) 512 image
-      ∙ ap (λ (j : ℕ). take (512 * k) image ++ take 512 (drop j image)) (sector-at k h)
+      ∙ take-add (sectorSize * k) sectorSize image
+      ∙ ap (λ (j : ℕ). take (sectorSize * k) image ++ take sectorSize (drop j image)) (sector-at k h)
 
-  blanks-behind : (k : ℕ) → k < n → blanks k ≡ replicate 512 0xFF ++ blanks (suc k)
+  blanks-behind : (k : ℕ) → k < n → blanks k ≡ replicate sectorSize 0xFF ++ blanks (suc k)
   unfolding blanks
   blanks-behind k h =
-      let m : 512 * (n - k) ≡ 512 + 512 * (n - suc k) = omega arith in
-      ap (λ (j : ℕ). replicate j 0xFF) m ∙ sym (replicate-append-replicate 512 (512 * (n - suc k)) 0xFF)
+      let m : sectorSize * (n - k) ≡ sectorSize + sectorSize * (n - suc k) = omega arith in
+      ap (λ (j : ℕ). replicate j 0xFF) m ∙ sym (replicate-append-replicate sectorSize (sectorSize * (n - suc k)) 0xFF)
 
-  whole : (k : ℕ) → k < n → length (sectorOf image (suc k)) ≡ 512
+  whole : (k : ℕ) → k < n → length (sectorOf image (suc k)) ≡ sectorSize
   whole k h = sector-length image n g e (suc k) (omega arith) (omega arith)
 
-  begun-more : (k : ℕ) → k < n → take (512 * k) image ++ sectorOf image (suc k) ++ blanks (suc k) ≡ begun (suc k)
+  begun-more : (k : ℕ) → k < n → take (sectorSize * k) image ++ sectorOf image (suc k) ++ blanks (suc k) ≡ begun (suc k)
   unfolding begun
   begun-more k h = ap (λ (l : List ℕ). l ++ blanks (suc k)) (sym (sector-behind k h))
 
@@ -153,24 +152,24 @@ module _ (image : List ℕ) (n : ℕ) (g : goodN n ≡ true) (e : length image �
   over-blank : (k : ℕ) → k < n → blankOf (sectorOf image (suc k)) ≡ true → begun k ≡ begun (suc k)
   unfolding begun
   over-blank k h b =
-      let s : sectorOf image (suc k) ≡ replicate 512 0xFF =
+      let s : sectorOf image (suc k) ≡ replicate sectorSize 0xFF =
       blank-true (sectorOf image (suc k)) b ∙ ap (λ (j : ℕ). replicate j 0xFF) (whole k h) in
-      ap (λ (l : List ℕ). take (512 * k) image ++ l) (blanks-behind k h ∙ ap (λ (l : List ℕ). l ++ blanks (suc k)) (sym s))
-      ∙ sym (append-assoc (take (512 * k) image) (sectorOf image (suc k)) (blanks (suc k)))
+      ap (λ (l : List ℕ). take (sectorSize * k) image ++ l) (blanks-behind k h ∙ ap (λ (l : List ℕ). l ++ blanks (suc k)) (sym s))
+      ∙ sym (append-assoc (take (sectorSize * k) image) (sectorOf image (suc k)) (blanks (suc k)))
       ∙ begun-more k h
 
   -- any other is put there
   over-used : (k : ℕ) → k < n → placeOf (begun k) (sectorOffset (suc k)) (sectorOf image (suc k)) ≡ begun (suc k)
   unfolding begun
   over-used k h =
-      let front : List ℕ = take (512 * k) image in
-      let l : length front ≡ 512 * k = length-take-le (512 * k) image (omega arith) in
-      let w : length (sectorOf image (suc k)) ≡ 512 = whole k h in
-      let r : length (blanks k) ≡ 512 + length (blanks (suc k)) =
-      ap length (blanks-behind k h) ∙ length-append (replicate 512 0xFF) (blanks (suc k)) ∙ ap (λ (j : ℕ). j + length (blanks (suc k))) (length-replicate {A = ℕ} 512 0xFF) in
+      let front : List ℕ = take (sectorSize * k) image in
+      let l : length front ≡ sectorSize * k = length-take-le (sectorSize * k) image (omega arith) in
+      let w : length (sectorOf image (suc k)) ≡ sectorSize = whole k h in
+      let r : length (blanks k) ≡ sectorSize + length (blanks (suc k)) =
+      ap length (blanks-behind k h) ∙ length-append (replicate sectorSize 0xFF) (blanks (suc k)) ∙ ap (λ (j : ℕ). j + length (blanks (suc k))) (length-replicate {A = ℕ} sectorSize 0xFF) in
       let d : drop (length (sectorOf image (suc k))) (blanks k) ≡ blanks (suc k) =
       ap₂ (λ (j : ℕ) (x : List ℕ). drop j x) w (blanks-behind k h)
-      ∙ drop-at (replicate 512 0xFF) (blanks (suc k)) 512 (length-replicate {A = ℕ} 512 0xFF) in
+      ∙ drop-at (replicate sectorSize 0xFF) (blanks (suc k)) sectorSize (length-replicate {A = ℕ} sectorSize 0xFF) in
       ap (λ (j : ℕ). placeOf (front ++ blanks k) j (sectorOf image (suc k))) (sym (l ∙ sector-at k h))
       ∙ place-next front (blanks k) (sectorOf image (suc k)) (omega arith)
       ∙ ap (λ (x : List ℕ). front ++ sectorOf image (suc k) ++ x) d
@@ -192,8 +191,8 @@ module _ (image : List ℕ) (n : ℕ) (g : goodN n ≡ true) (e : length image �
   first : restored image n (packetCount image 0) ≡ begun 0
   unfolding restored sentOf begun blanks
   first =
-      let z : 512 * 0 ≡ 0 = omega arith in
-      let m : 512 * n ≡ 512 * (n - 0) = omega arith in
+      let z : sectorSize * 0 ≡ 0 = omega arith in
+      let m : sectorSize * n ≡ sectorSize * (n - 0) = omega arith in
       ap (λ (j : ℕ). replicate j 0xFF) m ∙ sym (ap (λ (j : ℕ). take j image ++ blanks 0) z)
 
   after : (k : ℕ) → k ≤ n → restored image n (packetCount image k) ≡ begun k
@@ -207,7 +206,7 @@ module _ (image : List ℕ) (n : ℕ) (g : goodN n ≡ true) (e : length image �
   pub packets-give-image : restored image n (packetCount image n) ≡ image
   unfolding begun blanks
   packets-give-image =
-      let z : 512 * (n - n) ≡ 0 = omega arith in
+      let z : sectorSize * (n - n) ≡ 0 = omega arith in
       after n (omega arith)
-      ∙ ap₂ (λ (x : List ℕ) (j : ℕ). x ++ replicate j 0xFF) (take-all (512 * n) image (omega arith)) z
+      ∙ ap₂ (λ (x : List ℕ) (j : ℕ). x ++ replicate j 0xFF) (take-all (sectorSize * n) image (omega arith)) z
       ∙ append-nil image

@@ -1,7 +1,4 @@
-pub mod Answers
 pub mod Image
 pub mod Making
 pub mod Packets
 pub mod Refusals
-pub mod Responses
-pub mod Six

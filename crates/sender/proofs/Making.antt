@@ -13,34 +13,34 @@ use Rattle.buffer.proofs.Numbers.{length-bytes}
 use Rattle.buffer.proofs.Places.{place-front, front-fits, place-next}
 use Rattle.frame.specs.Frame.{controlFrame}
 use Rattle.frame.specs.Write.{putControl}
-use Rattle.frame.proofs.Writing.{length-control, control-front}
+use Rattle.frame.proofs.Writing.{length-control, control-fits}
 use Rattle.bank.specs.Layout.{goodN}
 use Rattle.bank.specs.declared.layout.Bank.{Bank}
 use Rattle.sender.specs.declared.made.Made.{Made}
 use Rattle.sender.specs.declared.made.Made.the-variants.{BadN, BadLength, Frame}
 use Rattle.sender.specs.declared.request.Request.{Request}
 use Rattle.sender.specs.declared.request.Request.the-variants.{WriteStart}
-use Rattle.sender.specs.Made.{roomFor, standing}
+use Rattle.sender.specs.Made.{room, roomFor, standing}
 use Rattle.sender.specs.Request.{codeOf, asksFor, givenGood, requestFrame, requestMade, Request·Is, Control·Is}
 
 module _ (size : ℕ) (bytes : List ℕ) where
-  pub no-room : size < 519 → BadLength ≡ roomFor size bytes
+  no-room : size < room → BadLength ≡ roomFor size bytes
   unfolding roomFor
-  no-room h = rw (lt-leb 519 size h)
+  no-room h = rw (lt-leb room size h)
 
-  pub has-room : (n : ℕ) → n ≡ length bytes → 519 ≤ size → Frame n ≡ roomFor size bytes
+  has-room : (n : ℕ) → n ≡ length bytes → room ≤ size → Frame n ≡ roomFor size bytes
   unfolding roomFor
-  has-room n e h = rw (le-leb 519 size h) (ap Frame e)
+  has-room n e h = rw (le-leb room size h) (ap Frame e)
 
 module _ (code : ℕ) (parameters before : List ℕ) where
-  pub control-refused : length before < 519 → Control·Is code parameters before BadLength before
+  pub control-refused : length before < room → Control·Is code parameters before BadLength before
   control-refused h =
       let frame : List ℕ = controlFrame code parameters in
       let e : BadLength ≡ roomFor (length before) frame = no-room (length before) frame h in
       record { answered = e; stands = ap (λ (m : Made). standing m before frame) e }
 
   pub control-made :
-      (after : List ℕ) → length parameters ≤ 254 → 519 ≤ length before → after ≡ putControl before code parameters
+      (after : List ℕ) → length parameters ≤ 254 → room ≤ length before → after ≡ putControl before code parameters
       → Control·Is code parameters before (Frame (length parameters + 5)) after
   control-made after l h p =
       let frame : List ℕ = controlFrame code parameters in
@@ -48,7 +48,7 @@ module _ (code : ℕ) (parameters before : List ℕ) where
       has-room (length before) frame (length parameters + 5) (sym (length-control code parameters)) h in
       record {
         answered = e;
-        stands = p ∙ control-front before code parameters l ∙ ap (λ (m : Made). standing m before frame) e;
+        stands = p ∙ control-fits before code parameters l ∙ ap (λ (m : Made). standing m before frame) e;
       }
 
 pub request-told : {request q : Request} {before after : List ℕ} {r : Made} → request ≡ q → Request·Is q before r after → Request·Is request before r after

@@ -16,33 +16,33 @@ use Rattle.buffer.proofs.Parts.{part-out, part-length}
 use Rattle.frame.specs.Frame.{writeFrame}
 use Rattle.frame.specs.Write.{putWrite}
 use Rattle.frame.specs.declared.read.Footer.{Footer}
-use Rattle.frame.proofs.Writing.{length-write, write-front}
-use Rattle.bank.specs.Layout.{goodN, sectorOffset}
+use Rattle.frame.proofs.Writing.{length-write, write-fits}
+use Rattle.bank.specs.Layout.{sectorSize, goodN, sectorOffset}
 use Rattle.bank.proofs.Layouts.{good-high, good-below, offset-good}
 use Rattle.sender.specs.declared.made.Made.{Made}
 use Rattle.sender.specs.declared.made.Made.the-variants.{BadN, BadLength, PastLast, Frame}
 use Rattle.sender.specs.declared.packet.Seen.{Seen}
 use Rattle.sender.specs.declared.packet.Tally.the-variants.{BadN as NoBank, BadLength as NoImage, Packets}
-use Rattle.sender.specs.Made.{standing}
+use Rattle.sender.specs.Made.{room, standing}
 use Rattle.sender.specs.Packet.{sectorOf, sentOf, packetCount, packetSector, footerOf, packetFrame, packetMade, tallyOf, seenOf, Packet·Is}
 
 -- ---- a sector of an image
 
 -- the sector behind the first k, as it lies
-pub sector-from : (k : ℕ) → goodN (k + 1) ≡ true → k * 512 ≡ sectorOffset (k + 1)
+pub sector-from : (k : ℕ) → goodN (k + 1) ≡ true → k * sectorSize ≡ sectorOffset (k + 1)
 sector-from k g =
     let less : k ≡ k + 1 - 1 = omega arith in
-    ap (λ (j : ℕ). j * 512) less ∙ offset-good (k + 1) g
+    ap (λ (j : ℕ). j * sectorSize) less ∙ offset-good (k + 1) g
 
-module _ (image : List ℕ) (n : ℕ) (g : goodN n ≡ true) (e : length image ≡ 512 * n) where
-  pub sector-end : (k : ℕ) → 1 ≤ k → k ≤ n → sectorOffset k + 512 ≤ length image
+module _ (image : List ℕ) (n : ℕ) (g : goodN n ≡ true) (e : length image ≡ sectorSize * n) where
+  sector-end : (k : ℕ) → 1 ≤ k → k ≤ n → sectorOffset k + sectorSize ≤ length image
   sector-end k l u =
-      let o : (k - 1) * 512 ≡ sectorOffset k = offset-good k (good-below n g k l u) in
+      let o : (k - 1) * sectorSize ≡ sectorOffset k = offset-good k (good-below n g k l u) in
       omega arith
 
-  pub sector-length : (k : ℕ) → 1 ≤ k → k ≤ n → length (sectorOf image k) ≡ 512
+  pub sector-length : (k : ℕ) → 1 ≤ k → k ≤ n → length (sectorOf image k) ≡ sectorSize
   unfolding sectorOf
-  sector-length k l u = part-length image (sectorOffset k) 512 (sector-end k l u)
+  sector-length k l u = part-length image (sectorOffset k) sectorSize (sector-end k l u)
 
 -- ---- the list of those that are sent
 
@@ -65,12 +65,12 @@ sent-few image (suc k) = by (blankOf (sectorOf image (suc k))) (sent-few image k
     by false h = omega (arith, length-append (sentOf image k) (suc k ∷ []))
 
 -- the part that was looked at is the sector behind the first k
-pub looked-at : (image : List ℕ) (k from : ℕ) (r : Bool) → from ≡ sectorOffset (k + 1) → r ≡ blankOf (take (from + 512 - from) (drop from image)) → r ≡ blankOf (sectorOf image (suc k))
+pub looked-at : (image : List ℕ) (k from : ℕ) (r : Bool) → from ≡ sectorOffset (k + 1) → r ≡ blankOf (take (from + sectorSize - from) (drop from image)) → r ≡ blankOf (sectorOf image (suc k))
 unfolding sectorOf
 looked-at image k from r o e =
     e
-    ∙ ap blankOf (part-out image from 512)
-    ∙ ap (λ (i : ℕ). blankOf (take 512 (drop i image))) (o ∙ ap sectorOffset (add-one k))
+    ∙ ap blankOf (part-out image from sectorSize)
+    ∙ ap (λ (i : ℕ). blankOf (take sectorSize (drop i image))) (o ∙ ap sectorOffset (add-one k))
 
 -- an element behind a list changes no other
 kept : (l : List ℕ) (x i : ℕ) → (i ≡ length l → ⊥) → getD l i 0 ≡ getD (l ++ (x ∷ [])) i 0
@@ -158,7 +158,7 @@ module _ (image : List ℕ) (n p : ℕ) (g : goodN n ≡ true) where
   pub packet-small : (k : ℕ) → p < packetCount image n → k ≡ packetSector image n p → k < 65536
   packet-small k q e = omega (arith, good-high n g, sent-in image n p q .high)
 
-  pub packet-end : length image ≡ 512 * n → (k : ℕ) → p < packetCount image n → k ≡ packetSector image n p → sectorOffset k + 512 ≤ length image
+  pub packet-end : length image ≡ sectorSize * n → (k : ℕ) → p < packetCount image n → k ≡ packetSector image n p → sectorOffset k + sectorSize ≤ length image
   packet-end l k q e =
       let s : Sent image n (packetSector image n p) = sent-in image n p q in
       rw e (sector-end image n g l (packetSector image n p) (s .low) (s .high))
@@ -170,21 +170,21 @@ module _ (image : List ℕ) (n : ℕ) where
   unfolding tallyOf
   tally-bad-n g = rw g
 
-  pub tally-bad-image : goodN n ≡ true → (length image ≡ 512 * n → ⊥) → NoImage ≡ tallyOf image n
+  pub tally-bad-image : goodN n ≡ true → (length image ≡ sectorSize * n → ⊥) → NoImage ≡ tallyOf image n
   unfolding tallyOf
-  tally-bad-image g e = rw (g, ne-eqb (length image) (512 * n) e)
+  tally-bad-image g e = rw (g, ne-eqb (length image) (sectorSize * n) e)
 
-  pub tally-packets : goodN n ≡ true → length image ≡ 512 * n → Packets (packetCount image n) ≡ tallyOf image n
+  pub tally-packets : goodN n ≡ true → length image ≡ sectorSize * n → Packets (packetCount image n) ≡ tallyOf image n
   unfolding tallyOf
-  tally-packets g e = rw (g, eq-eqb (length image) (512 * n) e)
+  tally-packets g e = rw (g, eq-eqb (length image) (sectorSize * n) e)
 
 module _ (image : List ℕ) (n p : ℕ) where
-  frame-length : goodN n ≡ true → length image ≡ 512 * n → p < packetCount image n → length (packetFrame image n p) ≡ 519
+  frame-length : goodN n ≡ true → length image ≡ sectorSize * n → p < packetCount image n → length (packetFrame image n p) ≡ sectorSize + 7
   unfolding packetFrame
   frame-length g e q =
       let k : ℕ = packetSector image n p in
       let s : Sent image n k = sent-in image n p q in
-      let l : length (sectorOf image k) ≡ 512 = sector-length image n g e k (s .low) (s .high) in
+      let l : length (sectorOf image k) ≡ sectorSize = sector-length image n g e k (s .low) (s .high) in
       omega (arith, length-write k (sectorOf image k) (footerOf (packetCount image n) p))
 
   module _ (size : ℕ) where
@@ -192,22 +192,22 @@ module _ (image : List ℕ) (n p : ℕ) where
     unfolding packetMade
     made-bad-n g = rw g
 
-    pub made-bad-image : goodN n ≡ true → (length image ≡ 512 * n → ⊥) → BadLength ≡ packetMade image n p size
+    pub made-bad-image : goodN n ≡ true → (length image ≡ sectorSize * n → ⊥) → BadLength ≡ packetMade image n p size
     unfolding packetMade
-    made-bad-image g e = rw (g, ne-eqb (length image) (512 * n) e)
+    made-bad-image g e = rw (g, ne-eqb (length image) (sectorSize * n) e)
 
-    module _ (g : goodN n ≡ true) (e : length image ≡ 512 * n) where
-      pub made-no-room : size < 519 → BadLength ≡ packetMade image n p size
+    module _ (g : goodN n ≡ true) (e : length image ≡ sectorSize * n) where
+      pub made-no-room : size < room → BadLength ≡ packetMade image n p size
       unfolding packetMade
-      made-no-room h = rw (g, eq-eqb (length image) (512 * n) e, lt-leb 519 size h)
+      made-no-room h = rw (g, eq-eqb (length image) (sectorSize * n) e, lt-leb room size h)
 
-      pub made-past : 519 ≤ size → packetCount image n ≤ p → PastLast ≡ packetMade image n p size
+      pub made-past : room ≤ size → packetCount image n ≤ p → PastLast ≡ packetMade image n p size
       unfolding packetMade
-      made-past h q = rw (g, eq-eqb (length image) (512 * n) e, le-leb 519 size h, le-ltb p (packetCount image n) q)
+      made-past h q = rw (g, eq-eqb (length image) (sectorSize * n) e, le-leb room size h, le-ltb p (packetCount image n) q)
 
-      pub made-frame : 519 ≤ size → p < packetCount image n → Frame 519 ≡ packetMade image n p size
+      made-frame : room ≤ size → p < packetCount image n → Frame (sectorSize + 7) ≡ packetMade image n p size
       unfolding packetMade
-      made-frame h q = rw (g, eq-eqb (length image) (512 * n) e, le-leb 519 size h, lt-ltb p (packetCount image n) q) (ap Frame (sym (frame-length g e q)))
+      made-frame h q = rw (g, eq-eqb (length image) (sectorSize * n) e, le-leb room size h, lt-ltb p (packetCount image n) q) (ap Frame (sym (frame-length g e q)))
 
   -- a refusal changes nothing
   pub packet-refused : (before : List ℕ) (m : Made) → m ≡ packetMade image n p (length before) → standing m before (packetFrame image n p) ≡ before → Packet·Is image n p before m before
@@ -215,23 +215,23 @@ module _ (image : List ℕ) (n p : ℕ) where
       record { answered = e; stands = sym s ∙ ap (λ (x : Made). standing x before (packetFrame image n p)) e }
 
   pub packet-put :
-      (before after : List ℕ) (from sector : ℕ) (footer : Footer) → goodN n ≡ true → length image ≡ 512 * n → 519 ≤ length before → p < packetCount image n
+      (before after : List ℕ) (from sector : ℕ) (footer : Footer) → goodN n ≡ true → length image ≡ sectorSize * n → room ≤ length before → p < packetCount image n
       → sector ≡ packetSector image n p → from ≡ sectorOffset sector → footer ≡ footerOf (packetCount image n) p
-      → after ≡ putWrite before sector (take (from + 512 - from) (drop from image)) footer
-      → Packet·Is image n p before (Frame 519) after
+      → after ≡ putWrite before sector (take (from + sectorSize - from) (drop from image)) footer
+      → Packet·Is image n p before (Frame (sectorSize + 7)) after
   unfolding packetFrame sectorOf
   packet-put before after from sector footer g e h q k o f a =
       let s : Sent image n (packetSector image n p) = sent-in image n p q in
-      let m : Frame 519 ≡ packetMade image n p (length before) = made-frame (length before) g e h q in
-      let part : List ℕ = take (from + 512 - from) (drop from image) in
+      let m : Frame (sectorSize + 7) ≡ packetMade image n p (length before) = made-frame (length before) g e h q in
+      let part : List ℕ = take (from + sectorSize - from) (drop from image) in
       let b : part ≡ sectorOf image (packetSector image n p) =
-      part-out image from 512 ∙ ap (λ (i : ℕ). take 512 (drop i image)) (o ∙ ap sectorOffset k) in
-      let l : length part ≡ 512 = ap length b ∙ sector-length image n g e (packetSector image n p) (s .low) (s .high) in
+      part-out image from sectorSize ∙ ap (λ (i : ℕ). take sectorSize (drop i image)) (o ∙ ap sectorOffset k) in
+      let l : length part ≡ sectorSize = ap length b ∙ sector-length image n g e (packetSector image n p) (s .low) (s .high) in
       record {
         answered = m;
         stands =
             a
-            ∙ write-front before sector part footer (omega arith)
+            ∙ write-fits before sector part footer (omega arith)
             ∙ ap (frontOf before) (ap₂ (λ (x : ℕ) (y : List ℕ). writeFrame x y footer) k b ∙ ap (writeFrame (packetSector image n p) (sectorOf image (packetSector image n p))) f)
             ∙ ap (λ (x : Made). standing x before (packetFrame image n p)) m;
       }

@@ -8,7 +8,7 @@ use native.Mathlib.Omega.{arith}
 use lib.Dec.{leb, ltb}
 use lib.ListN.{length}
 use borrow.Author.Tests.{ltb-false}
-use Rattle.bank.specs.Layout.{goodN}
+use Rattle.bank.specs.Layout.{sectorSize, goodN}
 use Rattle.sender.specs.declared.made.Made.the-variants.{BadN, BadLength, PastLast, Frame}
 use Rattle.sender.specs.declared.packet.Tally.the-variants.{BadN as NoBank, BadLength as NoImage, Packets}
 use Rattle.sender.specs.declared.request.Request.{Request}
@@ -18,14 +18,15 @@ use Rattle.sender.specs.Packet.{packetCount, packetFrame, imageGood, pac
 use Rattle.sender.specs.Meaning.{refusal}
 use Rattle.sender.proofs.Packets.{made-past}
 
+by-tests : (a b c : Bool) (n : ℕ) → madeNumber (cond a (cond b (cond c (Frame n) PastLast) BadLength) BadN) ≡ refusal (not a) (not b) (not c)
+by-tests true true true n = refl
+by-tests true true false n = refl
+by-tests true false c n = refl
+by-tests false b c n = refl
+
 pub request-number : (request : Request) (size : ℕ) → madeNumber (requestMade request size) ≡ refusal (not (givenGood request)) (not (leb room size)) false
 unfolding requestMade roomFor
-request-number request size = by (givenGood request) (leb room size) (length (requestFrame request))
-  where
-    by : (a b : Bool) (n : ℕ) → madeNumber (cond a (cond b (Frame n) BadLength) BadN) ≡ refusal (not a) (not b) false
-    by true true n = refl
-    by true false n = refl
-    by false b n = refl
+request-number request size = by-tests (givenGood request) (leb room size) true (length (requestFrame request))
 
 pub tally-number : (image : List ℕ) (n : ℕ) → tallyNumber (tallyOf image n) ≡ refusal (not (goodN n)) (not (imageGood image n)) false
 unfolding tallyOf
@@ -35,12 +36,6 @@ tally-number image n = by (goodN n) (imageGood image n) (packetCount image n)
     by true true k = refl
     by true false k = refl
     by false b k = refl
-
-by-tests : (a b c : Bool) (n : ℕ) → madeNumber (cond a (cond b (cond c (Frame n) PastLast) BadLength) BadN) ≡ refusal (not a) (not b) (not c)
-by-tests true true true n = refl
-by-tests true true false n = refl
-by-tests true false c n = refl
-by-tests false b c n = refl
 
 module _ (image : List ℕ) (n p size : ℕ) where
   pub packet-number :
@@ -59,5 +54,5 @@ module _ (image : List ℕ) (n p size : ℕ) where
       by false false false t q = ltb-false p (packetCount image n) t
 
   -- and always there, where nothing else is refused
-  pub five-always : goodN n ≡ true → length image ≡ 512 * n → 519 ≤ size → packetCount image n ≤ p → madeNumber (packetMade image n p size) ≡ 5
+  pub five-always : goodN n ≡ true → length image ≡ sectorSize * n → room ≤ size → packetCount image n ≤ p → madeNumber (packetMade image n p size) ≡ 5
   five-always g e h q = sym (ap madeNumber (made-past image n p size g e h q))

@@ -2,4 +2,3 @@ pub mod Made
 pub mod Meaning
 pub mod Packet
 pub mod Request
-pub mod Response

@@ -1,114 +1,19 @@
--- What the sender's definitions come to: its refusals by number, number 6 by its causes, an image put together from its packets.
+-- What the sender's definitions come to: its refusals by number, an image put together from its packets.
 -- Assumes nothing.
-use mathlib.Core.Bool.{Bool, true, false, not, _&&_, _||_, cond}
+use mathlib.Core.Bool.{Bool, cond}
 use mathlib.Core.List.{List}
-use Prim.Native.Nat.{ℕ, zero, suc, _+_, _*_}
-use lib.Dec.{eqb, ltb}
-use lib.ListN.{length, replicate}
-use Rattle.buffer.specs.Number.{numberAt}
+use Prim.Native.Nat.{ℕ, zero, suc, _*_}
+use lib.ListN.{replicate}
 use Rattle.buffer.specs.Place.{placeOf}
-use Rattle.frame.specs.Read.{byteAt, parametersOf, readOf}
-use Rattle.frame.specs.Read.{writtenOf as bytesIn}
-use Rattle.frame.specs.declared.read.Footer.{Footer}
-use Rattle.frame.specs.declared.read.Footer.the-variants.{End, Continued}
+use Rattle.frame.specs.Read.{readOf, bytesIn}
 use Rattle.frame.specs.declared.read.Read.{Read}
 use Rattle.frame.specs.declared.read.Read.the-variants.{Fault, Control, Write}
 use Rattle.bank.specs.Layout.{sectorSize, sectorOffset}
-use Rattle.sender.specs.declared.response.Kind.the-variants.{ModeStart, BankInfo, Version, WriteStart, Packet, WriteEnd, ModeEnd, Error}
-use Rattle.sender.specs.declared.response.Coded.{Coded}
-use Rattle.sender.specs.declared.response.Coded.the-variants.{Unknown, Answers}
-use Rattle.sender.specs.declared.response.Response.{Response}
-use Rattle.sender.specs.declared.response.Response.the-variants.{Unreadable, Plain, Target, Firmware, Written}
 use Rattle.sender.specs.Packet.{packetFrame}
-use Rattle.sender.specs.Response.{kindOf, mayCarry, addedOf, repeatsOf, crcFits}
 
 -- "Sender: 3, 2, 5", and 0 where nothing is refused
 abbrev pub refusal : Bool → Bool → Bool → ℕ
 refusal badN badLength past = cond badN 3 (cond badLength 2 (cond past 5 0))
-
--- ---- number 6, cause by cause, of a frame that was read and the datagram where it lies
-
--- "the frame is faulty"
-abbrev pub frameFaulty : Read → Bool
-frameFaulty Fault = true
-frameFaulty (Control code n) = false
-frameFaulty (Write sector m footer) = false
-
--- "the code isn't a response"
-abbrev pub unknown : Coded → Bool
-unknown Unknown = true
-unknown (Answers kind) = false
-
-abbrev pub noResponse : Read → Bool
-noResponse Fault = false
-noResponse (Control code n) = unknown (kindOf code)
-noResponse (Write sector m footer) = false
-
--- "a result isn't in Table 9"
-abbrev pub kindResult : Coded → List ℕ → Bool
-kindResult Unknown parameters = false
-kindResult (Answers kind) parameters = not (mayCarry kind (byteAt parameters 0))
-
-abbrev pub resultWrong : List ℕ → Read → Bool
-resultWrong d Fault = false
-resultWrong d (Control code n) = kindResult (kindOf code) (parametersOf d n)
-resultWrong d (Write sector m footer) = not (mayCarry Packet (byteAt (bytesIn d m) 0) && mayCarry Packet (byteAt (bytesIn d m) 1))
-
--- "the length is wrong for the code and result"
-abbrev pub kindLength : Coded → List ℕ → Bool
-kindLength Unknown parameters = false
-kindLength (Answers kind) parameters = not (eqb (length parameters) (addedOf kind (byteAt parameters 0) + 1))
-
-abbrev pub lengthWrong : List ℕ → Read → Bool
-lengthWrong d Fault = false
-lengthWrong d (Control code n) = kindLength (kindOf code) (parametersOf d n)
-lengthWrong d (Write sector m footer) = false
-
--- "a bank number exceeds 1"
-abbrev pub kindBank : Coded → List ℕ → Bool
-kindBank Unknown parameters = false
-kindBank (Answers ModeStart) parameters = false
-kindBank (Answers BankInfo) parameters = eqb (byteAt parameters 0) 0x06 && ltb 1 (byteAt parameters 1)
-kindBank (Answers Version) parameters = false
-kindBank (Answers WriteStart) parameters = false
-kindBank (Answers Packet) parameters = false
-kindBank (Answers WriteEnd) parameters = false
-kindBank (Answers ModeEnd) parameters = false
-kindBank (Answers Error) parameters = false
-
-abbrev pub bankExceeds : List ℕ → Read → Bool
-bankExceeds d Fault = false
-bankExceeds d (Control code n) = kindBank (kindOf code) (parametersOf d n)
-bankExceeds d (Write sector m footer) = false
-
--- "a write response breaks the field rules": M, the footer, the repeated result, the CRC field
-abbrev pub isEnd : Footer → Bool
-isEnd End = true
-isEnd Continued = false
-
-abbrev pub rulesBroken : List ℕ → Read → Bool
-rulesBroken d Fault = false
-rulesBroken d (Control code n) = false
-rulesBroken d (Write sector m footer) =
-    let response : ℕ = byteAt (bytesIn d m) 0 in
-    let write : ℕ = byteAt (bytesIn d m) 1 in
-    not (eqb (length (bytesIn d m)) 6) || not (isEnd footer) || not (repeatsOf response write)
-    || not (crcFits response write (numberAt 4 (bytesIn d m) 2))
-
-unfoldable pub sixIn : List ℕ → Read → Bool
-sixIn d read =
-    frameFaulty read || noResponse read || resultWrong d read || lengthWrong d read || bankExceeds d read
-    || rulesBroken d read
-
-abbrev pub sixOf : List ℕ → Bool
-sixOf d = sixIn d (readOf d)
-
-abbrev pub unreadable : Response → Bool
-unreadable Unreadable = true
-unreadable (Plain kind result) = false
-unreadable (Target bank) = false
-unreadable (Firmware id major minor revision) = false
-unreadable (Written sector response write crc) = false
 
 -- ---- the packets of an image, put back at their sectors over 0xFF
 

@@ -1,5 +1,4 @@
-// The sender: its requests, its sector packets by number, and what a response says.
+// The sender: its requests, and its sector packets by number.
 pub mod made;
 pub mod packet;
 pub mod request;
-pub mod response;

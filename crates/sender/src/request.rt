@@ -2,6 +2,7 @@
 use crate::made::Made;
 use crate::made::ROOM;
 use bank::layout::Bank;
+ghost use mathlib.Core.List.{[]};
 ghost use Prim.Native.Nat.{_≤_};
 ghost use lib.ListN.{length};
 ghost use Rattle.sender.specs.Request.{Control·Is, Request·Is};
@@ -28,6 +29,13 @@ fn control(code: u8, parameters: &[u8], buffer: &mut [u8]) -> Made
     Made::Frame(parameters.len() + 5)
 }
 
+// A request without parameters.
+fn bare(code: u8, buffer: &mut [u8]) -> Made
+    ensures { λ r. ⌜ Control·Is code [] (now (buffer .entry)) r (now (buffer .exit)) ⌝ }
+{
+    control(code, b"", buffer)
+}
+
 fn write_start(bank: Bank, n: usize, buffer: &mut [u8]) -> Made
     ensures { λ r. ⌜ Request·Is (Request.WriteStart bank n) (now (buffer .entry)) r (now (buffer .exit)) ⌝ }
 {
@@ -44,11 +52,11 @@ pub fn make(request: Request, buffer: &mut [u8]) -> Made
     ensures { λ r. ⌜ Request·Is request (now (buffer .entry)) r (now (buffer .exit)) ⌝ }
 {
     match request {
-        Request::ModeStart => control(0x61, b"", buffer),
-        Request::BankInfo => control(0x62, b"", buffer),
-        Request::Version => control(0x68, b"", buffer),
+        Request::ModeStart => bare(0x61, buffer),
+        Request::BankInfo => bare(0x62, buffer),
+        Request::Version => bare(0x68, buffer),
         Request::WriteStart { bank, n } => write_start(bank, n, buffer),
-        Request::WriteEnd => control(0x45, b"", buffer),
-        Request::ModeEnd => control(0x64, b"", buffer),
+        Request::WriteEnd => bare(0x45, buffer),
+        Request::ModeEnd => bare(0x64, buffer),
     }
 }

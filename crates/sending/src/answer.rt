@@ -19,7 +19,7 @@
 //                                  written SECTOR RESPONSE WRITE CRC
 //
 // Any other line, and one of more than 4,096 characters, is answered by `?` and changes nothing; so is one for which there is no room.
-use crate::exchange;
+use crate::frames;
 use crate::held;
 use crate::held::Answered;
 use crate::held::Held;
@@ -97,8 +97,8 @@ fn known(hex_text: &mut [u8], image: &mut [u8], held: Held, line: &[u8]) -> Answ
         Word::Put => held::kept(put(image, held, fields), held),
         Word::Count => held::kept(count(image, held, fields), held),
         Word::Packet => held::kept(packet(image, held, fields), held),
-        Word::Request => held::kept(exchange::request(fields), held),
-        Word::Response => held::kept(exchange::response(fields), held),
+        Word::Request => held::kept(frames::request(fields), held),
+        Word::Response => held::kept(frames::response(fields), held),
         Word::Other => Answered::No,
     }
 }

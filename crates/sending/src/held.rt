@@ -6,8 +6,6 @@ pub const LONGEST_TEXT: usize = 720_896;
 // Two sectors more than the largest bank has: a wrong length is told from what is no request.
 pub const LONGEST_IMAGE: usize = 252_416;
 
-pub const LARGEST_NUMBER: usize = 999_999;
-
 // The lengths.
 pub struct Held {
     pub text: usize,

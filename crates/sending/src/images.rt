@@ -2,7 +2,6 @@
 use crate::held;
 use crate::held::Answered;
 use crate::held::Held;
-use crate::held::LARGEST_NUMBER;
 use crate::held::LONGEST_IMAGE;
 use crate::made;
 use crate::made::LARGEST_BUFFER;
@@ -59,7 +58,7 @@ fn say_count(count: usize) {
 
 pub(crate) fn count(image: &[u8], fields: &[u8]) -> bool {
     let n = text::decimal(fields, 6);
-    if n > LARGEST_NUMBER {
+    if n > text::LARGEST_NUMBER {
         return false;
     }
     match sender::packet::count(image, n) {
@@ -77,7 +76,7 @@ fn packet_in(image: &[u8], n: usize, p: usize, buffer: &mut [u8]) {
 }
 
 fn packet_of(image: &[u8], n: usize, p: usize, room: usize) -> bool {
-    if p > LARGEST_NUMBER {
+    if p > text::LARGEST_NUMBER {
         return false;
     }
     if room > LARGEST_BUFFER {
@@ -91,7 +90,7 @@ fn packet_of(image: &[u8], n: usize, p: usize, room: usize) -> bool {
 
 pub(crate) fn packet(image: &[u8], fields: &[u8]) -> bool {
     let n = text::decimal(text::first(fields), 6);
-    if n > LARGEST_NUMBER {
+    if n > text::LARGEST_NUMBER {
         return false;
     }
     let later = text::rest(fields);

@@ -1,7 +1,7 @@
-// Answers request lines from standard input, one line each, by what the hex reader and the sender compute, for any bank and any number of
-// sectors. `answer.rt` has their form.
+// Answers request lines from standard input, one line each, by what the hex reader, the sender and the reader of responses compute, for any bank
+// and any number of sectors. `answer.rt` has their form.
 mod answer;
-mod exchange;
+mod frames;
 mod held;
 mod images;
 mod made;

@@ -2,7 +2,6 @@
 use crate::held;
 use crate::held::Answered;
 use crate::held::Held;
-use crate::held::LARGEST_NUMBER;
 use crate::held::LONGEST_IMAGE;
 use bank::layout::Bank;
 use hex::fault::Refusal;
@@ -74,7 +73,7 @@ fn read_into(hex_text: &[u8], bank: Bank, n: usize, image: &mut [u8]) {
 
 fn read_bank(hex_text: &[u8], image: &mut [u8], held: Held, bank: Bank, fields: &[u8]) -> Answered {
     let n = text::decimal(text::first(fields), 6);
-    if n > LARGEST_NUMBER {
+    if n > text::LARGEST_NUMBER {
         return Answered::No;
     }
     let size = text::decimal(text::rest(fields), 6);

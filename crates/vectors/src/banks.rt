@@ -9,8 +9,6 @@ use bank::layout::Counted;
 use script::say;
 use script::text;
 
-const LARGEST_NUMBER: usize = 999_999;
-
 // Two sectors more than the largest bank has: what is too long is told from what is no request.
 const LONGEST_BANK: usize = 252_416;
 
@@ -29,7 +27,7 @@ fn say_layout(bank: Bank, n: usize) {
 
 pub(crate) fn layout(fields: &[u8]) -> bool {
     let n = text::decimal(text::rest(fields), 6);
-    if n > LARGEST_NUMBER {
+    if n > text::LARGEST_NUMBER {
         return false;
     }
     let bank = text::first(fields);
@@ -52,7 +50,7 @@ fn say_sectors(n: usize) {
 
 pub(crate) fn sectors(fields: &[u8]) -> bool {
     let length = text::decimal(fields, 6);
-    if length > LARGEST_NUMBER {
+    if length > text::LARGEST_NUMBER {
         return false;
     }
     match bank::layout::sectors(length) {
@@ -185,17 +183,9 @@ fn asked_of(length: usize, pieces: &[u8], ask: Ask) -> bool {
     asked(&mut bank[..n], pieces, ask)
 }
 
-// A blank at the line's end has an empty field behind it, which would pass for no piece.
-fn ends_in_blank(fields: &[u8]) -> bool {
-    if fields.len() == 0 {
-        return false;
-    }
-    let last = fields.len() - 1;
-    fields[last] == b' '
-}
-
+// The empty field behind a blank at the end would pass for no piece.
 fn asked_by(fields: &[u8], ask: Ask) -> bool {
-    if ends_in_blank(fields) {
+    if text::ends_in_blank(fields) {
         return false;
     }
     asked_of(
@@ -211,7 +201,7 @@ pub(crate) fn verdict(fields: &[u8]) -> bool {
 
 pub(crate) fn body(fields: &[u8]) -> bool {
     let i = text::decimal(text::first(fields), 6);
-    if i > LARGEST_NUMBER {
+    if i > text::LARGEST_NUMBER {
         return false;
     }
     asked_by(text::rest(fields), Ask::Body(i))

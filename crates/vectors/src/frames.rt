@@ -72,27 +72,49 @@ pub(crate) fn read(fields: &[u8]) -> bool {
     true
 }
 
-// The buffer that a frame is written to holds A5 before.
-const LARGEST_BUFFER: usize = 600;
+// A frame to be written, but for its parameters or data.
+enum Kind {
+    Control(u8),
+    Write(u16, Footer),
+    Error,
+}
 
-fn say_buffer(buffer: &[u8]) {
+fn put(buffer: &mut [u8], kind: Kind, bytes: &[u8]) {
+    match kind {
+        Kind::Control(code) => frame::write::put_control(buffer, code, bytes),
+        Kind::Write(sector, footer) => frame::write::put_write(buffer, sector, bytes, footer),
+        Kind::Error => frame::write::put_error(buffer),
+    }
+}
+
+fn say_put(buffer: &mut [u8], kind: Kind, bytes: &[u8]) {
+    put(buffer, kind, bytes);
     say::bytes(buffer);
     say::end();
 }
 
-fn put_control(buffer: &mut [u8], code: u8, parameters: &[u8]) {
-    frame::write::put_control(buffer, code, parameters);
-    say_buffer(buffer);
-}
+// The buffer that a frame is written to holds A5 before.
+const LARGEST_BUFFER: usize = 600;
 
-fn control_in(room: usize, code: u8, parameters: &[u8]) -> bool {
+fn put_in(room: usize, kind: Kind, bytes: &[u8]) -> bool {
     if room > LARGEST_BUFFER {
         return false;
     }
     let mut buffer = [0xA5u8; LARGEST_BUFFER];
     let n = io::count(room as isize, &buffer);
-    put_control(&mut buffer[..n], code, parameters);
+    say_put(&mut buffer[..n], kind, bytes);
     true
+}
+
+// The frame of the bytes that `digits` spells, in so much room.
+fn written(kind: Kind, digits: &[u8], room: usize) -> bool {
+    let mut bytes = [0u8; 2048];
+    let got = text::bytes(digits, &mut bytes);
+    if got < 0 {
+        return false;
+    }
+    let n = io::count(got, &bytes);
+    put_in(room, kind, &bytes[..n])
 }
 
 pub(crate) fn control(fields: &[u8]) -> bool {
@@ -101,39 +123,22 @@ pub(crate) fn control(fields: &[u8]) -> bool {
         return false;
     }
     let later = text::rest(fields);
-    let mut bytes = [0u8; 2048];
-    let got = text::bytes(text::first(later), &mut bytes);
-    if got < 0 {
-        return false;
-    }
-    let n = io::count(got, &bytes);
-    control_in(text::decimal(text::rest(later), 6), code as u8, &bytes[..n])
-}
-
-fn put_write(buffer: &mut [u8], sector: u16, data: &[u8], footer: Footer) {
-    frame::write::put_write(buffer, sector, data, footer);
-    say_buffer(buffer);
-}
-
-fn write_in(room: usize, sector: u16, data: &[u8], footer: Footer) -> bool {
-    if room > LARGEST_BUFFER {
-        return false;
-    }
-    let mut buffer = [0xA5u8; LARGEST_BUFFER];
-    let n = io::count(room as isize, &buffer);
-    put_write(&mut buffer[..n], sector, data, footer);
-    true
+    written(
+        Kind::Control(code as u8),
+        text::first(later),
+        text::decimal(text::rest(later), 6),
+    )
 }
 
 // The last two fields are the footer and the room.
-fn write_footed(sector: u16, data: &[u8], fields: &[u8]) -> bool {
+fn write_footed(sector: u16, digits: &[u8], fields: &[u8]) -> bool {
     let footer = text::number(text::first(fields), 2);
     let room = text::decimal(text::rest(fields), 6);
     if footer == 0x03 {
-        return write_in(room, sector, data, Footer::End);
+        return written(Kind::Write(sector, Footer::End), digits, room);
     }
     if footer == 0x17 {
-        return write_in(room, sector, data, Footer::Continued);
+        return written(Kind::Write(sector, Footer::Continued), digits, room);
     }
     false
 }
@@ -144,27 +149,9 @@ pub(crate) fn write(fields: &[u8]) -> bool {
         return false;
     }
     let later = text::rest(fields);
-    let mut bytes = [0u8; 2048];
-    let got = text::bytes(text::first(later), &mut bytes);
-    if got < 0 {
-        return false;
-    }
-    let n = io::count(got, &bytes);
-    write_footed(sector as u16, &bytes[..n], text::rest(later))
-}
-
-fn put_error(buffer: &mut [u8]) {
-    frame::write::put_error(buffer);
-    say_buffer(buffer);
+    write_footed(sector as u16, text::first(later), text::rest(later))
 }
 
 pub(crate) fn error(fields: &[u8]) -> bool {
-    let room = text::decimal(fields, 6);
-    if room > LARGEST_BUFFER {
-        return false;
-    }
-    let mut buffer = [0xA5u8; LARGEST_BUFFER];
-    let n = io::count(room as isize, &buffer);
-    put_error(&mut buffer[..n]);
-    true
+    written(Kind::Error, b"-", text::decimal(fields, 6))
 }

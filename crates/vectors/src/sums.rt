@@ -11,15 +11,46 @@ fn say_crc(value: u32) {
     say::end();
 }
 
-pub(crate) fn crc(fields: &[u8]) -> bool {
+// What is asked of bytes that a field spells.
+enum Ask {
+    Crc,
+    More(u32),
+    Sum,
+}
+
+fn say_more(register: u32, bytes: &[u8]) {
+    say::text(b"more ");
+    say::quad(crc::crc_more(register, bytes));
+    say::end();
+}
+
+fn say_sum(bytes: &[u8]) {
+    say::text(b"sum ");
+    say::byte(frame::checksum::checksum(bytes));
+    say::end();
+}
+
+fn say_asked(ask: Ask, bytes: &[u8]) {
+    match ask {
+        Ask::Crc => say_crc(crc::crc32(bytes)),
+        Ask::More(register) => say_more(register, bytes),
+        Ask::Sum => say_sum(bytes),
+    }
+}
+
+fn asked(ask: Ask, digits: &[u8]) -> bool {
     let mut bytes = [0u8; 2048];
-    let got = text::bytes(fields, &mut bytes);
+    let got = text::bytes(digits, &mut bytes);
     if got < 0 {
         return false;
     }
     let n = io::count(got, &bytes);
-    say_crc(crc::crc32(&bytes[..n]));
+    say_asked(ask, &bytes[..n]);
     true
+}
+
+pub(crate) fn crc(fields: &[u8]) -> bool {
+    asked(Ask::Crc, fields)
 }
 
 pub(crate) fn more(fields: &[u8]) -> bool {
@@ -27,29 +58,11 @@ pub(crate) fn more(fields: &[u8]) -> bool {
     if register > 0xFFFF_FFFF {
         return false;
     }
-    let mut bytes = [0u8; 2048];
-    let got = text::bytes(text::rest(fields), &mut bytes);
-    if got < 0 {
-        return false;
-    }
-    let n = io::count(got, &bytes);
-    say::text(b"more ");
-    say::quad(crc::crc_more(register as u32, &bytes[..n]));
-    say::end();
-    true
+    asked(Ask::More(register as u32), text::rest(fields))
 }
 
 pub(crate) fn sum(fields: &[u8]) -> bool {
-    let mut bytes = [0u8; 2048];
-    let got = text::bytes(fields, &mut bytes);
-    if got < 0 {
-        return false;
-    }
-    let n = io::count(got, &bytes);
-    say::text(b"sum ");
-    say::byte(frame::checksum::checksum(&bytes[..n]));
-    say::end();
-    true
+    asked(Ask::Sum, fields)
 }
 
 // The bytes of a long message: all the same, or 0, 1, .. 250 over and over.

@@ -1,6 +1,6 @@
 -- `client_c::client_take` meets its contract: at each turn the first k datagrams are taken.
 -- Assumes nothing.
-use mathlib.Core.Path.{_≡_, refl, sym, ap, _∙_}
+use mathlib.Core.Path.{_≡_, refl, ap, _∙_}
 use Prim.Native.Nat.{_+_, _≤_, _-_, _/_}
 use native.Mathlib.Omega.{arith}
 use lib.ListN.{length}
@@ -66,25 +66,25 @@ loop-again : tie.Need-loop-again Inv-loop μ-loop
 loop-again c =
     let l = (c .before .before .before .before .before .before .before .before .before .before .before .before .before .before .loop) in
     let h = (c .before .before .before .before .before .before .before .before .before .before .before .before .before .loop-test .taken) in
-    let g : l .k + 1 ≤ length ((c .before .before .before .before .before .before .before .before .before .before .before .before .before .before .before .before .before .before .before .before .before .before .before .before .before .args .slots .now)) / 521 = omega arith in
-    let zero : length ((c .before .before .before .before .before .before .before .step .last .1 .0)) ≡ length (l .bank0) = (c .before .before .before .before .before .before .before .step .kept .1 .0) in
-    let one : length ((c .before .before .before .before .before .before .before .step .last .1 .1 .0)) ≡ length (l .bank1) = (c .before .before .before .before .before .before .before .step .kept .1 .1 .0) in
-    let said : length ((c .before .before .before .before .before .before .before .step .last .1 .1 .1 .1 .1 .0)) ≡ length (l .buffer) = (c .before .before .before .before .before .before .before .step .kept .1 .1 .1 .1 .1 .0) in (
+    let g : l .k + 1 ≤ length (c .before .before .before .before .before .before .before .before .before .before .before .before .before .before .before .before .before .before .before .before .before .before .before .before .before .args .slots .now) / 521 = omega arith in
+    let zero : length (c .before .before .before .before .before .before .before .step .last .1 .0) ≡ length (l .bank0) = (c .before .before .before .before .before .before .before .step .kept .1 .0) in
+    let one : length (c .before .before .before .before .before .before .before .step .last .1 .1 .0) ≡ length (l .bank1) = (c .before .before .before .before .before .before .before .step .kept .1 .1 .0) in
+    let said : length (c .before .before .before .before .before .before .before .step .last .1 .1 .1 .1 .1 .0) ≡ length (l .buffer) = (c .before .before .before .before .before .before .before .step .kept .1 .1 .1 .1 .1 .0) in (
       g,
       zero ∙ l .inv .1,
       one ∙ l .inv .2,
       said ∙ l .inv .3,
-      after-more _ _ _ _ (l .k) _ (l .client) (l .told) (l .bank0) (l .bank1) (l .buffer) ((c .before .before .before .before .before .before .before .step .result)) ((c .before .before .before .before .before .before .before .step .last .1 .0)) ((c .before .before .before .before .before .before .before .step .last .1 .1 .0)) ((c .before .before .before .before .before .before .before .step .last .1 .1 .1 .1 .1 .0)) (l .inv .4) ((c .before .before .before .before .before .before .before .before .before .before .before .before .size-at .ensures .0)) ((c .before .before .before .before .before .before .before .step .ensures)),
+      after-more _ _ _ _ (l .k) _ (l .client) (l .told) (l .bank0) (l .bank1) (l .buffer) (c .before .before .before .before .before .before .before .step .result) (c .before .before .before .before .before .before .before .step .last .1 .0) (c .before .before .before .before .before .before .before .step .last .1 .1 .0) (c .before .before .before .before .before .before .before .step .last .1 .1 .1 .1 .1 .0) (l .inv .4) (c .before .before .before .before .before .before .before .before .before .before .before .before .size-at .ensures .0) (c .before .before .before .before .before .before .before .step .ensures),
     )
 
 same-length : tie.Need-same-length Inv-loop μ-loop
-same-length c = (c .before .loop .inv .1)
+same-length c = c .before .loop .inv .1
 
 same-length-2 : tie.Need-same-length-2 Inv-loop μ-loop
-same-length-2 c = (c .before .loop .inv .2)
+same-length-2 c = c .before .loop .inv .2
 
 same-length-3 : tie.Need-same-length-3 Inv-loop μ-loop
-same-length-3 c = (c .before .loop .inv .3)
+same-length-3 c = c .before .loop .inv .3
 
 returns : tie.Need-returns Inv-loop μ-loop
 returns c =
@@ -93,7 +93,7 @@ returns c =
     let h = (c .loop-test .left) in
     let k : l .k ≡ length (a .slots .now) / 521 = omega arith in
     take-is (a .n) (a .slots .now) (a .bank0 .now) (a .bank1 .now) (a .marks .now) (a .address .now) (a .buffer .now) (l .k) _ (l .client) (l .told) (l .bank0) (l .bank1) (l .buffer)
-    (ap (λ (h : Hosted). h .client) ((c .before .before .before .initiate .ensures) ∙ ap (λ (h : Hosted). initiateOf (h .client)) ((c .before .before .before .before .before .new .ensures)))) k (l .inv .4)
+    (ap (λ (h : Hosted). h .client) ((c .before .before .before .initiate .ensures) ∙ ap (λ (h : Hosted). initiateOf (h .client)) (c .before .before .before .before .before .new .ensures))) k (l .inv .4)
 
 pub client-take-spec : {M : Type 1} → statement M
 client-take-spec =

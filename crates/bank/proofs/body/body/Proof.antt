@@ -26,7 +26,7 @@ enum-told-3 : tie.Need-enum-told-3
 enum-told-3 c = search needs
 
 count-requires : tie.Need-count-requires
-count-requires c κs = omega (arith, table-fits _ (sound-parts _ _ ((c .before .before .check .ensures)) ((c .enum-told3 .given .1)) .table))
+count-requires c κs = omega (arith, table-fits _ (sound-parts _ _ (c .before .before .check .ensures) (c .enum-told3 .given .1) .table))
 
 entry-at-requires : tie.Need-entry-at-requires
 entry-at-requires c κs = search needs
@@ -41,22 +41,22 @@ part-result-start : tie.Need-part-result-start
 part-result-start c = search needs
 
 part-result-end : tie.Need-part-result-end
-part-result-end c = entry-within _ _ _ ((c .before .entry-at .ensures .is)) (omega (arith, (c .before .before .before .count .ensures .is))) (sound-parts _ _ ((c .before .before .before .before .before .before .check .ensures)) ((c .before .before .before .before .enum-told3 .given .1)) .laid)
+part-result-end c = entry-within _ _ _ (c .before .entry-at .ensures .is) (omega (arith, (c .before .before .before .count .ensures .is))) (sound-parts _ _ (c .before .before .before .before .before .before .check .ensures) (c .before .before .before .before .enum-told3 .given .1) .laid)
 
 slice-aggregate-result-3 : tie.Need-slice-aggregate-result-3
 slice-aggregate-result-3 c = search needs
 
 returns : tie.Need-returns
-returns c = body-refused _ _ ((c .before .before .before .check .ensures)) _ ((c .before .enum-told .given .1))
+returns c = body-refused _ _ (c .before .before .before .check .ensures) _ (c .before .enum-told .given .1)
 
 returns-2 : tie.Need-returns-2
-returns-2 c = body-unsound _ _ ((c .before .before .before .check .ensures)) _ ((c .before .enum-told2 .given .1))
+returns-2 c = body-unsound _ _ (c .before .before .before .check .ensures) _ (c .before .enum-told2 .given .1)
 
 returns-3 : tie.Need-returns-3
-returns-3 c = body-is _ _ ((c .before .before .before .before .before .before .before .check .ensures)) _ ((c .before .before .before .before .before .enum-told3 .given .1)) (omega (arith, (c .before .before .before .before .count .ensures .is))) _ ((c .before .before .entry-at .ensures .is))
+returns-3 c = body-is _ _ (c .before .before .before .before .before .before .before .check .ensures) _ (c .before .before .before .before .before .enum-told3 .given .1) (omega (arith, (c .before .before .before .before .count .ensures .is))) _ (c .before .before .entry-at .ensures .is)
 
 returns-4 : tie.Need-returns-4
-returns-4 c = body-past _ _ ((c .before .before .before .before .before .check .ensures)) _ ((c .before .before .before .enum-told3 .given .1)) (omega (arith, (c .before .before .count .ensures .is)))
+returns-4 c = body-past _ _ (c .before .before .before .before .before .check .ensures) _ (c .before .before .before .enum-told3 .given .1) (omega (arith, (c .before .before .count .ensures .is)))
 
 pub body-spec : {M : Type 1} → statement M
 body-spec =

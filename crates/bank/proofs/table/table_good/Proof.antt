@@ -17,7 +17,7 @@ add-if1 : tie.Need-add-if1
 add-if1 c = search needs
 
 returns : tie.Need-returns
-returns c = table-short _ _ (((c .before .crc-place .ensures)) ∙ ap (λ (k : ℕ). 4 + entrySize * k) ((c .before .before .before .pre .is))) ((c .if1 .taken))
+returns c = table-short _ _ ((c .before .crc-place .ensures) ∙ ap (λ (k : ℕ). 4 + entrySize * k) (c .before .before .before .pre .is)) (c .if1 .taken)
 
 slice-aggregate-crc32 : tie.Need-slice-aggregate-crc32
 slice-aggregate-crc32 c = sym (length-take-le _ _ (omega arith))
@@ -29,7 +29,7 @@ number4-requires : tie.Need-number4-requires
 number4-requires c κs = search needs
 
 returns-2 : tie.Need-returns-2
-returns-2 c = table-crc _ _ (((c .before .before .before .before .crc-place .ensures)) ∙ ap (λ (k : ℕ). 4 + entrySize * k) ((c .before .before .before .before .before .before .pre .is))) _ _ ((c .before .before .before .if1 .left)) ((c .before .crc32 .ensures)) ((c .number4 .ensures))
+returns-2 c = table-crc _ _ ((c .before .before .before .before .crc-place .ensures) ∙ ap (λ (k : ℕ). 4 + entrySize * k) (c .before .before .before .before .before .before .pre .is)) _ _ (c .before .before .before .if1 .left) (c .before .crc32 .ensures) (c .number4 .ensures)
 
 pub table-good-spec : {M : Type 1} → statement M
 table-good-spec =

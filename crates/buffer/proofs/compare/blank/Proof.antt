@@ -43,8 +43,8 @@ blank-run-requires c κs = search needs
 returns : tie.Need-returns Inv-loop μ-loop
 returns c =
     let l = (c .before .before .before .before .loop) in
-    let e : false ≡ blankOf (take 64 (drop (l .i) ((c .before .before .before .before .before .before .args .bytes .now)))) = sym (not-true _ ((c .if1 .taken))) ∙ (c .before .blank-run .ensures) ∙ ap blankOf (part-out ((c .before .before .before .before .before .before .args .bytes .now)) (l .i) 64) in
-    blank-run ((c .before .before .before .before .before .before .args .bytes .now)) (l .i) 64 false e ∙ l .inv .1
+    let e : false ≡ blankOf (take 64 (drop (l .i) (c .before .before .before .before .before .before .args .bytes .now))) = sym (not-true _ (c .if1 .taken)) ∙ (c .before .blank-run .ensures) ∙ ap blankOf (part-out (c .before .before .before .before .before .before .args .bytes .now) (l .i) 64) in
+    blank-run (c .before .before .before .before .before .before .args .bytes .now) (l .i) 64 false e ∙ l .inv .1
 
 add-i : tie.Need-add-i Inv-loop μ-loop
 add-i c = search needs
@@ -55,8 +55,8 @@ loop-less c = search needs
 loop-again : tie.Need-loop-again Inv-loop μ-loop
 loop-again c =
     let l = (c .before .before .before .before .loop) in
-    let e : true ≡ blankOf (take 64 (drop (l .i) ((c .before .before .before .before .before .before .args .bytes .now)))) = sym (not-false _ ((c .if1 .left))) ∙ (c .before .blank-run .ensures) ∙ ap blankOf (part-out ((c .before .before .before .before .before .before .args .bytes .now)) (l .i) 64) in
-    (omega arith, blank-run ((c .before .before .before .before .before .before .args .bytes .now)) (l .i) 64 true e ∙ l .inv .1)
+    let e : true ≡ blankOf (take 64 (drop (l .i) (c .before .before .before .before .before .before .args .bytes .now))) = sym (not-false _ (c .if1 .left)) ∙ (c .before .blank-run .ensures) ∙ ap blankOf (part-out (c .before .before .before .before .before .before .args .bytes .now) (l .i) 64) in
+    (omega arith, blank-run (c .before .before .before .before .before .before .args .bytes .now) (l .i) 64 true e ∙ l .inv .1)
 
 sub-blank-run-2 : tie.Need-sub-blank-run-2 Inv-loop μ-loop
 sub-blank-run-2 c = search needs
@@ -73,7 +73,7 @@ blank-run-requires-2 c κs = search needs
 returns-2 : tie.Need-returns-2 Inv-loop μ-loop
 returns-2 c =
     let l = (c .before .before .before .loop) in
-    (c .blank-run2 .ensures) ∙ ap blankOf (rest-out ((c .before .before .before .before .before .args .bytes .now)) (l .i)) ∙ l .inv .1
+    (c .blank-run2 .ensures) ∙ ap blankOf (rest-out (c .before .before .before .before .before .args .bytes .now) (l .i)) ∙ l .inv .1
 
 pub blank-spec : {M : Type 1} → statement M
 blank-spec =

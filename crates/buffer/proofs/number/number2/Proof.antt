@@ -9,14 +9,14 @@ use Rattle.buffer.proofs.number.number2.Tie as tie
 
 returns : tie.Need-returns
 returns c =
-    sym (number-outside 2 ((c .before .before .args .bytes .now)) ((c .before .before .args .at)) (omega arith))
+    sym (number-outside 2 (c .before .before .args .bytes .now) (c .before .before .args .at) (omega arith))
 
 sub-if2 : tie.Need-sub-if2
 sub-if2 c = search needs
 
 returns-2 : tie.Need-returns-2
 returns-2 c =
-    sym (number-outside 2 ((c .before .before .before .args .bytes .now)) ((c .before .before .before .args .at)) (omega arith))
+    sym (number-outside 2 (c .before .before .before .args .bytes .now) (c .before .before .before .args .at) (omega arith))
 
 shared-slice-read-pair : tie.Need-shared-slice-read-pair
 shared-slice-read-pair c = search needs
@@ -32,7 +32,7 @@ pair-requires c κs = search needs
 
 returns-3 : tie.Need-returns-3
 returns-3 c =
-    (c .pair .ensures) ∙ sym (number-two ((c .before .before .before .before .before .before .args .bytes .now)) ((c .before .before .before .before .before .before .args .at)) (omega arith))
+    (c .pair .ensures) ∙ sym (number-two (c .before .before .before .before .before .before .args .bytes .now) (c .before .before .before .before .before .before .args .at) (omega arith))
 
 pub number2-spec : {M : Type 1} → statement M
 number2-spec =

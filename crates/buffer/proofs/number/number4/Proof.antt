@@ -10,14 +10,14 @@ use Rattle.buffer.proofs.number.number4.Tie as tie
 
 returns : tie.Need-returns
 returns c =
-    sym (number-outside 4 ((c .before .before .args .bytes .now)) ((c .before .before .args .at)) (omega arith))
+    sym (number-outside 4 (c .before .before .args .bytes .now) (c .before .before .args .at) (omega arith))
 
 sub-if2 : tie.Need-sub-if2
 sub-if2 c = search needs
 
 returns-2 : tie.Need-returns-2
 returns-2 c =
-    sym (number-outside 4 ((c .before .before .before .args .bytes .now)) ((c .before .before .before .args .at)) (omega arith))
+    sym (number-outside 4 (c .before .before .before .args .bytes .now) (c .before .before .before .args .at) (omega arith))
 
 shared-slice-read-pair : tie.Need-shared-slice-read-pair
 shared-slice-read-pair c = search needs
@@ -52,8 +52,8 @@ joined-requires c κs = search needs
 returns-3 : tie.Need-returns-3
 returns-3 c =
     (c .joined .ensures)
-    ∙ ap₂ (λ (h l : ℕ). h * 65536 + l) ((c .before .before .before .before .pair .ensures)) ((c .before .pair2 .ensures))
-    ∙ sym (number-four ((c .before .before .before .before .before .before .before .before .before .before .args .bytes .now)) ((c .before .before .before .before .before .before .before .before .before .before .args .at)) (omega arith))
+    ∙ ap₂ (λ (h l : ℕ). h * 65536 + l) (c .before .before .before .before .pair .ensures) (c .before .pair2 .ensures)
+    ∙ sym (number-four (c .before .before .before .before .before .before .before .before .before .before .args .bytes .now) (c .before .before .before .before .before .before .before .before .before .before .args .at) (omega arith))
 
 pub number4-spec : {M : Type 1} → statement M
 number4-spec =

@@ -2,7 +2,7 @@
 -- Assumes nothing.
 use mathlib.Core.Path.{ap, _∙_}
 use Prim.Native.Nat.{ℕ}
-use Rattle.client.specs.declared.answer.Kind.the-variants.{Ended}
+use Rattle.client.specs.declared.notice.Kind.the-variants.{Ended}
 use Rattle.client.specs.Notice.{noticeWith}
 use borrow.Author.Needs.{needs}
 use Rattle.client.proofs.step.notice_for.Statement.{statement}
@@ -17,8 +17,8 @@ no-notice-requires c κs = search needs
 enum-told-2 : tie.Need-enum-told-2
 enum-told-2 c = search needs
 
-notice-of-requires : tie.Need-notice-of-requires
-notice-of-requires c κs = rw ((c .enum-told2 .given .1)) at ((c .before .before .before .pre))
+notice-with-requires : tie.Need-notice-with-requires
+notice-with-requires c κs = rw ((c .enum-told2 .given .1)) at ((c .before .before .before .pre))
 
 enum-told-3 : tie.Need-enum-told-3
 enum-told-3 c = search needs
@@ -26,8 +26,8 @@ enum-told-3 c = search needs
 latest-number-requires : tie.Need-latest-number-requires
 latest-number-requires c κs = search needs
 
-notice-of-requires-2 : tie.Need-notice-of-requires-2
-notice-of-requires-2 c κs = rw ((c .before .enum-told3 .given .1)) at ((c .before .before .before .before .pre))
+notice-with-requires-2 : tie.Need-notice-with-requires-2
+notice-with-requires-2 c κs = rw ((c .before .enum-told3 .given .1)) at ((c .before .before .before .before .pre))
 
 enum-told-4 : tie.Need-enum-told-4
 enum-told-4 c = search needs
@@ -57,10 +57,10 @@ returns : tie.Need-returns
 returns c = search needs
 
 returns-2 : tie.Need-returns-2
-returns-2 c = rw ((c .before .enum-told2 .given .1)) ((c .notice-of .ensures))
+returns-2 c = rw ((c .before .enum-told2 .given .1)) ((c .notice-with .ensures))
 
 returns-3 : tie.Need-returns-3
-returns-3 c = rw ((c .before .before .enum-told3 .given .1)) ((c .notice-of2 .ensures) ∙ ap (λ (x : ℕ). noticeWith Ended x ((c .before .before .before .before .before .args .address .now))) ((c .before .latest-number .ensures)))
+returns-3 c = rw ((c .before .before .enum-told3 .given .1)) ((c .notice-with2 .ensures) ∙ ap (λ (x : ℕ). noticeWith Ended x ((c .before .before .before .before .before .args .address .now))) ((c .before .latest-number .ensures)))
 
 returns-4 : tie.Need-returns-4
 returns-4 c = search needs
@@ -81,10 +81,10 @@ notice-for-spec =
     enum-told
     no-notice-requires
     enum-told-2
-    notice-of-requires
+    notice-with-requires
     enum-told-3
     latest-number-requires
-    notice-of-requires-2
+    notice-with-requires-2
     enum-told-4
     no-notice-requires-2
     enum-told-5

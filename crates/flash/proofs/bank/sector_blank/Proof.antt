@@ -18,9 +18,7 @@ start-requires c κs =
     search needs
 
 add-blank : tie.Need-add-blank
-add-blank c =
-    let h = has-tested _ _ _ (c .before .before .has-sector .ensures) (c .before .if1 .left) in
-    search needs
+add-blank c = search needs
 
 sub-blank : tie.Need-sub-blank
 sub-blank c = search needs
@@ -29,16 +27,14 @@ part-blank-start : tie.Need-part-blank-start
 part-blank-start c = search needs
 
 part-blank-end : tie.Need-part-blank-end
-part-blank-end c =
-    let h = has-tested _ _ _ (c .before .before .has-sector .ensures) (c .before .if1 .left) in
-    search needs
+part-blank-end c = search needs
 
 blank-requires : tie.Need-blank-requires
 blank-requires c κs = search needs
 
 returns-2 : tie.Need-returns-2
 returns-2 c =
-    blank-inside (c .before .before .before .before .before .before .args .bank .now) (c .before .before .before .before .before .before .args .k) _ (c .blank .result) (has-tested _ _ _ (c .before .before .before .before .has-sector .ensures) (c .before .before .before .if1 .left)) (c .before .before .start .ensures) (c .blank .ensures)
+    blank-inside (c .before .before .before .before .before .before .args .bank .now) (c .before .before .before .before .before .before .args .k) _ (c .blank .result) (has-tested _ _ _ (c .before .before .before .before .has-sector .ensures) (c .before .before .before .if1 .left)) (c .before .before .start .ensures .0) (c .blank .ensures)
 
 pub sector-blank-spec : {M : Type 1} → statement M
 sector-blank-spec =

@@ -38,13 +38,13 @@ loop-less : tie.Need-loop-less Inv-loop μ-loop
 loop-less c = search needs
 
 loop-again : tie.Need-loop-again Inv-loop μ-loop
-loop-again c = (omega arith, ((c .before .before .sweep-one .kept .0)) ∙ ((c .before .before .before .before .before .before .loop .inv .1)), swept-next _ ((c .before .before .before .before .before .before .loop .j)) ((c .before .before .before .before .before .before .before .before .before .before .args .bank .now)) ((c .before .before .before .before .before .before .loop .bank)) _ ((c .before .before .before .before .before .before .loop .inv .2)) (((c .before .before .sweep-one .ensures)) ∙ ap (sweptOne ((c .before .before .before .before .before .before .loop .bank)) ((c .before .before .before .before .before .before .loop .j) + 1)) ((c .before .before .before .was-received .ensures))))
+loop-again c = (omega arith, (c .before .before .sweep-one .kept .0) ∙ (c .before .before .before .before .before .before .loop .inv .1), swept-next _ (c .before .before .before .before .before .before .loop .j) (c .before .before .before .before .before .before .before .before .before .before .args .bank .now) (c .before .before .before .before .before .before .loop .bank) _ (c .before .before .before .before .before .before .loop .inv .2) ((c .before .before .sweep-one .ensures) ∙ ap (sweptOne (c .before .before .before .before .before .before .loop .bank) ((c .before .before .before .before .before .before .loop .j) + 1)) (c .before .before .before .was-received .ensures)))
 
 same-length : tie.Need-same-length Inv-loop μ-loop
-same-length c = (c .before .loop .inv .1)
+same-length c = c .before .loop .inv .1
 
 returns : tie.Need-returns Inv-loop μ-loop
-returns c = let e : ((c .before .loop .j)) ≡ ((c .before .before .had .result)) = omega arith in swept-all _ ((c .before .loop .j)) _ ((c .before .before .before .before .before .args .bank .now)) ((c .before .loop .bank)) ((c .before .loop .inv .2)) (e ∙ ((c .before .before .had .ensures)))
+returns c = let e : (c .before .loop .j) ≡ (c .before .before .had .result) = omega arith in swept-all _ (c .before .loop .j) _ (c .before .before .before .before .before .args .bank .now) (c .before .loop .bank) (c .before .loop .inv .2) (e ∙ (c .before .before .had .ensures))
 
 pub sweep-spec : {M : Type 1} → statement M
 sweep-spec =

@@ -21,9 +21,7 @@ start-requires c κs =
     search needs
 
 add-erase : tie.Need-add-erase
-add-erase c =
-    let h = has-tested _ _ _ (c .before .before .has-sector .ensures) (c .before .if2 .left) in
-    search needs
+add-erase c = search needs
 
 sub-erase : tie.Need-sub-erase
 sub-erase c = search needs
@@ -32,9 +30,7 @@ part-erase-start : tie.Need-part-erase-start
 part-erase-start c = search needs
 
 part-erase-end : tie.Need-part-erase-end
-part-erase-end c =
-    let h = has-tested _ _ _ (c .before .before .has-sector .ensures) (c .before .if2 .left) in
-    search needs
+part-erase-end c = search needs
 
 erase-requires : tie.Need-erase-requires
 erase-requires c κs = search needs
@@ -44,7 +40,7 @@ same-length c = search needs
 
 returns-3 : tie.Need-returns-3
 returns-3 c =
-    one-erased (c .before .before .before .before .before .before .before .before .before .args .bank .now) (c .before .before .before .before .before .before .before .before .before .args .k) _ (c .before .before .before .before .before .before .before .before .before .args .received) _ (c .before .before .before .before .before .before .before .if1 .left) (has-tested _ _ _ (c .before .before .before .before .before .before .has-sector .ensures) (c .before .before .before .before .before .if2 .left)) (c .before .before .before .before .start .ensures) (c .before .before .erase .ensures)
+    one-erased (c .before .before .before .before .before .before .before .before .before .args .bank .now) (c .before .before .before .before .before .before .before .before .before .args .k) _ (c .before .before .before .before .before .before .before .before .before .args .received) _ (c .before .before .before .before .before .before .before .if1 .left) (has-tested _ _ _ (c .before .before .before .before .before .before .has-sector .ensures) (c .before .before .before .before .before .if2 .left)) (c .before .before .before .before .start .ensures .0) (c .before .before .erase .ensures)
 
 pub sweep-one-spec : {M : Type 1} → statement M
 sweep-one-spec =

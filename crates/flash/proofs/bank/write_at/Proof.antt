@@ -18,9 +18,7 @@ start-requires c κs =
     search needs
 
 add-write-sector : tie.Need-add-write-sector
-add-write-sector c =
-    let h = has-tested _ _ _ (c .before .before .has-sector .ensures) (c .before .if1 .left) in
-    search needs
+add-write-sector c = search needs
 
 sub-write-sector : tie.Need-sub-write-sector
 sub-write-sector c = search needs
@@ -29,9 +27,7 @@ part-write-sector-start : tie.Need-part-write-sector-start
 part-write-sector-start c = search needs
 
 part-write-sector-end : tie.Need-part-write-sector-end
-part-write-sector-end c =
-    let h = has-tested _ _ _ (c .before .before .has-sector .ensures) (c .before .if1 .left) in
-    search needs
+part-write-sector-end c = search needs
 
 write-sector-requires : tie.Need-write-sector-requires
 write-sector-requires c κs = search needs
@@ -41,7 +37,7 @@ same-length c = search needs
 
 returns-2 : tie.Need-returns-2
 returns-2 c =
-    write-inside (c .before .before .before .before .before .before .before .before .before .args .bank .now) (c .before .before .before .before .before .before .before .before .before .args .k) _ (c .before .before .before .before .before .before .before .before .before .args .bytes .now) _ _ (has-tested _ _ _ (c .before .before .before .before .before .before .has-sector .ensures) (c .before .before .before .before .before .if1 .left)) (c .before .before .before .before .start .ensures) (c .before .before .write-sector .ensures)
+    write-inside (c .before .before .before .before .before .before .before .before .before .args .bank .now) (c .before .before .before .before .before .before .before .before .before .args .k) _ (c .before .before .before .before .before .before .before .before .before .args .bytes .now) _ _ (has-tested _ _ _ (c .before .before .before .before .before .before .has-sector .ensures) (c .before .before .before .before .before .if1 .left)) (c .before .before .before .before .start .ensures .0) (c .before .before .write-sector .ensures)
 
 pub write-at-spec : {M : Type 1} → statement M
 write-at-spec =

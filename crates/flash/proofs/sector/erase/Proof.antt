@@ -13,7 +13,7 @@ same-length c = search needs
 
 returns : tie.Need-returns
 unfolding erasedOf
-returns c = (c .before .before .fill .ensures)
+returns c = c .before .before .fill .ensures
 
 pub erase-spec : {M : Type 1} → statement M
 erase-spec = tie.close (tie.spec fill-requires same-length returns)

@@ -12,14 +12,14 @@ use Rattle.flash.proofs.sector.holds.Statement.{statement}
 use Rattle.flash.proofs.sector.holds.Tie as tie
 
 slice-aggregate-same : tie.Need-slice-aggregate-same
-slice-aggregate-same c = sym (length-take-le _ ((c .before .before .before .args .sector .now)) (omega arith))
+slice-aggregate-same c = sym (length-take-le _ (c .before .before .before .args .sector .now) (omega arith))
 
 same-requires : tie.Need-same-requires
 same-requires c κs = search needs
 
 returns : tie.Need-returns
 returns c =
-    holds-not ((c .before .before .before .before .before .args .sector .now)) ((c .before .before .before .before .before .args .bytes .now)) (omega arith) (omega arith) ((c .before .same .result)) ((c .before .same .ensures)) (not-true _ ((c .if1 .taken)))
+    holds-not (c .before .before .before .before .before .args .sector .now) (c .before .before .before .before .before .args .bytes .now) (omega arith) (omega arith) (c .before .same .result) (c .before .same .ensures) (not-true _ (c .if1 .taken))
 
 sub-blank : tie.Need-sub-blank
 sub-blank c = search needs
@@ -36,8 +36,8 @@ blank-requires c κs = search needs
 returns-2 : tie.Need-returns-2
 returns-2 c =
     (c .blank .ensures)
-    ∙ ap blankOf (rest-out ((c .before .before .before .before .before .before .before .args .sector .now)) _)
-    ∙ holds-rest ((c .before .before .before .before .before .before .before .args .sector .now)) ((c .before .before .before .before .before .before .before .args .bytes .now)) (omega arith) (omega arith) ((c .before .before .before .same .result)) ((c .before .before .before .same .ensures)) (not-false _ ((c .before .before .if1 .left)))
+    ∙ ap blankOf (rest-out (c .before .before .before .before .before .before .before .args .sector .now) _)
+    ∙ holds-rest (c .before .before .before .before .before .before .before .args .sector .now) (c .before .before .before .before .before .before .before .args .bytes .now) (omega arith) (omega arith) (c .before .before .before .same .result) (c .before .before .before .same .ensures) (not-false _ (c .before .before .if1 .left))
 
 pub holds-spec : {M : Type 1} → statement M
 holds-spec =

@@ -40,7 +40,7 @@ blank-requires c κs = search needs
 
 returns : tie.Need-returns
 returns c =
-    word-blank ((c .before .before .before .before .before .before .before .before .before .args .bytes .now)) ((c .before .before .before .before .before .before .before .before .before .args .i)) _ ((c .before .before .before .before .before .before .before .before .before .args .sector .now)) (word-bytes ((c .before .before .before .before .before .before .before .before .before .args .bytes .now)) ((c .before .before .before .before .before .before .before .before .before .args .i) * 4) (omega arith)) (sym ((c .if1 .taken)) ∙ (c .before .blank .ensures))
+    word-blank (c .before .before .before .before .before .before .before .before .before .args .bytes .now) (c .before .before .before .before .before .before .before .before .before .args .i) _ (c .before .before .before .before .before .before .before .before .before .args .sector .now) (word-bytes (c .before .before .before .before .before .before .before .before .before .args .bytes .now) ((c .before .before .before .before .before .before .before .before .before .args .i) * 4) (omega arith)) (sym (c .if1 .taken) ∙ (c .before .blank .ensures))
 
 store-word-requires : tie.Need-store-word-requires
 store-word-requires c κs = search needs
@@ -51,7 +51,7 @@ same-length c = search needs
 returns-2 : tie.Need-returns-2
 returns-2 c =
     (c .before .before .store-word .ensures)
-    ∙ word-put ((c .before .before .before .before .before .before .before .before .before .before .before .before .before .args .bytes .now)) ((c .before .before .before .before .before .before .before .before .before .before .before .before .before .args .i)) _ ((c .before .before .before .before .before .before .before .before .before .before .before .before .before .args .sector .now)) (word-bytes ((c .before .before .before .before .before .before .before .before .before .before .before .before .before .args .bytes .now)) ((c .before .before .before .before .before .before .before .before .before .before .before .before .before .args .i) * 4) (omega arith)) (sym ((c .before .before .before .before .if1 .left)) ∙ (c .before .before .before .before .before .blank .ensures))
+    ∙ word-put (c .before .before .before .before .before .before .before .before .before .before .before .before .before .args .bytes .now) (c .before .before .before .before .before .before .before .before .before .before .before .before .before .args .i) _ (c .before .before .before .before .before .before .before .before .before .before .before .before .before .args .sector .now) (word-bytes (c .before .before .before .before .before .before .before .before .before .before .before .before .before .args .bytes .now) ((c .before .before .before .before .before .before .before .before .before .before .before .before .before .args .i) * 4) (omega arith)) (sym (c .before .before .before .before .if1 .left) ∙ (c .before .before .before .before .before .blank .ensures))
 
 pub put-word-spec : {M : Type 1} → statement M
 put-word-spec =

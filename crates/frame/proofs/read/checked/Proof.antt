@@ -24,7 +24,7 @@ checksum-requires c κs = search needs
 
 returns : tie.Need-returns
 returns c =
-    ap (eqb (getD ((c .before .before .before .before .args .datagram .now)) ((c .before .before .before .before .args .at)) 0)) ((c .checksum .ensures))
+    ap (eqb (getD (c .before .before .before .before .args .datagram .now) (c .before .before .before .before .args .at) 0)) (c .checksum .ensures)
 
 pub checked-spec : {M : Type 1} → statement M
 checked-spec =

@@ -32,7 +32,7 @@ same-length c = search needs
 returns : tie.Need-returns
 returns c =
     (c .before .before .put-at .ensures)
-    ∙ ap (λ (sum : ℕ). placeOf ((c .before .before .before .before .before .before .before .before .before .args .buffer .now)) ((c .before .before .before .before .before .before .before .before .before .args .at)) (sum ∷ (c .before .before .before .before .before .before .before .before .before .args .footer) ∷ [])) ((c .before .before .before .before .before .checksum .ensures))
+    ∙ ap (λ (sum : ℕ). placeOf (c .before .before .before .before .before .before .before .before .before .args .buffer .now) (c .before .before .before .before .before .before .before .before .before .args .at) (sum ∷ (c .before .before .before .before .before .before .before .before .before .args .footer) ∷ [])) (c .before .before .before .before .before .checksum .ensures)
 
 pub close-spec : {M : Type 1} → statement M
 close-spec =

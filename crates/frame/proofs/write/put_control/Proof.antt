@@ -13,13 +13,13 @@ use Rattle.frame.proofs.write.put_control.Statement.{statement}
 use Rattle.frame.proofs.write.put_control.Tie as tie
 
 returns : tie.Need-returns
-returns c = control-too-long ((c .before .before .before .args .buffer .now)) ((c .before .before .before .args .code)) ((c .before .before .before .args .parameters .now)) (omega arith)
+returns c = control-too-long (c .before .before .before .args .buffer .now) (c .before .before .before .args .code) (c .before .before .before .args .parameters .now) (omega arith)
 
 add-if2 : tie.Need-add-if2
 add-if2 c = search needs
 
 returns-2 : tie.Need-returns-2
-returns-2 c = control-no-room ((c .before .before .before .before .args .buffer .now)) ((c .before .before .before .before .args .code)) ((c .before .before .before .before .args .parameters .now)) (omega arith) (omega arith)
+returns-2 c = control-no-room (c .before .before .before .before .args .buffer .now) (c .before .before .before .before .args .code) (c .before .before .before .before .args .parameters .now) (omega arith) (omega arith)
 
 add-t7 : tie.Need-add-t7
 add-t7 c = search needs
@@ -49,8 +49,8 @@ returns-3 : tie.Need-returns-3
 returns-3 c =
     let b = (c .before .before .before .before .before .before .before .before .before .before .before .before .before .before .before .before .before .args .buffer .now) in
     (c .before .before .close .ensures)
-    ∙ ap (λ (x : List ℕ). closedAt x (length ((c .before .before .before .before .before .before .before .before .before .before .before .before .before .before .before .before .before .args .parameters .now)) + 3) 0x03) ((c .before .before .before .before .before .before .put-at .ensures) ∙ ap (λ (x : List ℕ). placeOf x 3 ((c .before .before .before .before .before .before .before .before .before .before .before .before .before .before .before .before .before .args .parameters .now))) ((c .before .before .before .before .before .before .before .before .before .before .put-front .ensures)))
-    ∙ control-put ((c .before .before .before .before .before .before .before .before .before .before .before .before .before .before .before .before .before .args .buffer .now)) ((c .before .before .before .before .before .before .before .before .before .before .before .before .before .before .before .before .before .args .code)) ((c .before .before .before .before .before .before .before .before .before .before .before .before .before .before .before .before .before .args .parameters .now)) (omega arith) (omega arith)
+    ∙ ap (λ (x : List ℕ). closedAt x (length (c .before .before .before .before .before .before .before .before .before .before .before .before .before .before .before .before .before .args .parameters .now) + 3) 0x03) ((c .before .before .before .before .before .before .put-at .ensures) ∙ ap (λ (x : List ℕ). placeOf x 3 (c .before .before .before .before .before .before .before .before .before .before .before .before .before .before .before .before .before .args .parameters .now)) (c .before .before .before .before .before .before .before .before .before .before .put-front .ensures))
+    ∙ control-put (c .before .before .before .before .before .before .before .before .before .before .before .before .before .before .before .before .before .args .buffer .now) (c .before .before .before .before .before .before .before .before .before .before .before .before .before .before .before .before .before .args .code) (c .before .before .before .before .before .before .before .before .before .before .before .before .before .before .before .before .before .args .parameters .now) (omega arith) (omega arith)
 
 pub put-control-spec : {M : Type 1} → statement M
 put-control-spec =

@@ -14,13 +14,13 @@ use Rattle.frame.proofs.write.put_write.Statement.{statement}
 use Rattle.frame.proofs.write.put_write.Tie as tie
 
 returns : tie.Need-returns
-returns c = write-too-long ((c .before .before .before .args .buffer .now)) ((c .before .before .before .args .sector)) ((c .before .before .before .args .bytes .now)) ((c .before .before .before .args .footer)) (omega arith)
+returns c = write-too-long (c .before .before .before .args .buffer .now) (c .before .before .before .args .sector) (c .before .before .before .args .bytes .now) (c .before .before .before .args .footer) (omega arith)
 
 add-if2 : tie.Need-add-if2
 add-if2 c = search needs
 
 returns-2 : tie.Need-returns-2
-returns-2 c = write-no-room ((c .before .before .before .before .args .buffer .now)) ((c .before .before .before .before .args .sector)) ((c .before .before .before .before .args .bytes .now)) ((c .before .before .before .before .args .footer)) (omega arith) (omega arith)
+returns-2 c = write-no-room (c .before .before .before .before .args .buffer .now) (c .before .before .before .before .args .sector) (c .before .before .before .before .args .bytes .now) (c .before .before .before .before .args .footer) (omega arith) (omega arith)
 
 cast-close : tie.Need-cast-close
 cast-close c = search needs
@@ -59,9 +59,9 @@ returns-3 : tie.Need-returns-3
 returns-3 c =
     let b = (c .before .before .before .before .before .before .before .before .before .before .before .before .before .before .before .before .before .before .args .buffer .now) in
     (c .before .before .close .ensures)
-    ∙ ap (closedAt _ (length ((c .before .before .before .before .before .before .before .before .before .before .before .before .before .before .before .before .before .before .args .bytes .now)) + 5)) ((c .before .before .before .footer-byte .ensures))
-    ∙ ap (λ (x : List ℕ). closedAt x (length ((c .before .before .before .before .before .before .before .before .before .before .before .before .before .before .before .before .before .before .args .bytes .now)) + 5) (footerByte ((c .before .before .before .before .before .before .before .before .before .before .before .before .before .before .before .before .before .before .args .footer)))) ((c .before .before .before .before .before .before .before .put-at .ensures) ∙ ap (λ (x : List ℕ). placeOf x 5 ((c .before .before .before .before .before .before .before .before .before .before .before .before .before .before .before .before .before .before .args .bytes .now))) ((c .before .before .before .before .before .before .before .before .before .before .before .put-front .ensures)))
-    ∙ write-put ((c .before .before .before .before .before .before .before .before .before .before .before .before .before .before .before .before .before .before .args .buffer .now)) ((c .before .before .before .before .before .before .before .before .before .before .before .before .before .before .before .before .before .before .args .sector)) ((c .before .before .before .before .before .before .before .before .before .before .before .before .before .before .before .before .before .before .args .bytes .now)) ((c .before .before .before .before .before .before .before .before .before .before .before .before .before .before .before .before .before .before .args .footer)) (omega arith) (omega arith)
+    ∙ ap (closedAt _ (length (c .before .before .before .before .before .before .before .before .before .before .before .before .before .before .before .before .before .before .args .bytes .now) + 5)) (c .before .before .before .footer-byte .ensures)
+    ∙ ap (λ (x : List ℕ). closedAt x (length (c .before .before .before .before .before .before .before .before .before .before .before .before .before .before .before .before .before .before .args .bytes .now) + 5) (footerByte (c .before .before .before .before .before .before .before .before .before .before .before .before .before .before .before .before .before .before .args .footer))) ((c .before .before .before .before .before .before .before .put-at .ensures) ∙ ap (λ (x : List ℕ). placeOf x 5 (c .before .before .before .before .before .before .before .before .before .before .before .before .before .before .before .before .before .before .args .bytes .now)) (c .before .before .before .before .before .before .before .before .before .before .before .put-front .ensures))
+    ∙ write-put (c .before .before .before .before .before .before .before .before .before .before .before .before .before .before .before .before .before .before .args .buffer .now) (c .before .before .before .before .before .before .before .before .before .before .before .before .before .before .before .before .before .before .args .sector) (c .before .before .before .before .before .before .before .before .before .before .before .before .before .before .before .before .before .before .args .bytes .now) (c .before .before .before .before .before .before .before .before .before .before .before .before .before .before .before .before .before .before .args .footer) (omega arith) (omega arith)
 
 pub put-write-spec : {M : Type 1} → statement M
 put-write-spec =

@@ -32,7 +32,7 @@ returns : tie.Need-returns
 returns c =
     let t = (c .before .before .before .before .before .args .text .now) in
     let at = (c .before .before .before .before .before .args .at) in
-    (rw ((c .before .before .digit .ensures), (c .digit2 .ensures)), (λ e. rw ((c .before .before .digit .ensures), (c .digit2 .ensures)) (pair-is (getD t at 0) (getD t (at + 1) 0) e)))
+    λ e. rw ((c .before .before .digit .ensures), (c .digit2 .ensures)) (pair-is (getD t at 0) (getD t (at + 1) 0) e)
 
 pub value-at-spec : {M : Type 1} → statement M
 value-at-spec =

@@ -3,7 +3,7 @@
 use mathlib.Core.Path.{_≡_, refl, sym, _∙_}
 use native.Mathlib.Omega.{arith}
 use mathlib.Core.Bool.{_&&_}
-use Prim.Native.Nat.{_≤_, _+_, _-_}
+use Prim.Native.Nat.{_≤_, _+_}
 use Rattle.hex.specs.Places.{quietAt}
 use Rattle.hex.proofs.Lines.{quiet-one, quiet-none}
 use Rattle.hex.proofs.line.quiet.Statement.{statement}

@@ -4,17 +4,17 @@
 use mathlib.Core.Path.{_≡_, refl, sym, ap, _∙_}
 use native.Mathlib.Omega.{arith}
 use borrow.Author.Needs.{needs}
-use Prim.Native.Nat.{_+_, _-_, _≤_}
+use Prim.Native.Nat.{_+_, _-_, _≤_, _<_}
 use lib.ListN.{length, drop}
 use Rattle.hex.specs.Line.{lines}
 use Rattle.hex.specs.Read.{readLines, fresh}
 use Rattle.hex.proofs.Lines.{ahead-line, ahead-none}
-use Rattle.hex.proofs.Steps.{outcome-of, read-on, read-stop, read-finish}
+use Rattle.hex.proofs.Steps.{outcome-of, step-upper, read-on, read-stop, read-finish}
 use Rattle.hex.proofs.read.read_lines.Statement.{statement}
 use Rattle.hex.proofs.read.read_lines.Tie as tie
 
 abbrev Inv-loop : tie.InvT-loop
-Inv-loop text base image₀ state₀ at₀ line₀ image state at line = (at ≤ length text) × ((line ≤ at + 1) × ((length image ≡ length image₀) × ((state .upper ≤ 65792) × (readLines base (length image₀) fresh 1 image₀ (lines text) ≡ readLines base (length image₀) state line image (lines (drop at text))))))
+Inv-loop text base image₀ state₀ at₀ line₀ image state at line = (at ≤ length text) × ((line ≤ at + 1) × ((length image ≡ length image₀) × ((state .upper < 65536) × (readLines base (length image₀) fresh 1 image₀ (lines text) ≡ readLines base (length image₀) state line image (lines (drop at text))))))
 
 abbrev μ-loop : tie.MeasureT-loop
 μ-loop text base image₀ state₀ at₀ line₀ image state at line = length text - at
@@ -107,7 +107,7 @@ loop-again c =
         (
           (c .before .before .before .before .before .take-line .kept .1 .1 .1 .1 .1 .0) ∙ l .inv .1 .1 .0,
           (
-            rw ((c .before .step2 .given .1)) at (k .fits),
+            step-upper (a .base) _ (l .state) _ _ (l .inv .1 .1 .1 .0) e,
             l .inv .1 .1 .1 .1 ∙ read-on (a .base) (length (a .image .now)) (l .state) (l .line) (l .image) t (l .at) ((c .before .before .before .before .before .before .before .before .found .given .0 .0 .end)) ((c .before .before .before .before .before .before .before .before .found .given .0 .0 .next)) (m .0) (m .1) _ (rw (l .inv .1 .1 .0) at e) ∙ rw (sym (rw (l .inv .1 .1 .0) at (k .image))),
           ),
         ),

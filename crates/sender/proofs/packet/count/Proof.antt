@@ -14,19 +14,19 @@ good-n-requires : tie.Need-good-n-requires
 good-n-requires c κs = search needs
 
 returns : tie.Need-returns
-returns c = tally-bad-n _ _ (sym ((c .before .good-n .ensures)) ∙ not-true _ ((c .if1 .taken)))
+returns c = tally-bad-n _ _ (sym (c .before .good-n .ensures) ∙ not-true _ (c .if1 .taken))
 
 mul-if2 : tie.Need-mul-if2
-mul-if2 c = omega (arith, good-high _ (sym ((c .before .good-n .ensures)) ∙ not-false _ ((c .if1 .left))))
+mul-if2 c = omega (arith, good-high _ (sym (c .before .good-n .ensures) ∙ not-false _ (c .if1 .left)))
 
 returns-2 : tie.Need-returns-2
-returns-2 c = tally-bad-image _ _ (sym ((c .before .before .good-n .ensures)) ∙ not-false _ ((c .before .if1 .left))) ((c .if2 .taken))
+returns-2 c = tally-bad-image _ _ (sym (c .before .before .good-n .ensures) ∙ not-false _ (c .before .if1 .left)) (c .if2 .taken)
 
 survey-requires : tie.Need-survey-requires
-survey-requires c κs = ((sym ((c .before .before .good-n .ensures)) ∙ not-false _ ((c .before .if1 .left))), ((c .if2 .left)))
+survey-requires c κs = ((sym (c .before .before .good-n .ensures) ∙ not-false _ (c .before .if1 .left)), (c .if2 .left))
 
 returns-3 : tie.Need-returns-3
-returns-3 c = ap Packets (seen-count ((c .before .before .before .before .before .args .image .now)) 0 ((c .before .before .before .before .before .args .n)) _ ((c .survey .ensures))) ∙ tally-packets _ _ (sym ((c .before .before .before .good-n .ensures)) ∙ not-false _ ((c .before .before .if1 .left))) ((c .before .if2 .left))
+returns-3 c = ap Packets (seen-count (c .before .before .before .before .before .args .image .now) 0 (c .before .before .before .before .before .args .n) _ (c .survey .ensures)) ∙ tally-packets _ _ (sym (c .before .before .before .good-n .ensures) ∙ not-false _ (c .before .before .if1 .left)) (c .before .if2 .left)
 
 pub count-spec : {M : Type 1} → statement M
 count-spec =

@@ -11,11 +11,11 @@ add-if1 c = search needs
 
 returns : tie.Need-returns
 unfolding footerOf
-returns c = simp (eq-eqb _ _ ((c .if1 .taken)))
+returns c = simp (eq-eqb _ _ (c .if1 .taken))
 
 returns-2 : tie.Need-returns-2
 unfolding footerOf
-returns-2 c = simp (ne-eqb _ _ ((c .if1 .left)))
+returns-2 c = simp (ne-eqb _ _ (c .if1 .left))
 
 pub footer-spec : {M : Type 1} → statement M
 footer-spec = tie.close (tie.spec add-if1 returns returns-2)

@@ -15,31 +15,31 @@ good-n-requires : tie.Need-good-n-requires
 good-n-requires c κs = search needs
 
 returns : tie.Need-returns
-returns c = packet-refused _ _ _ _ _ (made-bad-n _ _ _ _ (sym ((c .before .good-n .ensures)) ∙ not-true _ ((c .if1 .taken)))) refl
+returns c = packet-refused _ _ _ _ _ (made-bad-n _ _ _ _ (sym (c .before .good-n .ensures) ∙ not-true _ (c .if1 .taken))) refl
 
 mul-if2 : tie.Need-mul-if2
-mul-if2 c = omega (arith, good-high _ (sym ((c .before .good-n .ensures)) ∙ not-false _ ((c .if1 .left))))
+mul-if2 c = omega (arith, good-high _ (sym (c .before .good-n .ensures) ∙ not-false _ (c .if1 .left)))
 
 returns-2 : tie.Need-returns-2
-returns-2 c = packet-refused _ _ _ _ _ (made-bad-image _ _ _ _ (sym ((c .before .before .good-n .ensures)) ∙ not-false _ ((c .before .if1 .left))) ((c .if2 .taken))) refl
+returns-2 c = packet-refused _ _ _ _ _ (made-bad-image _ _ _ _ (sym (c .before .before .good-n .ensures) ∙ not-false _ (c .before .if1 .left)) (c .if2 .taken)) refl
 
 returns-3 : tie.Need-returns-3
-returns-3 c = packet-refused _ _ _ _ _ (made-no-room _ _ _ _ (sym ((c .before .before .before .good-n .ensures)) ∙ not-false _ ((c .before .before .if1 .left))) ((c .before .if2 .left)) (omega arith)) refl
+returns-3 c = packet-refused _ _ _ _ _ (made-no-room _ _ _ _ (sym (c .before .before .before .good-n .ensures) ∙ not-false _ (c .before .before .if1 .left)) (c .before .if2 .left) (omega arith)) refl
 
 survey-requires : tie.Need-survey-requires
-survey-requires c κs = ((sym ((c .before .before .before .good-n .ensures)) ∙ not-false _ ((c .before .before .if1 .left))), ((c .before .if2 .left)))
+survey-requires c κs = ((sym (c .before .before .before .good-n .ensures) ∙ not-false _ (c .before .before .if1 .left)), (c .before .if2 .left))
 
 returns-4 : tie.Need-returns-4
-returns-4 c = packet-refused _ _ _ _ _ (made-past _ _ _ _ (sym ((c .before .before .before .before .before .before .good-n .ensures)) ∙ not-false _ ((c .before .before .before .before .before .if1 .left))) ((c .before .before .before .before .if2 .left)) (omega arith) (omega (arith, seen-count ((c .before .before .before .before .before .before .before .before .before .args .image .now)) ((c .before .before .before .before .before .before .before .before .before .args .p)) ((c .before .before .before .before .before .before .before .before .before .args .n)) _ ((c .before .before .survey .ensures))))) refl
+returns-4 c = packet-refused _ _ _ _ _ (made-past _ _ _ _ (sym (c .before .before .before .before .before .before .good-n .ensures) ∙ not-false _ (c .before .before .before .before .before .if1 .left)) (c .before .before .before .before .if2 .left) (omega arith) (omega (arith, seen-count (c .before .before .before .before .before .before .before .before .before .args .image .now) (c .before .before .before .before .before .before .before .before .before .args .p) (c .before .before .before .before .before .before .before .before .before .args .n) _ (c .before .before .survey .ensures)))) refl
 
 sector-offset-requires : tie.Need-sector-offset-requires
 sector-offset-requires c κs = search needs
 
 add-to : tie.Need-add-to
-add-to c = omega (arith, packet-end ((c .before .before .before .before .before .before .before .before .before .before .args .image .now)) ((c .before .before .before .before .before .before .before .before .before .before .args .n)) ((c .before .before .before .before .before .before .before .before .before .before .args .p)) (sym ((c .before .before .before .before .before .before .before .good-n .ensures)) ∙ not-false _ ((c .before .before .before .before .before .before .if1 .left))) ((c .before .before .before .before .before .if2 .left)) _ (omega (arith, seen-count ((c .before .before .before .before .before .before .before .before .before .before .args .image .now)) ((c .before .before .before .before .before .before .before .before .before .before .args .p)) ((c .before .before .before .before .before .before .before .before .before .before .args .n)) _ ((c .before .before .before .survey .ensures)))) (seen-sector ((c .before .before .before .before .before .before .before .before .before .before .args .image .now)) ((c .before .before .before .before .before .before .before .before .before .before .args .p)) ((c .before .before .before .before .before .before .before .before .before .before .args .n)) _ ((c .before .before .before .survey .ensures))), ((c .sector-offset .ensures)))
+add-to c = omega (arith, packet-end (c .before .before .before .before .before .before .before .before .before .before .args .image .now) (c .before .before .before .before .before .before .before .before .before .before .args .n) (c .before .before .before .before .before .before .before .before .before .before .args .p) (sym (c .before .before .before .before .before .before .before .good-n .ensures) ∙ not-false _ (c .before .before .before .before .before .before .if1 .left)) (c .before .before .before .before .before .if2 .left) _ (omega (arith, seen-count (c .before .before .before .before .before .before .before .before .before .before .args .image .now) (c .before .before .before .before .before .before .before .before .before .before .args .p) (c .before .before .before .before .before .before .before .before .before .before .args .n) _ (c .before .before .before .survey .ensures))) (seen-sector (c .before .before .before .before .before .before .before .before .before .before .args .image .now) (c .before .before .before .before .before .before .before .before .before .before .args .p) (c .before .before .before .before .before .before .before .before .before .before .args .n) _ (c .before .before .before .survey .ensures)), (c .sector-offset .ensures))
 
 cast-sector : tie.Need-cast-sector
-cast-sector c = omega (arith, packet-small ((c .before .before .before .before .before .before .before .before .before .before .before .args .image .now)) ((c .before .before .before .before .before .before .before .before .before .before .before .args .n)) ((c .before .before .before .before .before .before .before .before .before .before .before .args .p)) (sym ((c .before .before .before .before .before .before .before .before .good-n .ensures)) ∙ not-false _ ((c .before .before .before .before .before .before .before .if1 .left))) _ (omega (arith, seen-count ((c .before .before .before .before .before .before .before .before .before .before .before .args .image .now)) ((c .before .before .before .before .before .before .before .before .before .before .before .args .p)) ((c .before .before .before .before .before .before .before .before .before .before .before .args .n)) _ ((c .before .before .before .before .survey .ensures)))) (seen-sector ((c .before .before .before .before .before .before .before .before .before .before .before .args .image .now)) ((c .before .before .before .before .before .before .before .before .before .before .before .args .p)) ((c .before .before .before .before .before .before .before .before .before .before .before .args .n)) _ ((c .before .before .before .before .survey .ensures))))
+cast-sector c = omega (arith, packet-small (c .before .before .before .before .before .before .before .before .before .before .before .args .image .now) (c .before .before .before .before .before .before .before .before .before .before .before .args .n) (c .before .before .before .before .before .before .before .before .before .before .before .args .p) (sym (c .before .before .before .before .before .before .before .before .good-n .ensures) ∙ not-false _ (c .before .before .before .before .before .before .before .if1 .left)) _ (omega (arith, seen-count (c .before .before .before .before .before .before .before .before .before .before .before .args .image .now) (c .before .before .before .before .before .before .before .before .before .before .before .args .p) (c .before .before .before .before .before .before .before .before .before .before .before .args .n) _ (c .before .before .before .before .survey .ensures))) (seen-sector (c .before .before .before .before .before .before .before .before .before .before .before .args .image .now) (c .before .before .before .before .before .before .before .before .before .before .before .args .p) (c .before .before .before .before .before .before .before .before .before .before .before .args .n) _ (c .before .before .before .before .survey .ensures)))
 
 sub-put-write : tie.Need-sub-put-write
 sub-put-write c = search needs
@@ -48,7 +48,7 @@ part-put-write-start : tie.Need-part-put-write-start
 part-put-write-start c = search needs
 
 part-put-write-end : tie.Need-part-put-write-end
-part-put-write-end c = omega (arith, packet-end ((c .before .before .before .before .before .before .before .before .before .before .before .before .args .image .now)) ((c .before .before .before .before .before .before .before .before .before .before .before .before .args .n)) ((c .before .before .before .before .before .before .before .before .before .before .before .before .args .p)) (sym ((c .before .before .before .before .before .before .before .before .before .good-n .ensures)) ∙ not-false _ ((c .before .before .before .before .before .before .before .before .if1 .left))) ((c .before .before .before .before .before .before .before .if2 .left)) _ (omega (arith, seen-count ((c .before .before .before .before .before .before .before .before .before .before .before .before .args .image .now)) ((c .before .before .before .before .before .before .before .before .before .before .before .before .args .p)) ((c .before .before .before .before .before .before .before .before .before .before .before .before .args .n)) _ ((c .before .before .before .before .before .survey .ensures)))) (seen-sector ((c .before .before .before .before .before .before .before .before .before .before .before .before .args .image .now)) ((c .before .before .before .before .before .before .before .before .before .before .before .before .args .p)) ((c .before .before .before .before .before .before .before .before .before .before .before .before .args .n)) _ ((c .before .before .before .before .before .survey .ensures))), ((c .before .before .sector-offset .ensures)))
+part-put-write-end c = omega (arith, packet-end (c .before .before .before .before .before .before .before .before .before .before .before .before .args .image .now) (c .before .before .before .before .before .before .before .before .before .before .before .before .args .n) (c .before .before .before .before .before .before .before .before .before .before .before .before .args .p) (sym (c .before .before .before .before .before .before .before .before .before .good-n .ensures) ∙ not-false _ (c .before .before .before .before .before .before .before .before .if1 .left)) (c .before .before .before .before .before .before .before .if2 .left) _ (omega (arith, seen-count (c .before .before .before .before .before .before .before .before .before .before .before .before .args .image .now) (c .before .before .before .before .before .before .before .before .before .before .before .before .args .p) (c .before .before .before .before .before .before .before .before .before .before .before .before .args .n) _ (c .before .before .before .before .before .survey .ensures))) (seen-sector (c .before .before .before .before .before .before .before .before .before .before .before .before .args .image .now) (c .before .before .before .before .before .before .before .before .before .before .before .before .args .p) (c .before .before .before .before .before .before .before .before .before .before .before .before .args .n) _ (c .before .before .before .before .before .survey .ensures)), (c .before .before .sector-offset .ensures))
 
 footer-requires : tie.Need-footer-requires
 footer-requires c κs = search needs
@@ -63,7 +63,7 @@ same-length : tie.Need-same-length
 same-length c = search needs
 
 returns-5 : tie.Need-returns-5
-returns-5 c = packet-put _ _ _ _ _ _ _ _ (sym ((c .before .before .before .before .before .before .before .before .before .before .before .before .before .before .good-n .ensures)) ∙ not-false _ ((c .before .before .before .before .before .before .before .before .before .before .before .before .before .if1 .left))) ((c .before .before .before .before .before .before .before .before .before .before .before .before .if2 .left)) (omega arith) (omega (arith, seen-count ((c .before .before .before .before .before .before .before .before .before .before .before .before .before .before .before .before .before .args .image .now)) ((c .before .before .before .before .before .before .before .before .before .before .before .before .before .before .before .before .before .args .p)) ((c .before .before .before .before .before .before .before .before .before .before .before .before .before .before .before .before .before .args .n)) _ ((c .before .before .before .before .before .before .before .before .before .before .survey .ensures)))) (seen-sector ((c .before .before .before .before .before .before .before .before .before .before .before .before .before .before .before .before .before .args .image .now)) ((c .before .before .before .before .before .before .before .before .before .before .before .before .before .before .before .before .before .args .p)) ((c .before .before .before .before .before .before .before .before .before .before .before .before .before .before .before .before .before .args .n)) _ ((c .before .before .before .before .before .before .before .before .before .before .survey .ensures))) ((c .before .before .before .before .before .before .before .sector-offset .ensures)) (((c .before .before .before .footer .ensures)) ∙ ap (λ (x : ℕ). footerOf x ((c .before .before .before .before .before .before .before .before .before .before .before .before .before .before .before .before .before .args .p))) (seen-count ((c .before .before .before .before .before .before .before .before .before .before .before .before .before .before .before .before .before .args .image .now)) ((c .before .before .before .before .before .before .before .before .before .before .before .before .before .before .before .before .before .args .p)) ((c .before .before .before .before .before .before .before .before .before .before .before .before .before .before .before .before .before .args .n)) _ ((c .before .before .before .before .before .before .before .before .before .before .survey .ensures)))) ((c .before .before .put-write .ensures))
+returns-5 c = packet-put _ _ _ _ _ _ _ _ (sym (c .before .before .before .before .before .before .before .before .before .before .before .before .before .before .good-n .ensures) ∙ not-false _ (c .before .before .before .before .before .before .before .before .before .before .before .before .before .if1 .left)) (c .before .before .before .before .before .before .before .before .before .before .before .before .if2 .left) (omega arith) (omega (arith, seen-count (c .before .before .before .before .before .before .before .before .before .before .before .before .before .before .before .before .before .args .image .now) (c .before .before .before .before .before .before .before .before .before .before .before .before .before .before .before .before .before .args .p) (c .before .before .before .before .before .before .before .before .before .before .before .before .before .before .before .before .before .args .n) _ (c .before .before .before .before .before .before .before .before .before .before .survey .ensures))) (seen-sector (c .before .before .before .before .before .before .before .before .before .before .before .before .before .before .before .before .before .args .image .now) (c .before .before .before .before .before .before .before .before .before .before .before .before .before .before .before .before .before .args .p) (c .before .before .before .before .before .before .before .before .before .before .before .before .before .before .before .before .before .args .n) _ (c .before .before .before .before .before .before .before .before .before .before .survey .ensures)) (c .before .before .before .before .before .before .before .sector-offset .ensures) ((c .before .before .before .footer .ensures) ∙ ap (λ (x : ℕ). footerOf x (c .before .before .before .before .before .before .before .before .before .before .before .before .before .before .before .before .before .args .p)) (seen-count (c .before .before .before .before .before .before .before .before .before .before .before .before .before .before .before .before .before .args .image .now) (c .before .before .before .before .before .before .before .before .before .before .before .before .before .before .before .before .before .args .p) (c .before .before .before .before .before .before .before .before .before .before .before .before .before .before .before .before .before .args .n) _ (c .before .before .before .before .before .before .before .before .before .before .survey .ensures))) (c .before .before .put-write .ensures)
 
 pub packet-spec : {M : Type 1} → statement M
 packet-spec =

@@ -19,7 +19,7 @@ loop-holds : tie.Need-loop-holds Inv-loop μ-loop
 loop-holds c = (omega arith, seen-none _ _)
 
 look-requires : tie.Need-look-requires Inv-loop μ-loop
-look-requires c κs = (good-below _ ((c .before .before .before .pre .0)) _ (omega arith) (omega arith), (omega arith, ((c .before .loop .inv .1))))
+look-requires c κs = (good-below _ (c .before .before .before .pre .0) _ (omega arith) (omega arith), (omega arith, (c .before .loop .inv .1)))
 
 add-k : tie.Need-add-k Inv-loop μ-loop
 add-k c = omega arith
@@ -28,12 +28,12 @@ loop-less : tie.Need-loop-less Inv-loop μ-loop
 loop-less c = omega arith
 
 loop-again : tie.Need-loop-again Inv-loop μ-loop
-loop-again c = (omega arith, ((c .look .ensures)))
+loop-again c = (omega arith, (c .look .ensures))
 
 returns : tie.Need-returns Inv-loop μ-loop
 returns c =
-    let e : ((c .before .loop .k)) ≡ ((c .before .before .before .args .n)) = omega arith in
-    ((c .before .loop .inv .1)) ∙ ap (λ (j : ℕ). seenOf ((c .before .before .before .args .image .now)) j ((c .before .before .before .args .p))) e
+    let e : (c .before .loop .k) ≡ (c .before .before .before .args .n) = omega arith in
+    (c .before .loop .inv .1) ∙ ap (λ (j : ℕ). seenOf (c .before .before .before .args .image .now) j (c .before .before .before .args .p)) e
 
 pub survey-spec : {M : Type 1} → statement M
 survey-spec =

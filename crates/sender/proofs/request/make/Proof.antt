@@ -1,4 +1,4 @@
--- `sender::request::make` meets its contract: each request is a control frame.
+-- `sender::request::make` meets its contract.
 -- Assumes nothing.
 use mathlib.Core.Path.{refl}
 use Rattle.sender.specs.declared.request.Request.the-variants.{ModeStart, BankInfo, Version, WriteEnd, ModeEnd}
@@ -10,29 +10,20 @@ use Rattle.sender.proofs.request.make.Tie as tie
 enum-told : tie.Need-enum-told
 enum-told c = search needs
 
-slice-aggregate-control : tie.Need-slice-aggregate-control
-slice-aggregate-control c = search needs
-
-control-requires : tie.Need-control-requires
-control-requires c κs = search needs
+bare-requires : tie.Need-bare-requires
+bare-requires c κs = search needs
 
 enum-told-2 : tie.Need-enum-told-2
 enum-told-2 c = search needs
 
-slice-aggregate-control-2 : tie.Need-slice-aggregate-control-2
-slice-aggregate-control-2 c = search needs
-
-control-requires-2 : tie.Need-control-requires-2
-control-requires-2 c κs = search needs
+bare-requires-2 : tie.Need-bare-requires-2
+bare-requires-2 c κs = search needs
 
 enum-told-3 : tie.Need-enum-told-3
 enum-told-3 c = search needs
 
-slice-aggregate-control-3 : tie.Need-slice-aggregate-control-3
-slice-aggregate-control-3 c = search needs
-
-control-requires-3 : tie.Need-control-requires-3
-control-requires-3 c κs = search needs
+bare-requires-3 : tie.Need-bare-requires-3
+bare-requires-3 c κs = search needs
 
 enum-known-request : tie.Need-enum-known-request
 enum-known-request c = search needs
@@ -43,78 +34,67 @@ write-start-requires c κs = search needs
 enum-told-4 : tie.Need-enum-told-4
 enum-told-4 c = search needs
 
-slice-aggregate-control-4 : tie.Need-slice-aggregate-control-4
-slice-aggregate-control-4 c = search needs
-
-control-requires-4 : tie.Need-control-requires-4
-control-requires-4 c κs = search needs
+bare-requires-4 : tie.Need-bare-requires-4
+bare-requires-4 c κs = search needs
 
 enum-told-5 : tie.Need-enum-told-5
 enum-told-5 c = search needs
 
-slice-aggregate-control-5 : tie.Need-slice-aggregate-control-5
-slice-aggregate-control-5 c = search needs
-
-control-requires-5 : tie.Need-control-requires-5
-control-requires-5 c κs = search needs
+bare-requires-5 : tie.Need-bare-requires-5
+bare-requires-5 c κs = search needs
 
 same-length : tie.Need-same-length
 same-length c = search needs
 
 returns : tie.Need-returns
-returns c = request-control ModeStart ((c .before .before .before .before .before .enum-told .given .1)) refl refl ((c .before .before .control .ensures))
+returns c = request-control ModeStart (c .before .before .before .before .enum-told .given .1) refl refl (c .before .before .bare .ensures)
 
 same-length-2 : tie.Need-same-length-2
 same-length-2 c = search needs
 
 returns-2 : tie.Need-returns-2
-returns-2 c = request-control BankInfo ((c .before .before .before .before .before .enum-told2 .given .1)) refl refl ((c .before .before .control2 .ensures))
+returns-2 c = request-control BankInfo (c .before .before .before .before .enum-told2 .given .1) refl refl (c .before .before .bare2 .ensures)
 
 same-length-3 : tie.Need-same-length-3
 same-length-3 c = search needs
 
 returns-3 : tie.Need-returns-3
-returns-3 c = request-control Version ((c .before .before .before .before .before .enum-told3 .given .1)) refl refl ((c .before .before .control3 .ensures))
+returns-3 c = request-control Version (c .before .before .before .before .enum-told3 .given .1) refl refl (c .before .before .bare3 .ensures)
 
 same-length-4 : tie.Need-same-length-4
 same-length-4 c = search needs
 
 returns-4 : tie.Need-returns-4
-returns-4 c = request-told (c .before .before .before .before .before .request .given .1) ((c .before .before .write-start .ensures))
+returns-4 c = request-told (c .before .before .before .before .before .request .given .1) (c .before .before .write-start .ensures)
 
 same-length-5 : tie.Need-same-length-5
 same-length-5 c = search needs
 
 returns-5 : tie.Need-returns-5
-returns-5 c = request-control WriteEnd ((c .before .before .before .before .before .enum-told4 .given .1)) refl refl ((c .before .before .control4 .ensures))
+returns-5 c = request-control WriteEnd (c .before .before .before .before .enum-told4 .given .1) refl refl (c .before .before .bare4 .ensures)
 
 same-length-6 : tie.Need-same-length-6
 same-length-6 c = search needs
 
 returns-6 : tie.Need-returns-6
-returns-6 c = request-control ModeEnd ((c .before .before .before .before .before .enum-told5 .given .1)) refl refl ((c .before .before .control5 .ensures))
+returns-6 c = request-control ModeEnd (c .before .before .before .before .enum-told5 .given .1) refl refl (c .before .before .bare5 .ensures)
 
 pub make-spec : {M : Type 1} → statement M
 make-spec =
     tie.close
     (tie.spec
     enum-told
-    slice-aggregate-control
-    control-requires
+    bare-requires
     enum-told-2
-    slice-aggregate-control-2
-    control-requires-2
+    bare-requires-2
     enum-told-3
-    slice-aggregate-control-3
-    control-requires-3
+    bare-requires-3
     enum-known-request
     write-start-requires
     enum-told-4
-    slice-aggregate-control-4
-    control-requires-4
+    bare-requires-4
     enum-told-5
-    slice-aggregate-control-5
-    control-requires-5
+    bare-requires-5
     same-length
     returns
     same-length-2

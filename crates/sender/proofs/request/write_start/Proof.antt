@@ -16,7 +16,7 @@ good-n-requires : tie.Need-good-n-requires
 good-n-requires c κs = search needs
 
 returns : tie.Need-returns
-returns c = start-refused _ _ _ (sym ((c .before .good-n .ensures)) ∙ not-true _ ((c .if1 .taken)))
+returns c = start-refused _ _ _ (sym (c .before .good-n .ensures) ∙ not-true _ (c .if1 .taken))
 
 slice-aggregate-put-number4 : tie.Need-slice-aggregate-put-number4
 slice-aggregate-put-number4 c = search needs
@@ -47,12 +47,12 @@ same-length c = search needs
 
 returns-2 : tie.Need-returns-2
 returns-2 c =
-    request-control (WriteStart _ _) refl (sym ((c .before .before .before .before .before .before .before .before .before .before .before .before .before .before .good-n .ensures)) ∙ not-false _ ((c .before .before .before .before .before .before .before .before .before .before .before .before .before .if1 .left)))
-    (((c .before .before .before .before .before .before .put-number42 .ensures))
-    ∙ ap (λ (l : List ℕ). placeOf l 4 (bytesOf 4 ((c .before .before .before .before .before .before .before .end-address .result)))) ((c .before .before .before .before .before .before .before .before .before .before .put-number4 .ensures))
+    request-control (WriteStart _ _) refl (sym (c .before .before .before .before .before .before .before .before .before .before .before .before .before .before .good-n .ensures) ∙ not-false _ (c .before .before .before .before .before .before .before .before .before .before .before .before .before .if1 .left))
+    ((c .before .before .before .before .before .before .put-number42 .ensures)
+    ∙ ap (λ (l : List ℕ). placeOf l 4 (bytesOf 4 (c .before .before .before .before .before .before .before .end-address .result))) (c .before .before .before .before .before .before .before .before .before .before .put-number4 .ensures)
     ∙ two-numbers _ _ _ refl refl refl
-    ∙ ap₂ (λ (x y : ℕ). bytesOf 4 x ++ bytesOf 4 y) ((c .before .before .before .before .before .before .before .before .before .before .before .start-address .ensures)) ((c .before .before .before .before .before .before .before .end-address .ensures)))
-    ((c .before .before .control .ensures))
+    ∙ ap₂ (λ (x y : ℕ). bytesOf 4 x ++ bytesOf 4 y) (c .before .before .before .before .before .before .before .before .before .before .before .start-address .ensures) (c .before .before .before .before .before .before .before .end-address .ensures))
+    (c .before .before .control .ensures)
 
 pub write-start-spec : {M : Type 1} → statement M
 write-start-spec =

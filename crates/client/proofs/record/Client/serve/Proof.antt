@@ -2,7 +2,7 @@
 -- Assumes nothing.
 use mathlib.Core.Path.{refl}
 use Rattle.client.specs.Perform.{servedOf}
-use Rattle.client.proofs.Performing.{sent-part}
+use Rattle.client.proofs.Performing.{sent-part, responded}
 use borrow.Author.Needs.{needs}
 use Rattle.client.proofs.record.Client.serve.Statement.{statement}
 use Rattle.client.proofs.record.Client.serve.Tie as tie
@@ -16,11 +16,17 @@ enum-told c = search needs
 opened-requires : tie.Need-opened-requires
 opened-requires c κs = search needs
 
+responds-requires : tie.Need-responds-requires
+responds-requires c κs = search needs
+
 enum-told-2 : tie.Need-enum-told-2
 enum-told-2 c = search needs
 
-closed-requires : tie.Need-closed-requires
-closed-requires c κs = search needs
+left-requires : tie.Need-left-requires
+left-requires c κs = search needs
+
+responds-requires-2 : tie.Need-responds-requires-2
+responds-requires-2 c κs = search needs
 
 enum-told-3 : tie.Need-enum-told-3
 enum-told-3 c = search needs
@@ -28,11 +34,14 @@ enum-told-3 c = search needs
 begun-requires : tie.Need-begun-requires
 begun-requires c κs = search needs
 
+responds-requires-3 : tie.Need-responds-requires-3
+responds-requires-3 c κs = search needs
+
 enum-known-plan-2 : tie.Need-enum-known-plan-2
 enum-known-plan-2 c = search needs
 
 add-store : tie.Need-add-store
-add-store c = let p = rw ((c .before .before .plan2 .given .1)) at ((c .before .before .before .before .before .before .pre)) in let s = p .sent in search needs
+add-store c = let p = rw (c .before .before .plan2 .given .1) at (c .before .before .before .before .before .before .pre) in let s = p .sent in search needs
 
 sub-store : tie.Need-sub-store
 sub-store c = search needs
@@ -41,16 +50,19 @@ part-store-start : tie.Need-part-store-start
 part-store-start c = search needs
 
 part-store-end : tie.Need-part-store-end
-part-store-end c = let p = rw ((c .before .before .plan2 .given .1)) at ((c .before .before .before .before .before .before .pre)) in let s = p .sent in search needs
+part-store-end c = let p = rw (c .before .before .plan2 .given .1) at (c .before .before .before .before .before .before .pre) in let s = p .sent in search needs
 
 store-requires : tie.Need-store-requires
-store-requires c κs = let p = rw ((c .before .before .before .plan2 .given .1)) at ((c .before .before .before .before .before .before .before .pre)) in ((p .first, p .last), p .inside)
+store-requires c κs = let p = rw (c .before .before .before .plan2 .given .1) at (c .before .before .before .before .before .before .before .pre) in ((p .first, p .last), p .inside)
 
 enum-told-4 : tie.Need-enum-told-4
 enum-told-4 c = search needs
 
 ended-requires : tie.Need-ended-requires
 ended-requires c κs = search needs
+
+responds-requires-4 : tie.Need-responds-requires-4
+responds-requires-4 c κs = search needs
 
 enum-told-5 : tie.Need-enum-told-5
 enum-told-5 c = search needs
@@ -60,37 +72,37 @@ finish-requires c κs = search needs
 
 returns : tie.Need-returns
 unfolding servedOf
-returns c = rw ((c .before .plan .given .1)) (record { client = refl; answer = refl; target = refl })
+returns c = rw (c .before .plan .given .1) (record { client = refl; answer = refl; target = refl })
 
 returns-2 : tie.Need-returns-2
 unfolding servedOf
-returns-2 c = rw ((c .before .enum-told .given .1)) (record { client = (c .opened .ensures); answer = refl; target = refl })
+returns-2 c = rw (c .before .before .enum-told .given .1) (responded _ _ _ _ _ _ (c .before .opened .ensures) (c .responds .ensures))
 
 returns-3 : tie.Need-returns-3
 unfolding servedOf
-returns-3 c = rw ((c .before .enum-told2 .given .1)) (record { client = (c .closed .ensures); answer = refl; target = refl })
+returns-3 c = rw (c .before .before .enum-told2 .given .1) (responded _ _ _ _ _ _ (c .before .left .ensures) (c .responds2 .ensures))
 
 returns-4 : tie.Need-returns-4
 unfolding servedOf
-returns-4 c = rw ((c .before .enum-told3 .given .1)) (record { client = (c .begun .ensures); answer = refl; target = refl })
+returns-4 c = rw (c .before .before .enum-told3 .given .1) (responded _ _ _ _ _ _ (c .before .begun .ensures) (c .responds3 .ensures))
 
 same-length : tie.Need-same-length
 same-length c = search needs
 
 returns-5 : tie.Need-returns-5
 unfolding servedOf
-returns-5 c = rw ((c .before .before .before .before .before .before .plan2 .given .1)) (sent-part ((c .before .before .before .before .before .before .before .before .before .before .args .self)) (c .before .before .before .before .before .before .plan2 .given .0 .0) (c .before .before .before .before .before .before .plan2 .given .0 .1 .0) ((c .before .before .before .before .before .before .before .before .before .before .args .target .now)) ((c .before .before .before .before .before .before .before .before .before .before .args .datagram .now)) _ _ ((c .before .before .store .ensures)))
+returns-5 c = rw (c .before .before .before .before .before .before .plan2 .given .1) (sent-part (c .before .before .before .before .before .before .before .before .before .before .args .self) (c .before .before .before .before .before .before .plan2 .given .0 .0) (c .before .before .before .before .before .before .plan2 .given .0 .1 .0) (c .before .before .before .before .before .before .before .before .before .before .args .target .now) (c .before .before .before .before .before .before .before .before .before .before .args .datagram .now) _ _ (c .before .before .store .ensures))
 
 returns-6 : tie.Need-returns-6
 unfolding servedOf
-returns-6 c = rw ((c .before .enum-told4 .given .1)) (record { client = (c .ended .ensures); answer = refl; target = refl })
+returns-6 c = rw (c .before .before .enum-told4 .given .1) (responded _ _ _ _ _ _ (c .before .ended .ensures) (c .responds4 .ensures))
 
 same-length-2 : tie.Need-same-length-2
 same-length-2 c = search needs
 
 returns-7 : tie.Need-returns-7
 unfolding servedOf
-returns-7 c = rw ((c .before .before .before .before .enum-told5 .given .1)) ((c .before .before .finish .ensures))
+returns-7 c = rw (c .before .before .before .before .enum-told5 .given .1) (c .before .before .finish .ensures)
 
 pub serve-spec : {M : Type 1} → statement M
 serve-spec =
@@ -99,10 +111,13 @@ serve-spec =
     enum-known-plan
     enum-told
     opened-requires
+    responds-requires
     enum-told-2
-    closed-requires
+    left-requires
+    responds-requires-2
     enum-told-3
     begun-requires
+    responds-requires-3
     enum-known-plan-2
     add-store
     sub-store
@@ -111,6 +126,7 @@ serve-spec =
     store-requires
     enum-told-4
     ended-requires
+    responds-requires-4
     enum-told-5
     finish-requires
     returns

@@ -1,0 +1,22 @@
+// The states of a client.
+ghost use mathlib.Core.Path.{_≡_};
+ghost use Rattle.exchange.specs.Command.{stateNumber};
+
+pub enum State {
+    Closed,
+    Idle,
+    Control,
+    Write,
+}
+
+// States by number, so that two can be compared.
+pub(crate) fn state_number(state: State) -> u8
+    ensures { λ r. ⌜ r ≡ stateNumber state ⌝ }
+{
+    match state {
+        State::Closed => 0,
+        State::Idle => 1,
+        State::Control => 2,
+        State::Write => 3,
+    }
+}

@@ -1,0 +1,2 @@
+// What a datagram that comes back to the sender says.
+pub mod read;

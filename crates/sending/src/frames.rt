@@ -1,0 +1,149 @@
+// The requests that make a request of the exchange or read a response.
+use crate::made;
+use crate::made::LARGEST_BUFFER;
+use bank::layout::Bank;
+use response::read::Kind;
+use response::read::Response;
+use script::say;
+use script::text;
+use sender::request::Request;
+
+fn make_in(request: Request, buffer: &mut [u8]) {
+    let made = sender::request::make(request, buffer);
+    made::say_made(made, buffer);
+}
+
+fn make(request: Request, fields: &[u8]) -> bool {
+    let room = text::decimal(fields, 6);
+    if room > LARGEST_BUFFER {
+        return false;
+    }
+    let mut buffer = [0xA5u8; LARGEST_BUFFER];
+    let size = io::count(room as isize, &buffer);
+    make_in(request, &mut buffer[..size]);
+    true
+}
+
+fn write_start(bank: Bank, fields: &[u8]) -> bool {
+    let n = text::decimal(text::first(fields), 6);
+    if n > text::LARGEST_NUMBER {
+        return false;
+    }
+    make(Request::WriteStart { bank, n }, text::rest(fields))
+}
+
+fn write(fields: &[u8]) -> bool {
+    let bank = text::first(fields);
+    let later = text::rest(fields);
+    if check::same(bank, b"0") {
+        return write_start(Bank::Zero, later);
+    }
+    if check::same(bank, b"1") {
+        return write_start(Bank::One, later);
+    }
+    false
+}
+
+pub(crate) fn request(fields: &[u8]) -> bool {
+    let word = text::first(fields);
+    let later = text::rest(fields);
+    if check::same(word, b"start") {
+        return make(Request::ModeStart, later);
+    }
+    if check::same(word, b"bank") {
+        return make(Request::BankInfo, later);
+    }
+    if check::same(word, b"version") {
+        return make(Request::Version, later);
+    }
+    if check::same(word, b"write") {
+        return write(later);
+    }
+    if check::same(word, b"end") {
+        return make(Request::WriteEnd, later);
+    }
+    if check::same(word, b"finish") {
+        return make(Request::ModeEnd, later);
+    }
+    false
+}
+
+// The code by which a response of the kind comes. That of a packet has none, and never is a plain one.
+fn code(kind: Kind) -> u8 {
+    match kind {
+        Kind::ModeStart => 0x71,
+        Kind::BankInfo => 0x72,
+        Kind::Version => 0x78,
+        Kind::WriteStart => 0x70,
+        Kind::Packet => 0,
+        Kind::WriteEnd => 0x75,
+        Kind::ModeEnd => 0x74,
+        Kind::Error => 0xE0,
+    }
+}
+
+fn say_plain(kind: Kind, result: u8) {
+    say::text(b"result ");
+    say::byte(code(kind));
+    say::text(b" ");
+    say::byte(result);
+}
+
+fn say_bank(bank: Bank) {
+    say::text(b"bank ");
+    say::decimal(bank::layout::bank_number(bank) as usize);
+}
+
+fn say_version(id: u16, major: u8, minor: u8, revision: u32) {
+    say::text(b"version ");
+    say::pair(id);
+    say::text(b" ");
+    say::byte(major);
+    say::text(b" ");
+    say::byte(minor);
+    say::text(b" ");
+    say::quad(revision);
+}
+
+fn say_written(sector: u16, response: u8, write: u8, crc: u32) {
+    say::text(b"written ");
+    say::pair(sector);
+    say::text(b" ");
+    say::byte(response);
+    say::text(b" ");
+    say::byte(write);
+    say::text(b" ");
+    say::quad(crc);
+}
+
+fn say_response(datagram: &[u8]) {
+    match response::read::read_response(datagram) {
+        Response::Unreadable => say::refused(6),
+        Response::Plain { kind, result } => say_plain(kind, result),
+        Response::Target { bank } => say_bank(bank),
+        Response::Firmware {
+            id,
+            major,
+            minor,
+            revision,
+        } => say_version(id, major, minor, revision),
+        Response::Written {
+            sector,
+            response,
+            write,
+            crc,
+        } => say_written(sector, response, write, crc),
+    }
+    say::end();
+}
+
+pub(crate) fn response(fields: &[u8]) -> bool {
+    let mut bytes = [0u8; 2048];
+    let got = text::bytes(fields, &mut bytes);
+    if got < 0 {
+        return false;
+    }
+    let n = io::count(got, &bytes);
+    say_response(&bytes[..n]);
+    true
+}
