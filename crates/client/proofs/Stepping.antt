@@ -155,46 +155,28 @@ module _ (c : Client) (bank0 bank1 marks address buffer datagram : List ℕ) whe
     pub addressed : Addressed plan (length address)
     addressed = rw is addressed-planned
 
-    pub fair-zero : c .running ≡ Zero → Fair plan (length bank1) (length datagram)
-    fair-zero e = rw is (subst (λ (x : Bank). Fair (planned c bank0 bank1 marks address buffer datagram) (length (targetOf x bank0 bank1)) (length datagram)) e fair-planned)
+    pub fair : (running : Bank) → c .running ≡ running → Fair plan (length (targetOf running bank0 bank1)) (length datagram)
+    fair running e = rw is (subst (λ (x : Bank). Fair (planned c bank0 bank1 marks address buffer datagram) (length (targetOf x bank0 bank1)) (length datagram)) e fair-planned)
 
-    pub fair-one : c .running ≡ One → Fair plan (length bank0) (length datagram)
-    fair-one e = rw is (subst (λ (x : Bank). Fair (planned c bank0 bank1 marks address buffer datagram) (length (targetOf x bank0 bank1)) (length datagram)) e fair-planned)
-
-    -- ---- the step
+    -- ---- the step, whichever bank runs
 
     module _ (r : Stepped) (after answered : List ℕ) where
-      pub step-zero : c .running ≡ Zero → Carried·Is (carriedOf c plan bank1 address buffer datagram) r after answered
-          → Step·Is c bank0 bank1 marks address buffer datagram r bank0 after answered
+      pub step-is : (running : Bank) → c .running ≡ running → Carried·Is (carriedOf c plan (targetOf running bank0 bank1) address buffer datagram) r after answered
+          → Step·Is c bank0 bank1 marks address buffer datagram r (zeroOf running bank0 after) (oneOf running bank1 after) answered
       unfolding stepOf
-      step-zero e s =
-          let q : carriedOf c plan bank1 address buffer datagram ≡ stepOf c bank0 bank1 marks address buffer datagram =
-          ap (λ (x : Plan). carriedOf c x bank1 address buffer datagram) is
+      step-is running e s =
+          let whole : Carried = stepOf c bank0 bank1 marks address buffer datagram in
+          let q : carriedOf c plan (targetOf running bank0 bank1) address buffer datagram ≡ whole =
+          ap (λ (x : Plan). carriedOf c x (targetOf running bank0 bank1) address buffer datagram) is
           ∙ sym (ap (λ (x : Bank). carriedOf c (planned c bank0 bank1 marks address buffer datagram) (targetOf x bank0 bank1) address buffer datagram) e) in
+          let t : after ≡ whole .target = s .target ∙ ap (λ (x : Carried). x .target) q in
           record {
             client = s .client ∙ ap (λ (x : Carried). x .client) q;
             answered = s .answer ∙ ap (λ (x : Carried). x .answer) q;
             told = s .told ∙ ap (λ (x : Carried). x .told) q;
             notice = s .notice ∙ ap (λ (x : Carried). x .notice) q;
-            bank-zero = sym (ap (λ (x : Bank). zeroOf x bank0 (stepOf c bank0 bank1 marks address buffer datagram .target)) e);
-            bank-one = s .target ∙ ap (λ (x : Carried). x .target) q ∙ sym (ap (λ (x : Bank). oneOf x bank1 (stepOf c bank0 bank1 marks address buffer datagram .target)) e);
-            said = s .buffer ∙ ap (λ (x : Carried). x .buffer) q;
-          }
-
-      pub step-one : c .running ≡ One → Carried·Is (carriedOf c plan bank0 address buffer datagram) r after answered
-          → Step·Is c bank0 bank1 marks address buffer datagram r after bank1 answered
-      unfolding stepOf
-      step-one e s =
-          let q : carriedOf c plan bank0 address buffer datagram ≡ stepOf c bank0 bank1 marks address buffer datagram =
-          ap (λ (x : Plan). carriedOf c x bank0 address buffer datagram) is
-          ∙ sym (ap (λ (x : Bank). carriedOf c (planned c bank0 bank1 marks address buffer datagram) (targetOf x bank0 bank1) address buffer datagram) e) in
-          record {
-            client = s .client ∙ ap (λ (x : Carried). x .client) q;
-            answered = s .answer ∙ ap (λ (x : Carried). x .answer) q;
-            told = s .told ∙ ap (λ (x : Carried). x .told) q;
-            notice = s .notice ∙ ap (λ (x : Carried). x .notice) q;
-            bank-zero = s .target ∙ ap (λ (x : Carried). x .target) q ∙ sym (ap (λ (x : Bank). zeroOf x bank0 (stepOf c bank0 bank1 marks address buffer datagram .target)) e);
-            bank-one = sym (ap (λ (x : Bank). oneOf x bank1 (stepOf c bank0 bank1 marks address buffer datagram .target)) e);
+            bank-zero = ap (zeroOf running bank0) t ∙ sym (ap (λ (x : Bank). zeroOf x bank0 (whole .target)) e);
+            bank-one = ap (oneOf running bank1) t ∙ sym (ap (λ (x : Bank). oneOf x bank1 (whole .target)) e);
             said = s .buffer ∙ ap (λ (x : Carried). x .buffer) q;
           }
 

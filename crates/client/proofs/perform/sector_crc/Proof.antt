@@ -28,7 +28,7 @@ crc32-requires : tie.Need-crc32-requires
 crc32-requires c κs = search needs
 
 returns : tie.Need-returns
-returns c = crc-part ((c .before .before .before .args .bank .now)) ((c .before .before .before .args .k)) _ _ refl ((c .crc32 .ensures))
+returns c = crc-part (c .before .before .before .args .bank .now) (c .before .before .before .args .k) _ _ refl (c .crc32 .ensures)
 
 pub sector-crc-spec : {M : Type 1} → statement M
 sector-crc-spec =

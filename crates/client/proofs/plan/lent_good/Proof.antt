@@ -9,22 +9,22 @@ mul-if1 : tie.Need-mul-if1
 mul-if1 c = search needs
 
 returns : tie.Need-returns
-returns c = lent-bank0 ((c .before .args .n)) ((c .before .args .bank0)) ((c .before .args .bank1)) ((c .before .args .marks)) ((c .before .args .address)) ((c .before .args .buffer)) ((c .if1 .taken))
+returns c = lent-bank0 (c .before .args .n) (c .before .args .bank0) (c .before .args .bank1) (c .before .args .marks) (c .before .args .address) (c .before .args .buffer) (c .if1 .taken)
 
 mul-if2 : tie.Need-mul-if2
 mul-if2 c = search needs
 
 returns-2 : tie.Need-returns-2
-returns-2 c = lent-bank1 ((c .before .before .args .n)) ((c .before .before .args .bank0)) ((c .before .before .args .bank1)) ((c .before .before .args .marks)) ((c .before .before .args .address)) ((c .before .before .args .buffer)) ((c .before .if1 .left)) ((c .if2 .taken))
+returns-2 c = lent-bank1 (c .before .before .args .n) (c .before .before .args .bank0) (c .before .before .args .bank1) (c .before .before .args .marks) (c .before .before .args .address) (c .before .before .args .buffer) (c .before .if1 .left) (c .if2 .taken)
 
 returns-3 : tie.Need-returns-3
-returns-3 c = lent-marks ((c .before .before .before .args .n)) ((c .before .before .before .args .bank0)) ((c .before .before .before .args .bank1)) ((c .before .before .before .args .marks)) ((c .before .before .before .args .address)) ((c .before .before .before .args .buffer)) ((c .before .before .if1 .left)) ((c .before .if2 .left)) ((c .if3 .taken))
+returns-3 c = lent-marks (c .before .before .before .args .n) (c .before .before .before .args .bank0) (c .before .before .before .args .bank1) (c .before .before .before .args .marks) (c .before .before .before .args .address) (c .before .before .before .args .buffer) (c .before .before .if1 .left) (c .before .if2 .left) (c .if3 .taken)
 
 returns-4 : tie.Need-returns-4
-returns-4 c = lent-address ((c .before .before .before .before .args .n)) ((c .before .before .before .before .args .bank0)) ((c .before .before .before .before .args .bank1)) ((c .before .before .before .before .args .marks)) ((c .before .before .before .before .args .address)) ((c .before .before .before .before .args .buffer)) ((c .before .before .before .if1 .left)) ((c .before .before .if2 .left)) ((c .before .if3 .left)) ((c .if4 .taken))
+returns-4 c = lent-address (c .before .before .before .before .args .n) (c .before .before .before .before .args .bank0) (c .before .before .before .before .args .bank1) (c .before .before .before .before .args .marks) (c .before .before .before .before .args .address) (c .before .before .before .before .args .buffer) (c .before .before .before .if1 .left) (c .before .before .if2 .left) (c .before .if3 .left) (c .if4 .taken)
 
 returns-5 : tie.Need-returns-5
-returns-5 c = lent-buffer ((c .before .before .before .before .args .n)) ((c .before .before .before .before .args .bank0)) ((c .before .before .before .before .args .bank1)) ((c .before .before .before .before .args .marks)) ((c .before .before .before .before .args .address)) ((c .before .before .before .before .args .buffer)) ((c .before .before .before .if1 .left)) ((c .before .before .if2 .left)) ((c .before .if3 .left)) ((c .if4 .left))
+returns-5 c = lent-buffer (c .before .before .before .before .args .n) (c .before .before .before .before .args .bank0) (c .before .before .before .before .args .bank1) (c .before .before .before .before .args .marks) (c .before .before .before .before .args .address) (c .before .before .before .before .args .buffer) (c .before .before .before .if1 .left) (c .before .before .if2 .left) (c .before .if3 .left) (c .if4 .left)
 
 pub lent-good-spec : {M : Type 1} → statement M
 lent-good-spec =

@@ -23,15 +23,15 @@ enum-known-sector c = search needs
 
 returns : tie.Need-returns
 unfolding askedBy
-returns c = ap askedBy (sym ((c .enum-told .given .1)) ∙ (c .before .before .read-frame .ensures))
+returns c = ap askedBy (sym (c .enum-told .given .1) ∙ (c .before .before .read-frame .ensures))
 
 returns-2 : tie.Need-returns-2
 unfolding askedBy
-returns-2 c = (c .by-code .ensures) ∙ ap askedBy (sym ((c .before .before .code .given .1)) ∙ (c .before .before .before .before .read-frame .ensures))
+returns-2 c = (c .by-code .ensures) ∙ ap askedBy (sym (c .before .before .code .given .1) ∙ (c .before .before .before .before .read-frame .ensures))
 
 returns-3 : tie.Need-returns-3
 unfolding askedBy
-returns-3 c = ap askedBy (sym ((c .before .sector .given .1)) ∙ (c .before .before .before .read-frame .ensures))
+returns-3 c = ap askedBy (sym (c .before .sector .given .1) ∙ (c .before .before .before .read-frame .ensures))
 
 pub read-command-spec : {M : Type 1} → statement M
 read-command-spec =

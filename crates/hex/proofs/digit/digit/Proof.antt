@@ -21,8 +21,8 @@ within-requires-3 c κs = search needs
 returns : tie.Need-returns
 returns c =
     let x = (c .before .before .before .args .x) in
-    ((c .within3 .ensures))
-    ∙ ap (cond (leb 0x30 x && leb x 0x39) (x - 0x30 + 0)) (((c .before .within2 .ensures)) ∙ ap (cond (leb 0x41 x && leb x 0x46) (x - 0x41 + 10)) ((c .before .before .within .ensures)))
+    (c .within3 .ensures)
+    ∙ ap (cond (leb 0x30 x && leb x 0x39) (x - 0x30 + 0)) ((c .before .within2 .ensures) ∙ ap (cond (leb 0x41 x && leb x 0x46) (x - 0x41 + 10)) (c .before .before .within .ensures))
     ∙ digit-is x
 
 pub digit-spec : {M : Type 1} → statement M

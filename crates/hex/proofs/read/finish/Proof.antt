@@ -9,7 +9,7 @@ returns : tie.Need-returns
 returns c = search needs
 
 returns-2 : tie.Need-returns-2
-returns-2 c = rw ((c .if1 .left)) refl
+returns-2 c = rw (c .if1 .left) refl
 
 pub finish-spec : {M : Type 1} → statement M
 finish-spec = tie.close (tie.spec returns returns-2)

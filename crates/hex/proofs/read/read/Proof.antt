@@ -13,20 +13,20 @@ good-n-requires : tie.Need-good-n-requires
 good-n-requires c κs = search needs
 
 returns : tie.Need-returns
-returns c = let a = (c .before .before .before .before .args) in read-3 (a .text .now) (a .bank) (a .n) (a .image .now) (sym ((c .before .good-n .ensures)) ∙ not-true _ (c .if1 .taken))
+returns c = let a = (c .before .before .before .before .args) in read-3 (a .text .now) (a .bank) (a .n) (a .image .now) (sym (c .before .good-n .ensures) ∙ not-true _ (c .if1 .taken))
 
 mul-if2 : tie.Need-mul-if2
 mul-if2 c =
     let a = (c .before .before .before .before .args) in
-    let g = sym ((c .before .good-n .ensures)) ∙ not-false _ (c .if1 .left) in
+    let g = sym (c .before .good-n .ensures) ∙ not-false _ (c .if1 .left) in
     let h = good-high (a .n) g in
     omega arith
 
 returns-2 : tie.Need-returns-2
 returns-2 c =
     let a = (c .before .before .before .before .before .args) in
-    let g = sym ((c .before .before .good-n .ensures)) ∙ not-false _ (c .before .if1 .left) in
-    read-2 (a .text .now) (a .bank) (a .n) (a .image .now) g ((c .if2 .taken))
+    let g = sym (c .before .before .good-n .ensures) ∙ not-false _ (c .before .if1 .left) in
+    read-2 (a .text .now) (a .bank) (a .n) (a .image .now) g (c .if2 .taken)
 
 fill-requires : tie.Need-fill-requires
 fill-requires c κs = search needs
@@ -40,7 +40,7 @@ wide4-requires c κs = search needs
 read-lines-requires : tie.Need-read-lines-requires
 read-lines-requires c κs =
     let a = (c .before .before .before .before .before .before .before .before .before .before .before .before .args) in
-    let g = sym ((c .before .before .before .before .before .before .before .before .before .good-n .ensures)) ∙ not-false _ (c .before .before .before .before .before .before .before .before .if1 .left) in
+    let g = sym (c .before .before .before .before .before .before .before .before .before .good-n .ensures) ∙ not-false _ (c .before .before .before .before .before .before .before .before .if1 .left) in
     let h = good-high (a .n) g in
     let b = start-small (a .bank) in
     (omega arith, omega (arith, (c .before .before .before .before .before .fill .kept .0), (c .before .before .before .before .before .before .before .if2 .left)))
@@ -60,9 +60,9 @@ same-length c = search needs
 returns-3 : tie.Need-returns-3
 returns-3 c =
     let a = (c .before .before .before .before .before .before .before .before .before .before .before .before .before .before .before .before .before .before .before .before .before .before .args) in
-    let g = sym ((c .before .before .before .before .before .before .before .before .before .before .before .before .before .before .before .before .before .before .before .good-n .ensures)) ∙ not-false _ (c .before .before .before .before .before .before .before .before .before .before .before .before .before .before .before .before .before .before .if1 .left) in
-    read-refused (a .text .now) (a .bank) (a .n) (a .image .now) g ((c .before .before .before .before .before .before .before .before .before .before .before .before .before .before .before .before .before .if2 .left)) ((c .before .before .before .before .before .before .before .before .before .before .before .wide4 .ensures .0) ∙ (c .before .before .before .before .before .before .before .before .before .before .before .before .start-address .ensures)) ((c .before .before .before .before .before .before .before .before .before .before .before .before .before .before .before .fill .ensures))
-    _ ((c .before .before .before .before .before .before .before .before .before .read-lines .last .1 .1 .0)) (rw ((c .before .before .before .before .before .outcome .given .1)) at ((c .before .before .before .before .before .before .before .before .before .read-lines .ensures))) ((c .before .before .before .before .before .before .before .before .before .read-lines .kept .1 .1 .0)) ((c .before .before .fill2 .ensures))
+    let g = sym (c .before .before .before .before .before .before .before .before .before .before .before .before .before .before .before .before .before .before .before .good-n .ensures) ∙ not-false _ (c .before .before .before .before .before .before .before .before .before .before .before .before .before .before .before .before .before .before .if1 .left) in
+    read-refused (a .text .now) (a .bank) (a .n) (a .image .now) g (c .before .before .before .before .before .before .before .before .before .before .before .before .before .before .before .before .before .if2 .left) ((c .before .before .before .before .before .before .before .before .before .before .before .wide4 .ensures .0) ∙ (c .before .before .before .before .before .before .before .before .before .before .before .before .start-address .ensures)) (c .before .before .before .before .before .before .before .before .before .before .before .before .before .before .before .fill .ensures)
+    _ (c .before .before .before .before .before .before .before .before .before .read-lines .last .1 .1 .0) (rw (c .before .before .before .before .before .outcome .given .1) at (c .before .before .before .before .before .before .before .before .before .read-lines .ensures)) (c .before .before .before .before .before .before .before .before .before .read-lines .kept .1 .1 .0) (c .before .before .fill2 .ensures)
 
 same-length-2 : tie.Need-same-length-2
 same-length-2 c = search needs
@@ -70,9 +70,9 @@ same-length-2 c = search needs
 returns-4 : tie.Need-returns-4
 returns-4 c =
     let a = (c .before .before .before .before .before .before .before .before .before .before .before .before .before .before .before .before .before .args) in
-    let g = sym ((c .before .before .before .before .before .before .before .before .before .before .before .before .before .before .good-n .ensures)) ∙ not-false _ (c .before .before .before .before .before .before .before .before .before .before .before .before .before .if1 .left) in
-    read-accepted (a .text .now) (a .bank) (a .n) (a .image .now) g ((c .before .before .before .before .before .before .before .before .before .before .before .before .if2 .left)) ((c .before .before .before .before .before .before .wide4 .ensures .0) ∙ (c .before .before .before .before .before .before .before .start-address .ensures)) ((c .before .before .before .before .before .before .before .before .before .before .fill .ensures))
-    (rw ((c .enum-told .given .1)) at ((c .before .before .before .before .read-lines .ensures)))
+    let g = sym (c .before .before .before .before .before .before .before .before .before .before .before .before .before .before .good-n .ensures) ∙ not-false _ (c .before .before .before .before .before .before .before .before .before .before .before .before .before .if1 .left) in
+    read-accepted (a .text .now) (a .bank) (a .n) (a .image .now) g (c .before .before .before .before .before .before .before .before .before .before .before .before .if2 .left) ((c .before .before .before .before .before .before .wide4 .ensures .0) ∙ (c .before .before .before .before .before .before .before .start-address .ensures)) (c .before .before .before .before .before .before .before .before .before .before .fill .ensures)
+    (rw (c .enum-told .given .1) at (c .before .before .before .before .read-lines .ensures))
 
 pub read-spec : {M : Type 1} → statement M
 read-spec =

@@ -69,7 +69,7 @@ returns-2 c =
     let m = ahead-line t (l .at) _ (sym (c .before .before .before .before .before .before .before .before .before .before .ahead-of .ensures) ∙ (c .before .before .before .before .before .before .before .before .found .given .1)) in
     let k = (c .before .before .before .before .before .take-line .ensures) in
     let e = sym (k .is) ∙ (c .before .step .given .1) in
-    sym (ap outcome-of (l .inv .1 .1 .1 .1 ∙ read-stop (a .base) (length (a .image .now)) (l .state) (l .line) (l .image) t (l .at) ((c .before .before .before .before .before .before .before .before .found .given .0 .0 .end)) ((c .before .before .before .before .before .before .before .before .found .given .0 .0 .next)) (m .0) (m .1) _ (rw (l .inv .1 .1 .0) at e)))
+    sym (ap outcome-of (l .inv .1 .1 .1 .1 ∙ read-stop (a .base) (length (a .image .now)) (l .state) (l .line) (l .image) t (l .at) (c .before .before .before .before .before .before .before .before .found .given .0 .0 .end) (c .before .before .before .before .before .before .before .before .found .given .0 .0 .next) (m .0) (m .1) _ (rw (l .inv .1 .1 .0) at e)))
 
 enum-known-step-2 : tie.Need-enum-known-step-2 Inv-loop μ-loop
 enum-known-step-2 c = search needs
@@ -108,7 +108,7 @@ loop-again c =
           (c .before .before .before .before .before .take-line .kept .1 .1 .1 .1 .1 .0) ∙ l .inv .1 .1 .0,
           (
             step-upper (a .base) _ (l .state) _ _ (l .inv .1 .1 .1 .0) e,
-            l .inv .1 .1 .1 .1 ∙ read-on (a .base) (length (a .image .now)) (l .state) (l .line) (l .image) t (l .at) ((c .before .before .before .before .before .before .before .before .found .given .0 .0 .end)) ((c .before .before .before .before .before .before .before .before .found .given .0 .0 .next)) (m .0) (m .1) _ (rw (l .inv .1 .1 .0) at e) ∙ rw (sym (rw (l .inv .1 .1 .0) at (k .image))),
+            l .inv .1 .1 .1 .1 ∙ read-on (a .base) (length (a .image .now)) (l .state) (l .line) (l .image) t (l .at) (c .before .before .before .before .before .before .before .before .found .given .0 .0 .end) (c .before .before .before .before .before .before .before .before .found .given .0 .0 .next) (m .0) (m .1) _ (rw (l .inv .1 .1 .0) at e) ∙ rw (sym (rw (l .inv .1 .1 .0) at (k .image))),
           ),
         ),
       ),

@@ -24,13 +24,13 @@ slice-aggregate-result : tie.Need-slice-aggregate-result
 slice-aggregate-result c = search needs
 
 returns : tie.Need-returns
-returns c = body-zero ((c .before .before .before .before .before .before .before .args .self)) ((c .before .before .before .before .before .before .before .args .bank0 .now)) ((c .before .before .before .before .before .before .before .args .bank1 .now)) ((c .before .before .before .before .before .before .before .args .i)) _ ((c .before .before .before .before .banks-good .ensures)) _ ((c .before .before .before .if1 .taken)) ((c .before .enum-told .given .1)) ((c .body .ensures))
+returns c = body-zero (c .before .before .before .before .before .before .before .args .self) (c .before .before .before .before .before .before .before .args .bank0 .now) (c .before .before .before .before .before .before .before .args .bank1 .now) (c .before .before .before .before .before .before .before .args .i) _ (c .before .before .before .before .banks-good .ensures) _ (c .before .before .before .if1 .taken) (c .before .enum-told .given .1) (c .body .ensures)
 
 returns-2 : tie.Need-returns-2
-returns-2 c = body-one ((c .before .before .before .before .before .before .before .args .self)) ((c .before .before .before .before .before .before .before .args .bank0 .now)) ((c .before .before .before .before .before .before .before .args .bank1 .now)) ((c .before .before .before .before .before .before .before .args .i)) _ ((c .before .before .before .before .banks-good .ensures)) _ ((c .before .before .before .if1 .taken)) ((c .before .enum-told2 .given .1)) ((c .body2 .ensures))
+returns-2 c = body-one (c .before .before .before .before .before .before .before .args .self) (c .before .before .before .before .before .before .before .args .bank0 .now) (c .before .before .before .before .before .before .before .args .bank1 .now) (c .before .before .before .before .before .before .before .args .i) _ (c .before .before .before .before .banks-good .ensures) _ (c .before .before .before .if1 .taken) (c .before .enum-told2 .given .1) (c .body2 .ensures)
 
 returns-3 : tie.Need-returns-3
-returns-3 c = body-none ((c .before .before .before .before .before .args .self)) ((c .before .before .before .before .before .args .bank0 .now)) ((c .before .before .before .before .before .args .bank1 .now)) ((c .before .before .before .before .before .args .i)) _ ((c .before .before .banks-good .ensures)) ((c .before .if1 .left))
+returns-3 c = body-none (c .before .before .before .before .before .args .self) (c .before .before .before .before .before .args .bank0 .now) (c .before .before .before .before .before .args .bank1 .now) (c .before .before .before .before .before .args .i) _ (c .before .before .banks-good .ensures) (c .before .if1 .left)
 
 pub body-spec : {M : Type 1} → statement M
 body-spec =

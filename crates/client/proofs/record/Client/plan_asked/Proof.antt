@@ -25,11 +25,11 @@ plan-command-requires c κs = search needs
 
 returns : tie.Need-returns
 unfolding planAsked
-returns c = rw ((c .enum-told .given .1))
+returns c = rw (c .enum-told .given .1)
 
 returns-2 : tie.Need-returns-2
 unfolding planAsked
-returns-2 c = rw ((c .enum-told2 .given .1))
+returns-2 c = rw (c .enum-told2 .given .1)
 
 returns-3 : tie.Need-returns-3
 unfolding planAsked
@@ -37,7 +37,7 @@ returns-3 c = rw ((c .before .before .asked .given .1), (c .declined .ensures))
 
 returns-4 : tie.Need-returns-4
 unfolding planAsked
-returns-4 c = rw ((c .before .before .asked2 .given .1)) ((c .plan-command .ensures))
+returns-4 c = rw (c .before .before .asked2 .given .1) (c .plan-command .ensures)
 
 pub plan-asked-spec : {M : Type 1} → statement M
 plan-asked-spec =

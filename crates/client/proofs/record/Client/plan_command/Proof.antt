@@ -13,7 +13,7 @@ declined-requires : tie.Need-declined-requires
 declined-requires c κs = search needs
 
 returns : tie.Need-returns
-returns c = command-unfit ((c .before .before .before .before .before .args .self)) ((c .before .before .before .before .before .args .command)) ((c .before .before .before .before .before .args .marks .now)) ((c .before .before .before .before .before .args .datagram .now)) _ ((c .before .before .fits-state .ensures)) _ ((c .declined .ensures)) ((c .before .if1 .taken))
+returns c = command-unfit (c .before .before .before .before .before .args .self) (c .before .before .before .before .before .args .command) (c .before .before .before .before .before .args .marks .now) (c .before .before .before .before .before .args .datagram .now) _ (c .before .before .fits-state .ensures) _ (c .declined .ensures) (c .before .if1 .taken)
 
 enum-told : tie.Need-enum-told
 enum-told c = search needs
@@ -50,31 +50,31 @@ plan-packet-requires c κs = search needs
 
 returns-2 : tie.Need-returns-2
 unfolding planGood
-returns-2 c = command-fit ((c .before .before .before .before .before .before .args .self)) ((c .before .before .before .before .before .before .args .command)) ((c .before .before .before .before .before .before .args .marks .now)) ((c .before .before .before .before .before .before .args .datagram .now)) _ ((c .before .before .before .fits-state .ensures)) _ ((c .before .before .if1 .left)) (rw ((c .enum-told .given .1)))
+returns-2 c = command-fit (c .before .before .before .before .before .before .args .self) (c .before .before .before .before .before .before .args .command) (c .before .before .before .before .before .before .args .marks .now) (c .before .before .before .before .before .before .args .datagram .now) _ (c .before .before .before .fits-state .ensures) _ (c .before .before .if1 .left) (rw (c .enum-told .given .1))
 
 returns-3 : tie.Need-returns-3
 unfolding planGood
-returns-3 c = command-fit ((c .before .before .before .before .before .before .before .args .self)) ((c .before .before .before .before .before .before .before .args .command)) ((c .before .before .before .before .before .before .before .args .marks .now)) ((c .before .before .before .before .before .before .before .args .datagram .now)) _ ((c .before .before .before .before .fits-state .ensures)) _ ((c .before .before .before .if1 .left)) (rw ((c .before .enum-told2 .given .1), (c .other .ensures)))
+returns-3 c = command-fit (c .before .before .before .before .before .before .before .args .self) (c .before .before .before .before .before .before .before .args .command) (c .before .before .before .before .before .before .before .args .marks .now) (c .before .before .before .before .before .before .before .args .datagram .now) _ (c .before .before .before .before .fits-state .ensures) _ (c .before .before .before .if1 .left) (rw ((c .before .enum-told2 .given .1), (c .other .ensures)))
 
 returns-4 : tie.Need-returns-4
 unfolding planGood
-returns-4 c = command-fit ((c .before .before .before .before .before .before .args .self)) ((c .before .before .before .before .before .before .args .command)) ((c .before .before .before .before .before .before .args .marks .now)) ((c .before .before .before .before .before .before .args .datagram .now)) _ ((c .before .before .before .fits-state .ensures)) _ ((c .before .before .if1 .left)) (rw ((c .enum-told3 .given .1)))
+returns-4 c = command-fit (c .before .before .before .before .before .before .args .self) (c .before .before .before .before .before .before .args .command) (c .before .before .before .before .before .before .args .marks .now) (c .before .before .before .before .before .before .args .datagram .now) _ (c .before .before .before .fits-state .ensures) _ (c .before .before .if1 .left) (rw (c .enum-told3 .given .1))
 
 returns-5 : tie.Need-returns-5
 unfolding planGood
-returns-5 c = command-fit ((c .before .before .before .before .before .before .before .args .self)) ((c .before .before .before .before .before .before .before .args .command)) ((c .before .before .before .before .before .before .before .args .marks .now)) ((c .before .before .before .before .before .before .before .args .datagram .now)) _ ((c .before .before .before .before .fits-state .ensures)) _ ((c .before .before .before .if1 .left)) (rw ((c .before .enum-told4 .given .1)) ((c .plan-start .ensures)))
+returns-5 c = command-fit (c .before .before .before .before .before .before .before .args .self) (c .before .before .before .before .before .before .before .args .command) (c .before .before .before .before .before .before .before .args .marks .now) (c .before .before .before .before .before .before .before .args .datagram .now) _ (c .before .before .before .before .fits-state .ensures) _ (c .before .before .before .if1 .left) (rw (c .before .enum-told4 .given .1) (c .plan-start .ensures))
 
 returns-6 : tie.Need-returns-6
 unfolding planGood
-returns-6 c = command-fit ((c .before .before .before .before .before .before .before .args .self)) ((c .before .before .before .before .before .before .before .args .command)) ((c .before .before .before .before .before .before .before .args .marks .now)) ((c .before .before .before .before .before .before .before .args .datagram .now)) _ ((c .before .before .before .before .fits-state .ensures)) _ ((c .before .before .before .if1 .left)) (rw ((c .before .enum-told5 .given .1)) ((c .plan-end .ensures)))
+returns-6 c = command-fit (c .before .before .before .before .before .before .before .args .self) (c .before .before .before .before .before .before .before .args .command) (c .before .before .before .before .before .before .before .args .marks .now) (c .before .before .before .before .before .before .before .args .datagram .now) _ (c .before .before .before .before .fits-state .ensures) _ (c .before .before .before .if1 .left) (rw (c .before .enum-told5 .given .1) (c .plan-end .ensures))
 
 returns-7 : tie.Need-returns-7
 unfolding planGood
-returns-7 c = command-fit ((c .before .before .before .before .before .before .args .self)) ((c .before .before .before .before .before .before .args .command)) ((c .before .before .before .before .before .before .args .marks .now)) ((c .before .before .before .before .before .before .args .datagram .now)) _ ((c .before .before .before .fits-state .ensures)) _ ((c .before .before .if1 .left)) (rw ((c .enum-told6 .given .1)))
+returns-7 c = command-fit (c .before .before .before .before .before .before .args .self) (c .before .before .before .before .before .before .args .command) (c .before .before .before .before .before .before .args .marks .now) (c .before .before .before .before .before .before .args .datagram .now) _ (c .before .before .before .fits-state .ensures) _ (c .before .before .if1 .left) (rw (c .enum-told6 .given .1))
 
 returns-8 : tie.Need-returns-8
 unfolding planGood
-returns-8 c = command-fit ((c .before .before .before .before .before .before .before .before .args .self)) ((c .before .before .before .before .before .before .before .before .args .command)) ((c .before .before .before .before .before .before .before .before .args .marks .now)) ((c .before .before .before .before .before .before .before .before .args .datagram .now)) _ ((c .before .before .before .before .before .fits-state .ensures)) _ ((c .before .before .before .before .if1 .left)) (rw ((c .before .before .command .given .1)) ((c .plan-packet .ensures)))
+returns-8 c = command-fit (c .before .before .before .before .before .before .before .before .args .self) (c .before .before .before .before .before .before .before .before .args .command) (c .before .before .before .before .before .before .before .before .args .marks .now) (c .before .before .before .before .before .before .before .before .args .datagram .now) _ (c .before .before .before .before .before .fits-state .ensures) _ (c .before .before .before .before .if1 .left) (rw (c .before .before .command .given .1) (c .plan-packet .ensures))
 
 pub plan-command-spec : {M : Type 1} → statement M
 plan-command-spec =

@@ -18,7 +18,7 @@ declined-requires : tie.Need-declined-requires
 declined-requires c κs = search needs
 
 returns : tie.Need-returns
-returns c = start-first ((c .before .before .before .before .before .before .args .self)) ((c .before .before .before .before .before .before .args .datagram .now)) _ ((c .before .before .before .before .other .ensures)) _ _ ((c .before .before .before .number4 .ensures)) ((c .before .before .start-address .ensures)) _ ((c .declined .ensures)) ((c .before .if1 .taken))
+returns c = start-first (c .before .before .before .before .before .before .args .self) (c .before .before .before .before .before .before .args .datagram .now) _ (c .before .before .before .before .other .ensures) _ _ (c .before .before .before .number4 .ensures) (c .before .before .start-address .ensures) _ (c .declined .ensures) (c .before .if1 .taken)
 
 number4-requires-2 : tie.Need-number4-requires-2
 number4-requires-2 c κs = search needs
@@ -30,10 +30,10 @@ declined-requires-2 : tie.Need-declined-requires-2
 declined-requires-2 c κs = search needs
 
 returns-2 : tie.Need-returns-2
-returns-2 c = start-second ((c .before .before .before .before .before .before .before .before .before .args .self)) ((c .before .before .before .before .before .before .before .before .before .args .datagram .now)) _ ((c .before .before .before .before .before .before .before .other .ensures)) _ _ ((c .before .before .before .before .before .before .number4 .ensures)) ((c .before .before .before .before .before .start-address .ensures)) _ _ ((c .before .before .before .number42 .ensures)) ((c .before .before .end-address .ensures)) ((c .before .before .before .before .if1 .left)) _ ((c .declined2 .ensures)) ((c .before .if2 .taken))
+returns-2 c = start-second (c .before .before .before .before .before .before .before .before .before .args .self) (c .before .before .before .before .before .before .before .before .before .args .datagram .now) _ (c .before .before .before .before .before .before .before .other .ensures) _ _ (c .before .before .before .before .before .before .number4 .ensures) (c .before .before .before .before .before .start-address .ensures) _ _ (c .before .before .before .number42 .ensures) (c .before .before .end-address .ensures) (c .before .before .before .before .if1 .left) _ (c .declined2 .ensures) (c .before .if2 .taken)
 
 returns-3 : tie.Need-returns-3
-returns-3 c = start-good ((c .before .before .before .before .before .before .before .before .args .self)) ((c .before .before .before .before .before .before .before .before .args .datagram .now)) _ ((c .before .before .before .before .before .before .other .ensures)) _ _ ((c .before .before .before .before .before .number4 .ensures)) ((c .before .before .before .before .start-address .ensures)) _ _ ((c .before .before .number42 .ensures)) ((c .before .end-address .ensures)) ((c .before .before .before .if1 .left)) ((c .if2 .left))
+returns-3 c = start-good (c .before .before .before .before .before .before .before .before .args .self) (c .before .before .before .before .before .before .before .before .args .datagram .now) _ (c .before .before .before .before .before .before .other .ensures) _ _ (c .before .before .before .before .before .number4 .ensures) (c .before .before .before .before .start-address .ensures) _ _ (c .before .before .number42 .ensures) (c .before .end-address .ensures) (c .before .before .before .if1 .left) (c .if2 .left)
 
 pub plan-start-spec : {M : Type 1} → statement M
 plan-start-spec =
