@@ -23,19 +23,18 @@ use Rattle.bank.specs.declared.layout.Bank.the-variants.{Zero, One}
 use Rattle.bank.specs.Layout.{sectorSize, goodN}
 use Rattle.exchange.specs.declared.answer.Answer.{Answer}
 use Rattle.exchange.specs.declared.answer.Answer.the-variants.{Response, Written}
-use Rattle.client.specs.declared.plan.Plan.{Plan}
-use Rattle.client.specs.declared.plan.Plan.the-variants.{Keep, Open, Close, Begin, Store, Wear, Finish}
+use Rattle.decision.specs.declared.plan.Plan.{Plan}
+use Rattle.decision.specs.declared.plan.Plan.the-variants.{Keep, Open, Close, Begin, Store, Wear, Finish}
 use Rattle.client.specs.declared.record.Client.{Client}
 use Rattle.exchange.specs.declared.state.State.{State}
 use Rattle.exchange.specs.declared.state.State.the-variants as state
 use Rattle.exchange.specs.Answer.{answerBytes}
-use Rattle.exchange.specs.Command.{askedOf}
-use Rattle.client.specs.Plan.{lentGood, valuesGood, planAsked, planOf}
+use Rattle.exchange.specs.Command.{askedOf, isClosed}
+use Rattle.decision.specs.Plan.{lentGood, valuesGood, planAsked, planOf}
 use Rattle.client.specs.Perform.{fitOf, Accepted, storeResult, sectorCrc, Done, storeOf, checkedOf, servedOf}
-use Rattle.client.specs.Host.{isClosed}
-use Rattle.client.specs.Record.{Stays, noneReceived, marked}
+use Rattle.client.specs.Record.{standingOf, Stays, noneReceived, marked}
 use Rattle.client.specs.Step.{noticeOf, Carried, carriedOf, saidOf, targetOf, planned, stepOf}
-use Rattle.client.proofs.Planning.{values-low, values-high}
+use Rattle.decision.proofs.Planning.{values-low, values-high}
 use Rattle.exchange.proofs.Saying.{answer-short}
 use Rattle.client.proofs.Leading.{Quiet, Storing, Beginning, Finishing, Leads, leads}
 
@@ -243,12 +242,12 @@ module _ (c : Client) (bank0 bank1 marks address buffer datagram : List ℕ) whe
       (λ g. split P (not (lentGood (c .n) (length bank0) (length bank1) (length marks) (length address) (length buffer))) (λ _. kept-fits _ refl)
       (λ l. split P (isClosed (c .state)) (λ _. kept-fits _ refl)
       (λ _.
-      room-fits (answered-by (planAsked c (askedOf datagram) marks datagram)) (room (not-false _ l)))))
+      room-fits (answered-by (planAsked (standingOf c) (askedOf datagram) marks datagram)) (room (not-false _ l)))))
 
 -- the same plan on either board: it looks at lengths alone
 module _ (c : Client) (a0 a1 b0 b1 marks address buffer datagram : List ℕ) (zero : length a0 ≡ length b0) (one : length a1 ≡ length b1) where
   same-plan : planned c a0 a1 marks address buffer datagram ≡ planned c b0 b1 marks address buffer datagram
-  same-plan = ap₂ (λ (x y : ℕ). planOf c x y marks (length address) (length buffer) datagram) zero one
+  same-plan = ap₂ (λ (x y : ℕ). planOf (standingOf c) x y marks (length address) (length buffer) datagram) zero one
 
   pub same-length : length (targetOf (c .running) a0 a1) ≡ length (targetOf (c .running) b0 b1)
   same-length = by (c .running)

@@ -8,7 +8,8 @@ use Rattle.bank.specs.Layout.{goodN}
 use Rattle.client.specs.declared.host.Told.the-variants.{Done, BadN, InVain}
 use Rattle.client.specs.declared.record.Client.{Client}
 use Rattle.client.specs.Record.{newClient, initiated, terminated}
-use Rattle.client.specs.Host.{isClosed, hosted, newOf, initiateOf, terminateOf}
+use Rattle.exchange.specs.Command.{isClosed}
+use Rattle.client.specs.Host.{hosted, newOf, initiateOf, terminateOf}
 
 module _ (n : ℕ) (running : Bank) (major minor revision : ℕ) where
   pub new-good : goodN n ≡ true → hosted (newClient n running major minor revision) Done ≡ newOf n running major minor revision

@@ -22,16 +22,16 @@ use Rattle.exchange.specs.declared.command.Asked.{Asked}
 use Rattle.exchange.specs.declared.command.Asked.the-variants.{Fault, NoRequest, WrongLength, Right}
 use Rattle.exchange.specs.declared.command.Command.{Command}
 use Rattle.exchange.specs.declared.command.Command.the-variants.{ModeStart, BankInfo, VersionInfo, WriteStart, WriteEnd, ModeEnd, Packet}
-use Rattle.client.specs.declared.plan.Plan.{Plan}
-use Rattle.client.specs.declared.plan.Plan.the-variants.{Keep, Open, Close, Begin, Store, Wear, Finish}
+use Rattle.decision.specs.declared.plan.Plan.{Plan}
+use Rattle.decision.specs.declared.plan.Plan.the-variants.{Keep, Open, Close, Begin, Store, Wear, Finish}
 use Rattle.client.specs.declared.record.Client.{Client}
 use Rattle.exchange.specs.declared.state.State.{State}
 use Rattle.exchange.specs.declared.state.State.the-variants as state
-use Rattle.exchange.specs.Command.{byCode, askedBy, askedOf, fitsState, declinedOf}
-use Rattle.client.specs.Host.{isClosed}
-use Rattle.client.specs.Plan.{lentGood, isWorn, anyWorn, valuesGood, addressesGood, planStart, planEnd, planPacket, planGood, planCommand, planAsked, planOf}
+use Rattle.exchange.specs.Command.{byCode, askedBy, askedOf, fitsState, declinedOf, isClosed}
+use Rattle.decision.specs.Plan.{lentGood, isWorn, anyWorn, valuesGood, addressesGood, planStart, planEnd, planPacket, planGood, planCommand, planAsked, planOf}
 use Rattle.client.specs.Step.{targetOf, planned}
 use Rattle.client.proofs.Stepping.{lent-well, whole-target}
+use Rattle.client.specs.Record.{standingOf}
 
 -- ---- what a plan may be
 
@@ -153,22 +153,22 @@ module _ (c : Client) (marks datagram : List ℕ) (t : ℕ) (good : goodN (c .n)
       (λ _. record { footer = p .footer; reads = p .reads; sent = p .sent; writing = s; good = good; whole = whole; values = v }))
       (λ _. refl)
 
-  leads-good : (command : Command) → Bears datagram command → fitsState (c .state) command ≡ true → Led (planGood c command marks datagram)
+  leads-good : (command : Command) → Bears datagram command → fitsState (c .state) command ≡ true → Led (planGood (standingOf c) command marks datagram)
   unfolding planGood planStart planEnd
   leads-good ModeStart b s = tt
   leads-good BankInfo b s = tt
   leads-good VersionInfo b s = tt
-  leads-good WriteStart b s = split Led (addressesGood c datagram) (λ _. record { good = good; whole = whole }) (λ _. (refl, refl))
+  leads-good WriteStart b s = split Led (addressesGood (c .n) (c .running) datagram) (λ _. record { good = good; whole = whole }) (λ _. (refl, refl))
   leads-good WriteEnd b s =
       split Led (anyWorn marks) (λ _. tt) (λ _. record { writing = in-write-end (c .state) s; good = good; whole = whole })
   leads-good ModeEnd b s = tt
   leads-good (Packet sector m) b s = leads-packet sector m b (in-write-packet (c .state) sector m s)
 
-  leads-command : (command : Command) → Bears datagram command → Led (planCommand c command marks datagram)
+  leads-command : (command : Command) → Bears datagram command → Led (planCommand (standingOf c) command marks datagram)
   unfolding planCommand
   leads-command command b = split Led (fitsState (c .state) command) (leads-good command b) (λ _. quiet-declined command 0x15 refl refl)
 
-  leads-asked : (asked : Asked) → Asks datagram asked → Led (planAsked c asked marks datagram)
+  leads-asked : (asked : Asked) → Asks datagram asked → Led (planAsked (standingOf c) asked marks datagram)
   unfolding planAsked
   leads-asked Fault a = tt
   leads-asked NoRequest a = (refl, refl)

@@ -3,5 +3,4 @@ pub mod Courses
 pub mod Hosting
 pub mod Leading
 pub mod Performing
-pub mod Planning
 pub mod Stepping

@@ -25,17 +25,18 @@ use Rattle.exchange.specs.declared.command.Asked.the-variants.{Fault, NoRequest
 use Rattle.exchange.specs.declared.command.Command.{Command}
 use Rattle.exchange.specs.declared.command.Command.the-variants.{ModeStart, BankInfo, VersionInfo, WriteStart, WriteEnd, ModeEnd, Packet}
 use Rattle.client.specs.declared.perform.Served.{Served}
-use Rattle.client.specs.declared.plan.Plan.{Plan}
-use Rattle.client.specs.declared.plan.Plan.the-variants.{Keep, Open, Close, Begin, Store, Wear, Finish}
+use Rattle.decision.specs.declared.plan.Plan.{Plan}
+use Rattle.decision.specs.declared.plan.Standing.{Standing}
+use Rattle.decision.specs.declared.plan.Plan.the-variants.{Keep, Open, Close, Begin, Store, Wear, Finish}
 use Rattle.client.specs.declared.record.Client.{Client}
 use Rattle.client.specs.declared.step.Stepped.{Stepped}
 use Rattle.exchange.specs.Answer.{answerBytes, Say·Is}
-use Rattle.exchange.specs.Command.{byCode, askedBy, askedOf, fitsState}
-use Rattle.client.specs.Host.{isClosed}
-use Rattle.client.specs.Plan.{lentGood, isWorn, anyWorn, valuesGood, addressesGood, planStart, planEnd, planPacket, planGood, planCommand, planAsked, planOf}
+use Rattle.exchange.specs.Command.{byCode, askedBy, askedOf, fitsState, isClosed}
+use Rattle.decision.specs.Plan.{lentGood, isWorn, anyWorn, valuesGood, addressesGood, planStart, planEnd, planPacket, planGood, planCommand, planAsked, planOf, Plan·Is}
 use Rattle.client.specs.Perform.{servedOf, Served·Is, Fair}
 use Rattle.client.specs.Step.{noticeOf, Addressed, Carried, carriedOf, Carried·Is, targetOf, zeroOf, oneOf, planned, stepOf, Step·Is}
-use Rattle.client.proofs.Planning.{Lent, lent, values-low, values-high}
+use Rattle.decision.proofs.Planning.{Lent, lent, values-low, values-high}
+use Rattle.client.specs.Record.{standingOf}
 
 -- ---- where the bytes of a packet lie
 
@@ -91,21 +92,21 @@ module _ (c : Client) (marks datagram : List ℕ) (t : ℕ) (good : goodN (c .n)
       record { first = low; last = omega arith; inside = omega arith; sent = h }))
       (λ _. tt)
 
-  fair-good : (command : Command) → Inside command (length datagram) → IsFair (planGood c command marks datagram)
+  fair-good : (command : Command) → Inside command (length datagram) → IsFair (planGood (standingOf c) command marks datagram)
   unfolding planGood planStart planEnd
   fair-good ModeStart h = tt
   fair-good BankInfo h = tt
   fair-good VersionInfo h = tt
-  fair-good WriteStart h = split IsFair (addressesGood c datagram) (λ _. tt) (λ _. tt)
+  fair-good WriteStart h = split IsFair (addressesGood (c .n) (c .running) datagram) (λ _. tt) (λ _. tt)
   fair-good WriteEnd h = split IsFair (anyWorn marks) (λ _. tt) (λ _. tt)
   fair-good ModeEnd h = tt
   fair-good (Packet sector m) h = fair-packet sector m h
 
-  fair-command : (command : Command) → Inside command (length datagram) → IsFair (planCommand c command marks datagram)
+  fair-command : (command : Command) → Inside command (length datagram) → IsFair (planCommand (standingOf c) command marks datagram)
   unfolding planCommand
   fair-command command h = split IsFair (fitsState (c .state) command) (λ _. fair-good command h) (λ _. tt)
 
-  fair-asked : (asked : Asked) → Held (length datagram) asked → IsFair (planAsked c asked marks datagram)
+  fair-asked : (asked : Asked) → Held (length datagram) asked → IsFair (planAsked (standingOf c) asked marks datagram)
   unfolding planAsked
   fair-asked Fault h = tt
   fair-asked NoRequest h = tt
@@ -149,9 +150,12 @@ module _ (c : Client) (bank0 bank1 marks address buffer datagram : List ℕ) whe
       let P : Plan → Type 0 = λ plan. Addressed plan (length address) in
       split P (not (goodN (c .n))) (λ _. tt)
       (λ _. split P (not (lentGood (c .n) (length bank0) (length bank1) (length marks) (length address) (length buffer))) (λ _. tt)
-      (λ l. split P (isClosed (c .state)) (λ _. tt) (λ _. addressed-any (planAsked c (askedOf datagram) marks datagram) (lent-well l .addressed))))
+      (λ l. split P (isClosed (c .state)) (λ _. tt) (λ _. addressed-any (planAsked (standingOf c) (askedOf datagram) marks datagram) (lent-well l .addressed))))
 
-  module _ (plan : Plan) (is : plan ≡ planned c bank0 bank1 marks address buffer datagram) where
+  module _ (standing : Standing) (of : standing ≡ standingOf c) (plan : Plan) (decided : Plan·Is standing (length bank0) (length bank1) marks (length address) (length buffer) datagram plan) where
+    is : plan ≡ planned c bank0 bank1 marks address buffer datagram
+    is = decided ∙ ap (λ (x : Standing). planOf x (length bank0) (length bank1) marks (length address) (length buffer) datagram) of
+
     pub addressed : Addressed plan (length address)
     addressed = rw is addressed-planned
 

@@ -1,7 +1,7 @@
 -- What the host asks (01, 'The client, step by step', "Host").
 -- Assumes nothing.
 use mathlib.Core.Path.{_≡_}
-use mathlib.Core.Bool.{Bool, true, false, not, cond}
+use mathlib.Core.Bool.{not, cond}
 use Prim.Native.Nat.{ℕ}
 use Rattle.bank.specs.declared.layout.Bank.{Bank}
 use Rattle.bank.specs.Layout.{goodN}
@@ -9,8 +9,7 @@ use Rattle.client.specs.declared.host.Hosted.{Hosted}
 use Rattle.client.specs.declared.host.Told.{Told}
 use Rattle.client.specs.declared.host.Told.the-variants.{Done, BadN, InVain}
 use Rattle.client.specs.declared.record.Client.{Client}
-use Rattle.exchange.specs.declared.state.State.{State}
-use Rattle.exchange.specs.declared.state.State.the-variants.{Closed, Idle, Control, Write}
+use Rattle.exchange.specs.Command.{isClosed}
 use Rattle.client.specs.Record.{newClient, initiated, terminated}
 
 -- the paper's numbers; a command that is done has none
@@ -18,12 +17,6 @@ abbrev pub toldNumber : Told → ℕ
 toldNumber Done = 0
 toldNumber BadN = 3
 toldNumber InVain = 4
-
-abbrev pub isClosed : State → Bool
-isClosed Closed = true
-isClosed Idle = false
-isClosed Control = false
-isClosed Write = false
 
 abbrev pub hosted : Client → Told → Hosted
 hosted c told = record { client = c; told = told }

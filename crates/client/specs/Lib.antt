@@ -2,6 +2,5 @@ pub mod Body
 pub mod Host
 pub mod Notice
 pub mod Perform
-pub mod Plan
 pub mod Record
 pub mod Step

@@ -10,6 +10,7 @@ use Rattle.bank.specs.Layout.{mostSectors}
 use Rattle.client.specs.declared.record.Client.{Client}
 use Rattle.client.specs.declared.record.Latest.{Latest}
 use Rattle.client.specs.declared.record.Latest.the-variants.{Nothing}
+use Rattle.decision.specs.declared.plan.Standing.{Standing}
 use Rattle.exchange.specs.declared.state.State.{State}
 use Rattle.exchange.specs.declared.state.State.the-variants.{Closed, Idle, Control, Write}
 
@@ -20,6 +21,11 @@ pub record Stays (before after : Client) : Type 0 where
   pub major : after .major ≡ before .major
   pub minor : after .minor ≡ before .minor
   pub revision : after .revision ≡ before .revision
+
+-- what a datagram is decided by
+abbrev pub standingOf : Client → Standing
+standingOf c =
+    record { n = c .n; running = c .running; state = c .state; major = c .major; minor = c .minor; revision = c .revision }
 
 -- "no sector received yet"
 unfoldable pub noneReceived : List Bool

@@ -10,15 +10,16 @@ use Rattle.bank.specs.declared.layout.Bank.the-variants.{Zero, One}
 use Rattle.exchange.specs.declared.answer.Answer.{Answer}
 use Rattle.client.specs.declared.notice.Kind.the-variants.{Started, Ended}
 use Rattle.client.specs.declared.notice.Notice.{Notice}
-use Rattle.client.specs.declared.plan.Plan.{Plan}
-use Rattle.client.specs.declared.plan.Plan.the-variants.{Keep, Open, Close, Begin, Store, Wear, Finish}
+use Rattle.decision.specs.declared.plan.Plan.{Plan}
+use Rattle.decision.specs.declared.plan.Plan.the-variants.{Keep, Open, Close, Begin, Store, Wear, Finish}
 use Rattle.client.specs.declared.record.Client.{Client}
 use Rattle.client.specs.declared.record.Latest.{Latest}
 use Rattle.client.specs.declared.step.Stepped.{Stepped}
 use Rattle.exchange.specs.Answer.{answerBytes}
 use Rattle.client.specs.Notice.{noNotice, noticeWith, latestNumber}
-use Rattle.client.specs.Plan.{planOf}
+use Rattle.decision.specs.Plan.{planOf}
 use Rattle.client.specs.Perform.{Done, servedOf}
+use Rattle.client.specs.Record.{standingOf}
 
 -- "host notice 6033 with sender address", "Notice 6034 carries .."; the latest session is the one before the step
 abbrev pub noticeOf : Plan → Latest → List ℕ → Notice
@@ -89,7 +90,7 @@ oneOf One bank1 target = bank1
 -- what a datagram leads to, by the lengths of what is lent
 abbrev pub planned : Client → List ℕ → List ℕ → List ℕ → List ℕ → List ℕ → List ℕ → Plan
 planned c bank0 bank1 marks address buffer datagram =
-    planOf c (length bank0) (length bank1) marks (length address) (length buffer) datagram
+    planOf (standingOf c) (length bank0) (length bank1) marks (length address) (length buffer) datagram
 
 unfoldable pub stepOf : Client → List ℕ → List ℕ → List ℕ → List ℕ → List ℕ → List ℕ → Carried
 stepOf c bank0 bank1 marks address buffer datagram =

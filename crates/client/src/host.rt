@@ -4,7 +4,7 @@ use crate::record::Latest;
 use bank::layout::Bank;
 use exchange::state::State;
 ghost use mathlib.Core.Path.{_≡_};
-ghost use Rattle.client.specs.Host.{isClosed, hosted, New·Is, Initiate·Is, Terminate·Is};
+ghost use Rattle.client.specs.Host.{hosted, New·Is, Initiate·Is, Terminate·Is};
 
 // What the host is told.
 pub enum Told {
@@ -17,17 +17,6 @@ pub enum Told {
 pub struct Hosted {
     pub client: Client,
     pub told: Told,
-}
-
-pub(crate) fn is_closed(state: State) -> bool
-    ensures { λ r. ⌜ r ≡ isClosed state ⌝ }
-{
-    match state {
-        State::Closed => true,
-        State::Idle => false,
-        State::Control => false,
-        State::Write => false,
-    }
 }
 
 impl Client {
@@ -66,7 +55,7 @@ impl Client {
         if !bank::layout::good_n(self.n) {
             return self.hosted(Told::BadN);
         }
-        if !is_closed(state) {
+        if !exchange::state::is_closed(state) {
             return self.hosted(Told::InVain);
         }
         self.initiated().hosted(Told::Done)
@@ -79,7 +68,7 @@ impl Client {
         if !bank::layout::good_n(self.n) {
             return self.hosted(Told::BadN);
         }
-        if is_closed(state) {
+        if exchange::state::is_closed(state) {
             return self.hosted(Told::InVain);
         }
         self.left(State::Closed).hosted(Told::Done)

@@ -4,6 +4,5 @@ pub mod body;
 pub mod host;
 pub mod notice;
 mod perform;
-mod plan;
 pub mod record;
 pub mod step;

@@ -1,8 +1,8 @@
 // Do: a plan carried out on the target bank. The running bank is never seen here.
-use crate::plan::Plan;
 use crate::record::Client;
 use crate::record::Latest;
 use bank::check::Verdict;
+use decision::plan::Plan;
 use exchange::answer::Answer;
 use exchange::state::State;
 ghost use mathlib.Core.Path.{_≡_};

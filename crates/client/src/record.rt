@@ -1,11 +1,12 @@
 // The client's record, and every way in which it changes.
 use bank::layout::Bank;
 use bank::layout::MOST;
+use decision::plan::Standing;
 use exchange::state::State;
 ghost use mathlib.Core.Path.{_≡_};
 ghost use Prim.Native.Nat.{_≤_};
 ghost use Rattle.bank.specs.Layout.{mostSectors};
-ghost use Rattle.client.specs.Record.{noneReceived, initiated, opened, left, begun, marked, ended};
+ghost use Rattle.client.specs.Record.{standingOf, noneReceived, initiated, opened, left, begun, marked, ended};
 
 // How the latest write session since Start OTA Mode ended.
 pub enum Latest {
@@ -33,6 +34,22 @@ pub(crate) fn none_received() -> [bool; MOST]
 }
 
 impl Client {
+    // What a datagram is decided by.
+    pub(crate) fn standing(self) -> Standing
+        ensures { λ r. ⌜ r ≡ standingOf self ⌝ }
+    {
+        let running = self.running;
+        let state = self.state;
+        Standing {
+            n: self.n,
+            running,
+            state,
+            major: self.major,
+            minor: self.minor,
+            revision: self.revision,
+        }
+    }
+
     pub(crate) fn initiated(self) -> Client
         ensures { λ r. ⌜ r ≡ initiated self ⌝ }
     {

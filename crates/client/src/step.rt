@@ -1,10 +1,10 @@
 // One datagram: decided upon, carried out on the target bank, answered.
 use crate::notice::Kind;
 use crate::notice::Notice;
-use crate::plan::Plan;
 use crate::record::Client;
 use crate::record::Latest;
 use bank::layout::Bank;
+use decision::plan::Plan;
 use exchange::answer::Answer;
 ghost use mathlib.Core.Path.{_≡_};
 ghost use lib.ListN.{length};
@@ -83,7 +83,8 @@ impl Client {
         ensures { λ r. ⌜ Step·Is self (now (bank0 .entry)) (now (bank1 .entry)) (now (marks .entry)) (now (address .entry)) (now (buffer .entry)) (now (datagram .entry)) r (now (bank0 .exit)) (now (bank1 .exit)) (now (buffer .exit)) ⌝ }
     {
         let running = self.running;
-        let plan = self.plan(
+        let standing = self.standing();
+        let plan = standing.plan(
             bank0.len(),
             bank1.len(),
             marks,

@@ -22,7 +22,7 @@ use Rattle.sender.specs.declared.request.Request.{Request}
 use Rattle.sender.specs.declared.request.Request.the-variants.{WriteStart}
 use Rattle.sender.specs.Request.{codeOf, asksFor, requestFrame}
 use Rattle.client.specs.declared.record.Client.{Client}
-use Rattle.client.specs.Plan.{addressesGood}
+use Rattle.decision.specs.Plan.{addressesGood}
 
 pub request-read : (request : Request) → readOf (requestFrame request) ≡ Control (codeOf request) (length (asksFor request))
 request-read request = sym (control-back (codeOf request) (asksFor request))
@@ -67,7 +67,7 @@ pub start-read : (bank : Bank) (n : ℕ) → readOf (requestFrame (WriteStart ba
 start-read bank n = request-read (WriteStart bank n) ∙ ap (Control 0x40) (eight 0x40 (startOf bank) (endOf bank n))
 
 -- the pair is the target's
-pub start-addressed : (c : Client) → goodN (c .n) ≡ true → addressesGood c (requestFrame (WriteStart (otherOf (c .running)) (c .n))) ≡ true
+pub start-addressed : (c : Client) → goodN (c .n) ≡ true → addressesGood (c .n) (c .running) (requestFrame (WriteStart (otherOf (c .running)) (c .n))) ≡ true
 unfolding addressesGood
 start-addressed c g =
     let bank : Bank = otherOf (c .running) in

@@ -33,15 +33,15 @@ use Rattle.client.specs.declared.record.Latest.{Latest}
 use Rattle.exchange.specs.declared.state.State.{State}
 use Rattle.exchange.specs.declared.state.State.the-variants as state
 use Rattle.exchange.specs.Answer.{refusalNumber, answerBytes}
-use Rattle.exchange.specs.Command.{byCode, askedBy}
-use Rattle.client.specs.Host.{isClosed, initiateOf, terminateOf}
+use Rattle.exchange.specs.Command.{byCode, askedBy, isClosed}
+use Rattle.client.specs.Host.{initiateOf, terminateOf}
 use Rattle.client.specs.Notice.{noNotice}
 use Rattle.client.specs.Perform.{fitOf, storeResult, storeOf, checkedOf, servedOf}
-use Rattle.client.specs.Plan.{lentGood, isWorn, anyWorn, valuesGood, addressesGood, planStart, planEnd, planPacket, planGood, planCommand, planAsked, planOf}
-use Rattle.client.specs.Record.{marked}
+use Rattle.decision.specs.Plan.{lentGood, isWorn, anyWorn, valuesGood, addressesGood, planStart, planEnd, planPacket, planGood, planCommand, planAsked, planOf}
+use Rattle.client.specs.Record.{standingOf, marked}
 use Rattle.client.specs.Step.{Carried, carriedOf, targetOf, zeroOf, oneOf, stepOf}
 use Rattle.client.proofs.Courses.{fits-stored}
-use Rattle.client.proofs.Planning.{lent}
+use Rattle.decision.proofs.Planning.{lent}
 use Rattle.client.proofs.Stepping.{whole-target}
 use Rattle.demands.specs.Board.{Board, board, Call, Input, Initiate, Terminate, Datagram, Outcome, backIn, answerNumber, lentTarget, callOutcome, stepMachine}
 use Rattle.demands.specs.Demand1.{firstOf, isFault, refused, changed, answered, stored, afterFrame, callRows, tableOf, sweptTarget, Meets1}
@@ -152,7 +152,7 @@ module _ (n : ℕ) (running next : Bank) (latest : Latest) (major minor revision
   abbrev comesOf : State → Read → Outcome
   comesOf s r =
       callOutcome (at s) call
-      (carriedOf (c s) (planAsked (c s) (askedBy r) (call .marks) (call .datagram)) (lentTarget (at s) call) (call .address) (call .buffer) (call .datagram))
+      (carriedOf (c s) (planAsked (standingOf (c s)) (askedBy r) (call .marks) (call .datagram)) (lentTarget (at s) call) (call .address) (call .buffer) (call .datagram))
 
   abbrev Holds : State → Read → Type 0
   Holds s r = firstOf (afterFrame (at s) call r) ≡ some (comesOf s r)
@@ -206,7 +206,7 @@ module _ (n : ℕ) (running next : Bank) (latest : Latest) (major minor revision
   code-64 m true state.Write z l = rw z (kept state.Write (Response 0x74 0x15) _ refl refl refl refl refl)
 
   -- the address pair
-  code-40 : (m : ℕ) (t : Bool) (s : State) (v : Bool) → eqb m 8 ≡ t → addressesGood (c state.Control) (call .datagram) ≡ v → isClosed s ≡ false → Holds s (Control 0x40 m)
+  code-40 : (m : ℕ) (t : Bool) (s : State) (v : Bool) → eqb m 8 ≡ t → addressesGood n running (call .datagram) ≡ v → isClosed s ≡ false → Holds s (Control 0x40 m)
   unfolding askedBy byCode planAsked planCommand planGood planStart carriedOf servedOf answerBytes
   code-40 m false s v z a l = rw z (kept s (Response 0x70 0x05) _ refl refl refl refl refl)
   code-40 m true state.Closed v z a l = closed-not l

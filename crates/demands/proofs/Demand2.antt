@@ -38,15 +38,15 @@ use Rattle.exchange.specs.declared.answer.Answer.the-variants.{Response, Writte
 use Rattle.client.specs.declared.record.Latest.the-variants.{Good}
 use Rattle.exchange.specs.declared.state.State.the-variants as state
 use Rattle.exchange.specs.Answer.{writtenBytes, answerBytes}
-use Rattle.client.specs.Host.{isClosed}
+use Rattle.exchange.specs.Command.{isClosed}
 use Rattle.client.specs.Notice.{noNotice}
 use Rattle.client.specs.Perform.{Accepted, fitOf, storeResult}
-use Rattle.client.specs.Plan.{isWorn, anyWorn, valuesGood, addressesGood}
+use Rattle.decision.specs.Plan.{isWorn, anyWorn, valuesGood, addressesGood}
 use Rattle.client.specs.Record.{begun, ended}
 use Rattle.client.specs.Step.{targetOf}
 use Rattle.client.proofs.Courses.{accepted, not-write}
 use Rattle.exchange.proofs.Saying.{answer-short}
-use Rattle.client.proofs.Planning.{lent-buffer, values-words}
+use Rattle.decision.proofs.Planning.{lent-buffer, values-words}
 use Rattle.demands.specs.Board.{Board, board, Call, Input, Datagram, Outcome, said, after, outcomes, targetBank, sectorsIn, lentTarget, stepMachine}
 use Rattle.demands.specs.Session.{isEnd, allBlank, exchanged, noted}
 use Rattle.demands.specs.Demand1.{changed, stored, packetStored, sweptTarget}
@@ -150,7 +150,7 @@ module _ (b : Board) (r : Ready b) (call : Call) (sent : call .datagram ≡ requ
   begun-is =
       write-start b call (heard b call (r .good) l (r .zero) (r .one) (ap isClosed (r .control))) (r .control)
       (ap readOf sent ∙ start-read (otherOf (b .client .running)) (b .client .n))
-      (ap (addressesGood (b .client)) sent ∙ start-addressed (b .client) (r .good))
+      (ap (addressesGood (b .client .n) (b .client .running)) sent ∙ start-addressed (b .client) (r .good))
 
   pub begun-said : said (stepMachine b (Datagram call)) ≡ controlFrame 0x70 (0x06 ∷ [])
   begun-said = ap said begun-is ∙ said-back call (controlFrame 0x70 (0x06 ∷ [])) (control-short 0x70 0x06) (l .room)

@@ -37,12 +37,12 @@ use Rattle.hex.specs.Read.{readOf as readText}
 use Rattle.exchange.specs.declared.state.State.{State}
 use Rattle.exchange.specs.declared.state.State.the-variants as state
 use Rattle.exchange.specs.Answer.{writtenBytes, answerBytes}
-use Rattle.client.specs.Host.{isClosed}
+use Rattle.exchange.specs.Command.{isClosed}
 use Rattle.client.specs.Perform.{storeResult}
-use Rattle.client.specs.Plan.{isWorn, valuesGood}
+use Rattle.decision.specs.Plan.{isWorn, valuesGood}
 use Rattle.client.specs.Step.{targetOf, zeroOf, oneOf}
 use Rattle.client.proofs.Courses.{accepted, fits-stored}
-use Rattle.client.proofs.Planning.{values-zero, values-above, values-empty, values-long, values-words, values-low, values-high}
+use Rattle.decision.proofs.Planning.{values-zero, values-above, values-empty, values-long, values-words, values-low, values-high}
 use Rattle.demands.specs.Board.{Board, Call, Datagram, Outcome, said, backIn, lentTarget, stepMachine}
 use Rattle.demands.specs.Demand1.{packetStored}
 use Rattle.demands.specs.Demand2.{Lends}

@@ -38,12 +38,12 @@ use Rattle.response.specs.Response.{kindOf, mayCarry, addedOf, repeatsOf, store
 use Rattle.response.proofs.Answers.{plain-back, bank-back, version-back, written-back}
 use Rattle.exchange.specs.declared.answer.Answer.the-variants.{BankIs, VersionIs}
 use Rattle.exchange.specs.Answer.{versionBytes, writtenBytes, answerBytes}
-use Rattle.client.specs.Host.{isClosed}
+use Rattle.exchange.specs.Command.{isClosed}
 use Rattle.client.specs.Perform.{Accepted, storeResult}
-use Rattle.client.specs.Plan.{lentGood}
+use Rattle.decision.specs.Plan.{lentGood}
 use Rattle.client.proofs.Courses.{accepted}
 use Rattle.exchange.proofs.Saying.{answer-short}
-use Rattle.client.proofs.Planning.{lent, lent-buffer}
+use Rattle.decision.proofs.Planning.{lent, lent-buffer}
 use Rattle.demands.specs.Board.{Board, Call, Datagram, Outcome, said, lentTarget, stepMachine}
 use Rattle.demands.specs.Demand1.{Row, firstOf, responseCode, isFault, refused, answered, afterFrame, callRows}
 use Rattle.demands.specs.EndToEnd.{Readable, MeetsRead}

@@ -17,10 +17,10 @@ use Rattle.client.specs.declared.record.Latest.the-variants.{Good, Otherwise}
 use Rattle.exchange.specs.declared.state.State.{State}
 use Rattle.exchange.specs.declared.state.State.the-variants as state
 use Rattle.exchange.specs.Answer.{writtenBytes}
-use Rattle.client.specs.Host.{isClosed}
+use Rattle.exchange.specs.Command.{isClosed}
 use Rattle.client.specs.Notice.{noNotice, noticeWith, latestNumber}
 use Rattle.client.specs.Perform.{fitOf}
-use Rattle.client.specs.Plan.{lentGood, isWorn, anyWorn, valuesGood, addressesGood}
+use Rattle.decision.specs.Plan.{lentGood, isWorn, anyWorn, valuesGood, addressesGood}
 use Rattle.client.specs.Record.{initiated, opened, modeEnded, begun, ended}
 use Rattle.demands.specs.Board.{Board, Call, Input, Initiate, Datagram, Outcome, stepMachine}
 use Rattle.demands.specs.Demand1.{firstOf, tableOf, isRequest, hostDone, answered, changed, stored, packetStored, sweptTarget, acceptedIn, takesPackets}
@@ -42,7 +42,7 @@ pub record Heard (b : Board) (call : Call) : Type 0 where
   pub live : isClosed (b .client .state) ≡ false
 
 module _ (b : Board) (call : Call) (h : Heard b call) where
-  pub write-start : b .client .state ≡ state.Control → readOf (call .datagram) ≡ Control 0x40 8 → addressesGood (b .client) (call .datagram) ≡ true
+  pub write-start : b .client .state ≡ state.Control → readOf (call .datagram) ≡ Control 0x40 8 → addressesGood (b .client .n) (b .client .running) (call .datagram) ≡ true
       → stepMachine b (Datagram call) ≡ changed b call (begun (b .client)) noNotice (controlFrame 0x70 (0x06 ∷ []))
   write-start s r a =
       let t : acceptedIn (b .client .state) 0x40 ≡ true = ap (λ (x : State). acceptedIn x 0x40) s in

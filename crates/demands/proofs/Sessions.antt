@@ -27,12 +27,13 @@ use Rattle.client.specs.declared.host.Hosted.{Hosted}
 use Rattle.client.specs.declared.record.Client.{Client}
 use Rattle.exchange.specs.declared.state.State.the-variants as state
 use Rattle.exchange.specs.Answer.{answerBytes}
-use Rattle.client.specs.Host.{isClosed, initiateOf, terminateOf}
+use Rattle.exchange.specs.Command.{isClosed}
+use Rattle.client.specs.Host.{initiateOf, terminateOf}
 use Rattle.client.specs.Record.{noneReceived}
 use Rattle.client.specs.Step.{Carried}
 use Rattle.client.proofs.Courses.{Course, still, begins, stores, ends, not-write, fits-stored, step-course, step-stays, step-told, step-said, step-fits}
 use Rattle.client.proofs.Leading.{Finishing}
-use Rattle.client.proofs.Planning.{values-low, values-high}
+use Rattle.decision.proofs.Planning.{values-low, values-high}
 use Rattle.demands.specs.Board.{Board, board, Call, Input, Initiate, Terminate, Datagram, said, targetBank, sectorsIn, lentTarget, hostOutcome, callOutcome, called, stepMachine}
 use Rattle.demands.specs.Session.{isEnd, allBlank, exchanged, noted}
 use Rattle.demands.proofs.Bytes.{quiet-begin, quiet-end, quiet-stored, response-begin, response-start-end, written-begin, written-end, written-stored}

@@ -10,7 +10,8 @@ use Rattle.bank.specs.Layout.{goodN}
 use Rattle.client.specs.declared.host.Hosted.{Hosted}
 use Rattle.client.specs.declared.record.Client.{Client}
 use Rattle.client.specs.Body.{chosen}
-use Rattle.client.specs.Host.{isClosed, initiateOf, terminateOf}
+use Rattle.exchange.specs.Command.{isClosed}
+use Rattle.client.specs.Host.{initiateOf, terminateOf}
 use Rattle.client.specs.Record.{Stays}
 use Rattle.client.proofs.Courses.{stays-same, step-stays, step-length}
 use Rattle.demands.specs.Board.{Board, board, Input, Initiate, Terminate, Datagram, after, runningBank, called, stepMachine}

@@ -14,7 +14,7 @@ use Rattle.frame.proofs.Told.{Told, told}
 use Rattle.bank.specs.Layout.{sectorSize, goodN}
 use Rattle.client.specs.declared.record.Client.{Client}
 use Rattle.exchange.specs.declared.state.State.the-variants as state
-use Rattle.client.specs.Plan.{valuesGood}
+use Rattle.decision.specs.Plan.{valuesGood}
 use Rattle.client.proofs.Leading.{Storing}
 
 sent-whole : (d : List ℕ) (sector m : ℕ) (footer : Footer) → readOf d ≡ Write sector m footer → length (bytesIn d m) ≡ m

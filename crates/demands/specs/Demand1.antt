@@ -27,10 +27,10 @@ use Rattle.client.specs.declared.record.Latest.the-variants.{Good, Otherwise}
 use Rattle.exchange.specs.declared.state.State.{State}
 use Rattle.exchange.specs.declared.state.State.the-variants as state
 use Rattle.exchange.specs.Answer.{versionBytes, writtenBytes}
-use Rattle.client.specs.Host.{isClosed}
+use Rattle.exchange.specs.Command.{isClosed}
 use Rattle.client.specs.Notice.{noNotice, noticeWith, latestNumber}
 use Rattle.client.specs.Perform.{fitOf, storeResult}
-use Rattle.client.specs.Plan.{lentGood, isWorn, anyWorn, valuesGood, addressesGood}
+use Rattle.decision.specs.Plan.{lentGood, isWorn, anyWorn, valuesGood, addressesGood}
 use Rattle.client.specs.Record.{Stays, initiated, terminated, opened, modeEnded, begun, marked, ended}
 use Rattle.client.specs.Step.{zeroOf, oneOf}
 use Rattle.demands.specs.Board.{Board, board, Call, Input, Initiate, Terminate, Datagram, Outcome, Machine, after, runningBank, backIn, lentTarget}
@@ -115,7 +115,7 @@ wrongState s (Write sector m footer) = not (takesPackets s)
 -- value faults: addresses that are not the target's, a packet's sector, the number of its bytes
 abbrev pub wrongValues : Client → List ℕ → Read → Bool
 wrongValues c datagram Fault = false
-wrongValues c datagram (Control code n) = eqb code 0x40 && not (addressesGood c datagram)
+wrongValues c datagram (Control code n) = eqb code 0x40 && not (addressesGood (c .n) (c .running) datagram)
 wrongValues c datagram (Write sector m footer) = not (valuesGood (c .n) sector m)
 
 -- of a packet its own sector, of a write end any

@@ -14,6 +14,7 @@ use Rattle.sender.specs.declared.request.Request.{Request}
 use Rattle.exchange.specs.declared.answer.Answer.{Answer}
 use Rattle.exchange.specs.declared.command.Command.{Command}
 use Rattle.exchange.specs.declared.state.State.{State}
+use Rattle.decision.specs.declared.plan.Standing.{Standing}
 use Rattle.client.specs.declared.record.Client.{Client}
 use Rattle.client.specs.declared.step.Stepped.{Stepped}
 use Rattle.buffer.specs.Compare.{Same·Is, Blank·Is}
@@ -35,7 +36,8 @@ use Rattle.sender.specs.Packet.{Count·Is, Packet·Is}
 use Rattle.sender.specs.Request.{Request·Is}
 use Rattle.response.specs.Response.{Response·Is}
 use Rattle.exchange.specs.Answer.{Say·Is}
-use Rattle.exchange.specs.Command.{Asked·Is, FitsState·Is, Declined·Is}
+use Rattle.exchange.specs.Command.{Asked·Is, IsClosed·Is, FitsState·Is, Declined·Is}
+use Rattle.decision.specs.Plan.{Plan·Is}
 use Rattle.client.specs.Body.{Body·Is as NextBody·Is}
 use Rattle.client.specs.Host.{New·Is, Initiate·Is, Terminate·Is}
 use Rattle.client.specs.Step.{Step·Is}
@@ -105,10 +107,12 @@ pub record Determined : Type 0 where
   pub read-response : (datagram : List ℕ) → Once (Response·Is datagram)
   -- what is asked and answered
   pub asked : (datagram : List ℕ) → Once (Asked·Is datagram)
+  pub is-closed : (state : State) → Once (IsClosed·Is state)
   pub fits-state : (state : State) (command : Command) → Once (FitsState·Is state command)
   pub declined : (command : Command) (result : ℕ) → Once (Declined·Is command result)
   pub say : (answer : Answer) (before : List ℕ) → Twice (Say·Is answer before)
   -- the client
+  pub plan : (standing : Standing) (bank0 bank1 : ℕ) (marks : List ℕ) (address buffer : ℕ) (datagram : List ℕ) → Once (Plan·Is standing bank0 bank1 marks address buffer datagram)
   pub new : (n : ℕ) (running : Bank) (major minor revision : ℕ) → Once (New·Is n running major minor revision)
   pub initiate : (c : Client) → Once (Initiate·Is c)
   pub terminate : (c : Client) → Once (Terminate·Is c)

@@ -1,6 +1,6 @@
 // The states of a client.
 ghost use mathlib.Core.Path.{_≡_};
-ghost use Rattle.exchange.specs.Command.{stateNumber};
+ghost use Rattle.exchange.specs.Command.{stateNumber, IsClosed·Is};
 
 pub enum State {
     Closed,
@@ -18,5 +18,16 @@ pub(crate) fn state_number(state: State) -> u8
         State::Idle => 1,
         State::Control => 2,
         State::Write => 3,
+    }
+}
+
+pub fn is_closed(state: State) -> bool
+    ensures { λ r. ⌜ IsClosed·Is state r ⌝ }
+{
+    match state {
+        State::Closed => true,
+        State::Idle => false,
+        State::Control => false,
+        State::Write => false,
     }
 }

@@ -1,0 +1,197 @@
+-- Each way out of the deciding.
+-- Assumes nothing.
+use mathlib.Core.Path.{_≡_, ap}
+use mathlib.Core.Bool.{Bool, true, false, not, _&&_}
+use mathlib.Core.List.{List}
+use Prim.Native.Nat.{ℕ, suc, _+_, _-_, _*_, _%_, _≤_, _<_}
+use native.Mathlib.Omega.{arith}
+use lib.Dec.{eqb, leb}
+use lib.ListN.{length, getD, drop, drop-of-length-le}
+use lib.Seq.{drop-cons}
+use borrow.Author.Tests.{eq-eqb, ne-eqb, le-leb, lt-leb, leb-true, eqb-true, not-true, not-false}
+use Rattle.buffer.specs.Number.{numberAt}
+use Rattle.buffer.proofs.Bools.{and-left, and-right}
+use Rattle.bank.specs.declared.layout.Bank.{Bank}
+use Rattle.bank.specs.Layout.{sectorSize, goodN, otherOf, startOf, endOf}
+use Rattle.exchange.specs.declared.answer.Answer.{Answer}
+use Rattle.exchange.specs.declared.answer.Answer.the-variants.{Refused, Written}
+use Rattle.exchange.specs.declared.answer.Refusal.the-variants.{BadN, BadLength, Closed}
+use Rattle.exchange.specs.declared.command.Asked.{Asked}
+use Rattle.exchange.specs.declared.command.Command.{Command}
+use Rattle.exchange.specs.declared.command.Command.the-variants.{WriteStart, Packet}
+use Rattle.decision.specs.declared.plan.Plan.{Plan}
+use Rattle.decision.specs.declared.plan.Plan.the-variants.{Keep, Begin, Store, Wear, Finish}
+use Rattle.decision.specs.declared.plan.Standing.{Standing}
+use Rattle.exchange.specs.Command.{askedOf, isClosed, fitsState, declinedOf}
+use Rattle.decision.specs.Plan.{lentGood, anyWorn, valuesGood, addressesGood, planStart, planEnd, planPacket, planGood, planCommand, planAsked, planOf}
+
+-- ---- the lent lengths
+
+module _ (n bank0 bank1 marks address buffer : ℕ) where
+  pub lent-bank0 : (bank0 ≡ n * sectorSize → ⊥) → false ≡ lentGood n bank0 bank1 marks address buffer
+  unfolding lentGood
+  lent-bank0 a = simp (ne-eqb _ _ a)
+
+  module _ (a : bank0 ≡ n * sectorSize) where
+    pub lent-bank1 : (bank1 ≡ n * sectorSize → ⊥) → false ≡ lentGood n bank0 bank1 marks address buffer
+    unfolding lentGood
+    lent-bank1 b = simp (eq-eqb _ _ a, ne-eqb _ _ b)
+
+    module _ (b : bank1 ≡ n * sectorSize) where
+      pub lent-marks : (marks ≡ n → ⊥) → false ≡ lentGood n bank0 bank1 marks address buffer
+      unfolding lentGood
+      lent-marks m = simp (eq-eqb _ _ a, eq-eqb _ _ b, ne-eqb _ _ m)
+
+      pub lent-address : marks ≡ n → (address ≡ 16 → ⊥) → false ≡ lentGood n bank0 bank1 marks address buffer
+      unfolding lentGood
+      lent-address m d = simp (eq-eqb _ _ a, eq-eqb _ _ b, eq-eqb _ _ m, ne-eqb _ _ d)
+
+      pub lent-buffer : marks ≡ n → address ≡ 16 → leb 14 buffer ≡ lentGood n bank0 bank1 marks address buffer
+      unfolding lentGood
+      lent-buffer m d = simp (eq-eqb _ _ a, eq-eqb _ _ b, eq-eqb _ _ m, eq-eqb _ _ d)
+
+-- what good lengths tell
+pub record Lent (n bank0 bank1 marks address : ℕ) : Type 0 where
+  pub zero-whole : bank0 ≡ n * sectorSize
+  pub one-whole : bank1 ≡ n * sectorSize
+  pub marked : marks ≡ n
+  pub addressed : address ≡ 16
+
+pub lent : (n bank0 bank1 marks address buffer : ℕ) → lentGood n bank0 bank1 marks address buffer ≡ true → Lent n bank0 bank1 marks address
+unfolding lentGood
+lent n bank0 bank1 marks address buffer e =
+    let p : Bool = eqb bank0 (n * sectorSize) in
+    let q : Bool = eqb bank1 (n * sectorSize) in
+    let r : Bool = eqb marks n in
+    let s : Bool = eqb address 16 in
+    let t : Bool = leb 14 buffer in
+    let f = and-right p (q && (r && (s && t))) e in
+    let g = and-right q (r && (s && t)) f in
+    let h = and-right r (s && t) g in
+    record {
+      zero-whole = eqb-true bank0 (n * sectorSize) (and-left p (q && (r && (s && t))) e);
+      one-whole = eqb-true bank1 (n * sectorSize) (and-left q (r && (s && t)) f);
+      marked = eqb-true marks n (and-left r (s && t) g);
+      addressed = eqb-true address 16 (and-left s t h);
+    }
+
+-- ---- worn sectors
+
+module _ (marks : List ℕ) (i : ℕ) where
+  pub worn-here : i < length marks → (getD marks i 0 ≡ 0 → ⊥) → anyWorn (drop i marks) ≡ true
+  unfolding anyWorn
+  worn-here h n = rw (drop-cons marks i 0 h) (simp (ne-eqb _ _ n))
+
+  pub worn-later : i < length marks → getD marks i 0 ≡ 0 → anyWorn (drop i marks) ≡ anyWorn (drop (i + 1) marks)
+  unfolding anyWorn
+  worn-later h e = let s : i + 1 ≡ suc i = omega arith in rw (s, drop-cons marks i 0 h) (simp (eq-eqb _ _ e))
+
+  pub worn-none : length marks ≤ i → anyWorn (drop i marks) ≡ false
+  unfolding anyWorn
+  worn-none h = rw (drop-of-length-le marks {i = i} h)
+
+pub end-worn : (marks : List ℕ) (r : Bool) → r ≡ anyWorn marks → r ≡ true → Wear ≡ planEnd marks
+unfolding planEnd
+end-worn marks r is e = rw (← is, e)
+
+pub end-whole : (marks : List ℕ) (r : Bool) → r ≡ anyWorn marks → r ≡ false → Finish ≡ planEnd marks
+unfolding planEnd
+end-whole marks r is e = rw (← is, e)
+
+-- ---- a packet
+
+module _ (n sector m : ℕ) where
+  pub values-zero : sector < 1 → false ≡ valuesGood n sector m
+  unfolding valuesGood
+  values-zero a = simp (lt-leb _ _ a)
+
+  module _ (a : 1 ≤ sector) where
+    pub values-above : n < sector → false ≡ valuesGood n sector m
+    unfolding valuesGood
+    values-above b = simp (le-leb _ _ a, lt-leb _ _ b)
+
+    module _ (b : sector ≤ n) where
+      pub values-empty : m < 1 → false ≡ valuesGood n sector m
+      unfolding valuesGood
+      values-empty d = simp (le-leb _ _ a, le-leb _ _ b, lt-leb _ _ d)
+
+      pub values-long : 1 ≤ m → sectorSize < m → false ≡ valuesGood n sector m
+      unfolding valuesGood
+      values-long d e = simp (le-leb _ _ a, le-leb _ _ b, le-leb _ _ d, lt-leb _ _ e)
+
+      pub values-words : 1 ≤ m → m ≤ sectorSize → eqb (m % 4) 0 ≡ valuesGood n sector m
+      unfolding valuesGood
+      values-words d e = simp (le-leb _ _ a, le-leb _ _ b, le-leb _ _ d, le-leb _ _ e)
+
+  -- what good values tell of the sector
+  pub values-low : valuesGood n sector m ≡ true → 1 ≤ sector
+  unfolding valuesGood
+  values-low e = leb-true 1 sector (and-left (leb 1 sector) (leb sector n && (leb 1 m && (leb m sectorSize && eqb (m % 4) 0))) e)
+
+  pub values-high : valuesGood n sector m ≡ true → sector ≤ n
+  unfolding valuesGood
+  values-high e =
+      leb-true sector n
+      (and-left (leb sector n) (leb 1 m && (leb m sectorSize && eqb (m % 4) 0))
+      (and-right (leb 1 sector) (leb sector n && (leb 1 m && (leb m sectorSize && eqb (m % 4) 0))) e))
+
+  module _ (marks : List ℕ) where
+    pub packet-bad : (a : Answer) → a ≡ declinedOf (Packet sector m) 0x05 → valuesGood n sector m ≡ false → Keep a ≡ planPacket n marks sector m
+    unfolding planPacket
+    packet-bad a is g = rw (is, g)
+
+    pub packet-worn : valuesGood n sector m ≡ true → (getD marks (sector - 1) 0 ≡ 0 → ⊥) → Keep (Written sector 0x06 0x1C 0) ≡ planPacket n marks sector m
+    unfolding planPacket
+    packet-worn g w = simp (g, ne-eqb _ _ w)
+
+    pub packet-good : valuesGood n sector m ≡ true → getD marks (sector - 1) 0 ≡ 0 → Store sector m ≡ planPacket n marks sector m
+    unfolding planPacket
+    packet-good g w = simp (g, eq-eqb _ _ w)
+
+-- ---- the addresses
+
+module _ (n : ℕ) (running : Bank) (datagram : List ℕ) (target : Bank) (is : target ≡ otherOf running) (a s : ℕ) (first : a ≡ numberAt 4 datagram 3) (begin : s ≡ startOf target) where
+  pub start-first : (w : Answer) → w ≡ declinedOf WriteStart 0x05 → (a ≡ s → ⊥) → Keep w ≡ planStart n running datagram
+  unfolding planStart addressesGood
+  start-first w v e = rw (v, ← is, ← first, ← begin) (simp (ne-eqb _ _ e))
+
+  module _ (b e : ℕ) (second : b ≡ numberAt 4 datagram 7) (end : e ≡ endOf target n) (p : a ≡ s) where
+    pub start-second : (w : Answer) → w ≡ declinedOf WriteStart 0x05 → (b ≡ e → ⊥) → Keep w ≡ planStart n running datagram
+    unfolding planStart addressesGood
+    start-second w v q = rw (v, ← is, ← first, ← begin, ← second, ← end) (simp (eq-eqb _ _ p, ne-eqb _ _ q))
+
+    pub start-good : b ≡ e → Begin ≡ planStart n running datagram
+    unfolding planStart addressesGood
+    start-good q = rw (← is, ← first, ← begin, ← second, ← end) (simp (eq-eqb _ _ p, eq-eqb _ _ q))
+
+-- ---- a command
+
+module _ (s : Standing) (command : Command) (marks datagram : List ℕ) (r : Bool) (is : r ≡ fitsState (s .state) command) where
+  pub command-unfit : (a : Answer) → a ≡ declinedOf command 0x15 → not r ≡ true → Keep a ≡ planCommand s command marks datagram
+  unfolding planCommand
+  command-unfit a v e = rw (v, ← is, not-true r e)
+
+  pub command-fit : (p : Plan) → not r ≡ false → p ≡ planGood s command marks datagram → p ≡ planCommand s command marks datagram
+  unfolding planCommand
+  command-fit p e q = rw (← is, not-false r e) q
+
+-- ---- all of it
+
+module _ (s : Standing) (bank0 bank1 : ℕ) (marks : List ℕ) (address buffer : ℕ) (datagram : List ℕ) where
+  pub plan-3 : goodN (s .n) ≡ false → Keep (Refused BadN) ≡ planOf s bank0 bank1 marks address buffer datagram
+  unfolding planOf
+  plan-3 g = simp g
+
+  module _ (g : goodN (s .n) ≡ true) where
+    pub plan-2 : lentGood (s .n) bank0 bank1 (length marks) address buffer ≡ false → Keep (Refused BadLength) ≡ planOf s bank0 bank1 marks address buffer datagram
+    unfolding planOf
+    plan-2 l = simp (g, l)
+
+    pub plan-1 : lentGood (s .n) bank0 bank1 (length marks) address buffer ≡ true → isClosed (s .state) ≡ true → Keep (Refused Closed) ≡ planOf s bank0 bank1 marks address buffer datagram
+    unfolding planOf
+    plan-1 l e = simp (g, l, e)
+
+    pub plan-rest : lentGood (s .n) bank0 bank1 (length marks) address buffer ≡ true → isClosed (s .state) ≡ false
+        → (asked : Asked) → asked ≡ askedOf datagram → planAsked s asked marks datagram ≡ planOf s bank0 bank1 marks address buffer datagram
+    unfolding planOf
+    plan-rest l e asked is = simp (g, l, e) (ap (λ (x : Asked). planAsked s x marks datagram) is)
