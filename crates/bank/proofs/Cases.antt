@@ -10,12 +10,13 @@ use borrow.Author.Tests.{lt-ltb, le-ltb}
 use Rattle.bank.specs.declared.table.Entry.{Entry}
 use Rattle.bank.specs.declared.check.Verdict.{Verdict}
 use Rattle.bank.specs.declared.check.Verdict.the-variants.{Refused, Sound, Unsound}
-use Rattle.bank.specs.Said.{number, result, verdictSaid}
+use Rattle.layout.specs.Said.{number, result}
+use Rattle.bank.specs.Said.{verdictSaid}
 use Rattle.bank.specs.Table.{countOf, entryAt}
-use Rattle.bank.specs.Layout.{sectorSize, wholeLength}
+use Rattle.layout.specs.Layout.{sectorSize, wholeLength}
 use Rattle.bank.specs.Sound.{headerGood, tableGood, listedGood, soundOf, verdictOf, stretchBytes, bodyOf}
 use Rattle.buffer.proofs.Bools.{and-false}
-use Rattle.bank.proofs.Layouts.{whole-good, good-low}
+use Rattle.layout.proofs.Layouts.{whole-good, good-low}
 use Rattle.bank.proofs.Tables.{Parts, parts}
 
 -- a bank has at least one sector

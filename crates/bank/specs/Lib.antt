@@ -1,4 +1,3 @@
-pub mod Layout
 pub mod Meaning
 pub mod Said
 pub mod Sound

@@ -11,7 +11,7 @@ use Rattle.crc.specs.Crc.{crcOf}
 use Rattle.bank.specs.declared.check.Verdict.{Verdict}
 use Rattle.bank.specs.declared.check.Verdict.the-variants.{Refused, Sound, Unsound}
 use Rattle.bank.specs.declared.table.Entry.{Entry}
-use Rattle.bank.specs.Layout.{wholeLength}
+use Rattle.layout.specs.Layout.{wholeLength}
 use Rattle.bank.specs.Stretch.{laidOut, part, blankOutside}
 use Rattle.bank.specs.Table.{idOf, editionOf, countOf, crcPlace, tableEnd, entryAt, entriesOf, stretchesOf}
 

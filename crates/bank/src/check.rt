@@ -12,7 +12,7 @@ pub enum Verdict {
 pub fn check(bank: &[u8]) -> Verdict
     ensures { λ r. ⌜ Check·Is (now (bank .entry)) r ⌝ }
 {
-    let crate::layout::Counted::Sectors(_) = crate::layout::sectors(bank.len()) else {
+    let layout::Counted::Sectors(_) = layout::sectors(bank.len()) else {
         return Verdict::Refused;
     };
     let n = crate::table::listed(bank);

@@ -2,5 +2,4 @@
 mod bodies;
 pub mod body;
 pub mod check;
-pub mod layout;
 mod table;

@@ -3,7 +3,8 @@
 use Prim.Native.Nat.{ℕ}
 use mathlib.Core.Path.{_≡_}
 use mathlib.Core.List.{List}
-use Rattle.bank.specs.Said.{Said, number, result, value, verdictSaid}
+use Rattle.layout.specs.Said.{Said, number, result, value}
+use Rattle.bank.specs.Said.{verdictSaid}
 use Rattle.bank.specs.Sound.{verdictOf}
 
 abbrev pub code : Said → ℕ

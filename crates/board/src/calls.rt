@@ -3,10 +3,10 @@ use crate::send;
 use crate::state;
 use crate::state::Board;
 use crate::word::Call;
-use bank::layout::Bank;
 use client::host::Hosted;
 use client::host::Told;
 use client::record::Client;
+use layout::Bank;
 use script::say;
 use script::text;
 

@@ -7,8 +7,8 @@ mod shows;
 mod state;
 mod word;
 
-use bank::layout::Bank;
 use client::record::Client;
+use layout::Bank;
 use script::line;
 use script::line::Found;
 use script::line::Turn;

@@ -2,11 +2,11 @@
 use crate::state;
 use crate::state::Board;
 use crate::word::Show;
-use bank::layout::Bank;
-use bank::layout::MOST;
 use client::record::Client;
 use client::record::Latest;
 use exchange::state::State;
+use layout::Bank;
+use layout::MOST;
 use script::say;
 use script::text;
 
@@ -49,7 +49,7 @@ fn say_latest(latest: Latest) {
 }
 
 fn say_bank(bank: Bank) {
-    say::field(bank::layout::bank_number(bank) as usize);
+    say::field(layout::bank_number(bank) as usize);
 }
 
 fn say_version(major: u8, minor: u8, revision: u32) {

@@ -1,8 +1,8 @@
 // The board between two lines of its script. The rooms of its banks are large, so they are lent beside it.
 ghost use Prim.Native.Nat.{_≤_};
-use bank::layout::MOST;
-use bank::layout::SECTOR;
 use client::record::Client;
+use layout::MOST;
+use layout::SECTOR;
 
 // Room for a bank: two sectors more than the largest has.
 pub const BANK_ROOM: usize = 252_416;

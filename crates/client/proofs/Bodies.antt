@@ -7,8 +7,8 @@ use Prim.Native.Nat.{ℕ, _*_}
 use lib.Dec.{eqb}
 use lib.ListN.{length}
 use borrow.Author.Tests.{eq-eqb, ne-eqb}
-use Rattle.bank.specs.declared.layout.Bank.the-variants.{Zero, One}
-use Rattle.bank.specs.Layout.{sectorSize, goodN}
+use Rattle.layout.specs.declared.Bank.the-variants.{Zero, One}
+use Rattle.layout.specs.Layout.{sectorSize, goodN}
 use Rattle.bank.specs.Sound.{bodyOf}
 use Rattle.client.specs.declared.record.Client.{Client}
 use Rattle.client.specs.Body.{banksGood, nextBody}

@@ -18,9 +18,9 @@ use Rattle.flash.specs.Bank.{writtenAt, alreadyAt, sweptOf}
 use Rattle.flash.specs.Sector.{paddedOf}
 use Rattle.flash.proofs.Sweeps.{length-sweep}
 use Rattle.flash.proofs.Writes.{FitsAt, length-written, written-here}
-use Rattle.bank.specs.declared.layout.Bank.{Bank}
-use Rattle.bank.specs.declared.layout.Bank.the-variants.{Zero, One}
-use Rattle.bank.specs.Layout.{sectorSize, goodN}
+use Rattle.layout.specs.declared.Bank.{Bank}
+use Rattle.layout.specs.declared.Bank.the-variants.{Zero, One}
+use Rattle.layout.specs.Layout.{sectorSize, goodN}
 use Rattle.exchange.specs.declared.answer.Answer.{Answer}
 use Rattle.exchange.specs.declared.answer.Answer.the-variants.{Response, Written}
 use Rattle.decision.specs.declared.plan.Plan.{Plan}

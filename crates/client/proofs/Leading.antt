@@ -15,7 +15,7 @@ use Rattle.frame.specs.declared.read.Footer.{Footer}
 use Rattle.frame.specs.declared.read.Read.{Read}
 use Rattle.frame.specs.declared.read.Read.the-variants as read
 use Rattle.frame.proofs.Told.{Told, told}
-use Rattle.bank.specs.Layout.{sectorSize, goodN}
+use Rattle.layout.specs.Layout.{sectorSize, goodN}
 use Rattle.exchange.specs.declared.answer.Answer.{Answer}
 use Rattle.exchange.specs.declared.answer.Answer.the-variants.{Refused, FrameError, Response, BankIs, VersionIs, Written}
 use Rattle.exchange.specs.declared.command.Asked.{Asked}

@@ -9,10 +9,9 @@ use Rattle.buffer.specs.Compare.{blankOf}
 use Rattle.buffer.proofs.Parts.{part-out}
 use Rattle.crc.specs.Crc.{crcOf}
 use Rattle.flash.specs.Bank.{sectorStart, WriteAt·Is}
-use Rattle.flash.specs.Sector.{sectorBytes}
 use Rattle.flash.proofs.Sectors.{lent-out}
-use Rattle.bank.specs.declared.layout.Bank.{Bank}
-use Rattle.bank.specs.Layout.{otherOf}
+use Rattle.layout.specs.declared.Bank.{Bank}
+use Rattle.layout.specs.Layout.{otherOf, sectorSize}
 use Rattle.exchange.specs.declared.answer.Answer.the-variants.{Response, Written}
 use Rattle.client.specs.declared.perform.Served.{Served}
 use Rattle.client.specs.declared.record.Client.{Client}
@@ -21,7 +20,7 @@ use Rattle.client.specs.Record.{marked, ended}
 use Rattle.client.specs.Perform.{fitOf, storeResult, sectorCrc, done, storeOf, checkedOf, served, Served·Is}
 
 -- the part that is handed on is the sector
-pub crc-part : (bank : List ℕ) (k start r : ℕ) → start ≡ sectorStart k → r ≡ crcOf (take ((start + sectorBytes) - start) (drop start bank)) → r ≡ sectorCrc bank k
+pub crc-part : (bank : List ℕ) (k start r : ℕ) → start ≡ sectorStart k → r ≡ crcOf (take ((start + sectorSize) - start) (drop start bank)) → r ≡ sectorCrc bank k
 crc-part bank k start r e c = c ∙ ap crcOf (lent-out bank k start e)
 
 -- the part that is handed on is the bytes sent

@@ -14,10 +14,10 @@ use Rattle.frame.specs.Read.{readOf}
 use Rattle.frame.specs.declared.read.Read.{Read}
 use Rattle.frame.specs.declared.read.Read.the-variants as read
 use Rattle.frame.proofs.Told.{Told, told}
-use Rattle.bank.specs.declared.layout.Bank.{Bank}
-use Rattle.bank.specs.declared.layout.Bank.the-variants.{Zero, One}
-use Rattle.bank.specs.Layout.{sectorSize, goodN}
-use Rattle.bank.proofs.Layouts.{good-high}
+use Rattle.layout.specs.declared.Bank.{Bank}
+use Rattle.layout.specs.declared.Bank.the-variants.{Zero, One}
+use Rattle.layout.specs.Layout.{sectorSize, goodN}
+use Rattle.layout.proofs.Layouts.{good-high}
 use Rattle.exchange.specs.declared.answer.Answer.{Answer}
 use Rattle.client.specs.declared.notice.Notice.{Notice}
 use Rattle.exchange.specs.declared.command.Asked.{Asked}

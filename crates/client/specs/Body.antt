@@ -6,9 +6,9 @@ use mathlib.Core.List.{List, []}
 use Prim.Native.Nat.{ℕ, _*_}
 use lib.Dec.{eqb}
 use lib.ListN.{length}
-use Rattle.bank.specs.declared.layout.Bank.{Bank}
-use Rattle.bank.specs.declared.layout.Bank.the-variants.{Zero, One}
-use Rattle.bank.specs.Layout.{sectorSize, goodN}
+use Rattle.layout.specs.declared.Bank.{Bank}
+use Rattle.layout.specs.declared.Bank.the-variants.{Zero, One}
+use Rattle.layout.specs.Layout.{sectorSize, goodN}
 use Rattle.bank.specs.Sound.{bodyOf}
 use Rattle.client.specs.declared.record.Client.{Client}
 

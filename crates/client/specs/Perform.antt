@@ -11,7 +11,7 @@ use Rattle.frame.specs.Read.{bytesIn}
 use Rattle.flash.specs.Bank.{sectorOf, writtenAt, alreadyAt, sweptOf}
 use Rattle.bank.specs.declared.check.Verdict.{Verdict}
 use Rattle.bank.specs.declared.check.Verdict.the-variants as verdict
-use Rattle.bank.specs.Layout.{sectorSize, mostSectors, otherOf}
+use Rattle.layout.specs.Layout.{sectorSize, mostSectors, otherOf}
 use Rattle.bank.specs.Sound.{verdictOf}
 use Rattle.exchange.specs.declared.answer.Answer.{Answer}
 use Rattle.exchange.specs.declared.answer.Answer.the-variants.{Response, Written}

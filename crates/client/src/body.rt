@@ -1,19 +1,19 @@
 // The bodies of the bank that starts next.
 use crate::record::Client;
-use bank::layout::Bank;
+use layout::Bank;
 ghost use mathlib.Core.Path.{_≡_};
 ghost use Rattle.client.specs.Body.{banksGood, Body·Is};
 
 fn banks_good(n: usize, bank0: usize, bank1: usize) -> bool
     ensures { λ r. ⌜ r ≡ banksGood n bank0 bank1 ⌝ }
 {
-    if !bank::layout::good_n(n) {
+    if !layout::good_n(n) {
         return false;
     }
-    if bank0 != n * bank::layout::SECTOR {
+    if bank0 != n * layout::SECTOR {
         return false;
     }
-    bank1 == n * bank::layout::SECTOR
+    bank1 == n * layout::SECTOR
 }
 
 impl Client {

@@ -1,8 +1,8 @@
 // What the host asks: a new client, initiate, terminate.
 use crate::record::Client;
 use crate::record::Latest;
-use bank::layout::Bank;
 use exchange::state::State;
+use layout::Bank;
 ghost use mathlib.Core.Path.{_≡_};
 ghost use Rattle.client.specs.Host.{hosted, New·Is, Initiate·Is, Terminate·Is};
 
@@ -42,7 +42,7 @@ impl Client {
             revision,
             received,
         };
-        if bank::layout::good_n(n) {
+        if layout::good_n(n) {
             return client.hosted(Told::Done);
         }
         client.hosted(Told::BadN)
@@ -52,7 +52,7 @@ impl Client {
         ensures { λ r. ⌜ Initiate·Is self r ⌝ }
     {
         let state = self.state;
-        if !bank::layout::good_n(self.n) {
+        if !layout::good_n(self.n) {
             return self.hosted(Told::BadN);
         }
         if !exchange::state::is_closed(state) {
@@ -65,7 +65,7 @@ impl Client {
         ensures { λ r. ⌜ Terminate·Is self r ⌝ }
     {
         let state = self.state;
-        if !bank::layout::good_n(self.n) {
+        if !layout::good_n(self.n) {
             return self.hosted(Told::BadN);
         }
         if exchange::state::is_closed(state) {

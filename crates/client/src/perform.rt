@@ -8,7 +8,7 @@ use exchange::state::State;
 ghost use mathlib.Core.Path.{_≡_};
 ghost use Prim.Native.Nat.{_*_, _≤_};
 ghost use lib.ListN.{length};
-ghost use Rattle.bank.specs.Layout.{sectorSize, mostSectors};
+ghost use Rattle.layout.specs.Layout.{sectorSize, mostSectors};
 ghost use Rattle.client.specs.Perform.{fitOf, storeResult, sectorCrc, storeOf, checkedOf, finishOf, servedOf, served, Served·Is, Fair};
 ghost use Rattle.exchange.specs.declared.answer.Answer.the-variants.{Response};
 
@@ -47,8 +47,8 @@ fn sector_crc(bank: &[u8], k: usize) -> u32
     requires { ⌜ k * sectorSize ≤ length (now bank) ⌝ }
     ensures { λ r. ⌜ r ≡ sectorCrc (now (bank .entry)) k ⌝ }
 {
-    let from = (k - 1) * bank::layout::SECTOR;
-    crc::crc32(&bank[from..from + bank::layout::SECTOR])
+    let from = (k - 1) * layout::SECTOR;
+    crc::crc32(&bank[from..from + layout::SECTOR])
 }
 
 impl Client {
@@ -92,7 +92,7 @@ impl Client {
         let running = self.running;
         let next = self.next;
         if fit(target) {
-            return self.ended(Latest::Good, bank::layout::other(running))
+            return self.ended(Latest::Good, layout::other(running))
                 .responds(0x75, 0x06);
         }
         self.ended(Latest::Otherwise, next).responds(0x75, 0x1E)

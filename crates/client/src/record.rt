@@ -1,11 +1,11 @@
 // The client's record, and every way in which it changes.
-use bank::layout::Bank;
-use bank::layout::MOST;
 use decision::plan::Standing;
 use exchange::state::State;
+use layout::Bank;
+use layout::MOST;
 ghost use mathlib.Core.Path.{_≡_};
 ghost use Prim.Native.Nat.{_≤_};
-ghost use Rattle.bank.specs.Layout.{mostSectors};
+ghost use Rattle.layout.specs.Layout.{mostSectors};
 ghost use Rattle.client.specs.Record.{standingOf, noneReceived, initiated, opened, left, begun, marked, ended};
 
 // How the latest write session since Start OTA Mode ended.

@@ -5,7 +5,7 @@ use mathlib.Core.Path.{_≡_}
 use mathlib.Core.List.{List}
 use lib.ListN.{length, take, drop}
 use Rattle.buffer.specs.Number.{numberAt}
-use Rattle.bank.specs.declared.layout.Bank.the-variants.{Zero}
+use Rattle.layout.specs.declared.Bank.the-variants.{Zero}
 use Rattle.client.specs.declared.record.Client.{Client}
 use Rattle.client.specs.Host.{newOf, initiateOf}
 use Rattle.client.specs.Step.{stepOf, zeroOf, oneOf}

@@ -1,6 +1,6 @@
 // The client for C: what bench/ measures. The library itself exports nothing.
-use bank::layout::Bank;
 use client::record::Client;
+use layout::Bank;
 ghost use mathlib.Core.Path.{_≡_};
 ghost use Prim.Native.Nat.{_<_};
 ghost use Rattle.client_c.specs.Take.{sizeAt, Take·Is};

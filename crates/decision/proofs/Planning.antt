@@ -11,8 +11,8 @@ use lib.Seq.{drop-cons}
 use borrow.Author.Tests.{eq-eqb, ne-eqb, le-leb, lt-leb, leb-true, eqb-true, not-true, not-false}
 use Rattle.buffer.specs.Number.{numberAt}
 use Rattle.buffer.proofs.Bools.{and-left, and-right}
-use Rattle.bank.specs.declared.layout.Bank.{Bank}
-use Rattle.bank.specs.Layout.{sectorSize, goodN, otherOf, startOf, endOf}
+use Rattle.layout.specs.declared.Bank.{Bank}
+use Rattle.layout.specs.Layout.{sectorSize, goodN, otherOf, startOf, endOf}
 use Rattle.exchange.specs.declared.answer.Answer.{Answer}
 use Rattle.exchange.specs.declared.answer.Answer.the-variants.{Refused, Written}
 use Rattle.exchange.specs.declared.answer.Refusal.the-variants.{BadN, BadLength, Closed}

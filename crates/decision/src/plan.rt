@@ -1,14 +1,14 @@
 // Decide: what a datagram leads to. The bytes of a bank are never looked at here, only its length.
-use bank::layout::Bank;
 use exchange::answer::Answer;
 use exchange::answer::Refusal;
 use exchange::command::Asked;
 use exchange::command::Command;
 use exchange::state::State;
+use layout::Bank;
 ghost use mathlib.Core.Path.{_≡_};
 ghost use Prim.Native.Nat.{_≤_};
 ghost use lib.ListN.{length};
-ghost use Rattle.bank.specs.Layout.{mostSectors};
+ghost use Rattle.layout.specs.Layout.{mostSectors};
 ghost use Rattle.decision.specs.Plan.{lentGood, anyWorn, valuesGood, planStart, planEnd, planPacket, planCommand, planAsked, Plan·Is};
 
 // What of a client's record the deciding looks at.
@@ -54,10 +54,10 @@ fn lent_good(
     requires { ⌜ n ≤ mostSectors ⌝ }
     ensures { λ r. ⌜ r ≡ lentGood n bank0 bank1 marks address buffer ⌝ }
 {
-    if bank0 != n * bank::layout::SECTOR {
+    if bank0 != n * layout::SECTOR {
         return false;
     }
-    if bank1 != n * bank::layout::SECTOR {
+    if bank1 != n * layout::SECTOR {
         return false;
     }
     if marks != n {
@@ -97,7 +97,7 @@ fn values_good(n: usize, sector: u16, m: usize) -> bool
     if m < 1 {
         return false;
     }
-    if bank::layout::SECTOR < m {
+    if layout::SECTOR < m {
         return false;
     }
     m % 4 == 0
@@ -136,11 +136,11 @@ fn plan_end(marks: &[u8]) -> Plan
 fn plan_start(n: usize, running: Bank, datagram: &[u8]) -> Plan
     ensures { λ r. ⌜ r ≡ planStart n running (now (datagram .entry)) ⌝ }
 {
-    let target = bank::layout::other(running);
-    if buffer::number::number4(datagram, 3) != bank::layout::start_address(target) {
+    let target = layout::other(running);
+    if buffer::number::number4(datagram, 3) != layout::start_address(target) {
         return Plan::Keep(exchange::command::declined(Command::WriteStart, 0x05));
     }
-    if buffer::number::number4(datagram, 7) != bank::layout::end_address(target, n) {
+    if buffer::number::number4(datagram, 7) != layout::end_address(target, n) {
         return Plan::Keep(exchange::command::declined(Command::WriteStart, 0x05));
     }
     Plan::Begin
@@ -159,7 +159,7 @@ impl Standing {
         }
         match command {
             Command::ModeStart => Plan::Open,
-            Command::BankInfo => Plan::Keep(Answer::BankIs(bank::layout::other(running))),
+            Command::BankInfo => Plan::Keep(Answer::BankIs(layout::other(running))),
             Command::VersionInfo => Plan::Keep(Answer::VersionIs {
                 major: self.major,
                 minor: self.minor,
@@ -200,7 +200,7 @@ impl Standing {
         ensures { λ r. ⌜ Plan·Is self bank0 bank1 (now (marks .entry)) address buffer (now (datagram .entry)) r ⌝ }
     {
         let state = self.state;
-        if !bank::layout::good_n(self.n) {
+        if !layout::good_n(self.n) {
             return Plan::Keep(Answer::Refused(Refusal::BadN));
         }
         if !lent_good(self.n, bank0, bank1, marks.len(), address, buffer) {

@@ -11,7 +11,7 @@ use Rattle.buffer.proofs.Bools.{split, and-left}
 use Rattle.crc.specs.Crc.{crcOf}
 use Rattle.frame.specs.Read.{readOf, bytesIn}
 use Rattle.flash.specs.Sector.{paddedOf}
-use Rattle.bank.proofs.Layouts.{good-high}
+use Rattle.layout.proofs.Layouts.{good-high}
 use Rattle.exchange.specs.declared.answer.Answer.{Answer}
 use Rattle.client.specs.declared.record.Client.{Client}
 use Rattle.exchange.specs.Answer.{answerBytes}

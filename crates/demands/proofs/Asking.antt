@@ -15,9 +15,9 @@ use Rattle.frame.specs.Read.{readOf}
 use Rattle.frame.specs.declared.read.Read.the-variants.{Control}
 use Rattle.frame.proofs.RoundTrip.{control-back, control-parameters}
 use Rattle.frame.proofs.Writing.{length-control}
-use Rattle.bank.specs.declared.layout.Bank.{Bank}
-use Rattle.bank.specs.Layout.{goodN, otherOf, startOf, endOf}
-use Rattle.bank.proofs.Layouts.{start-small, good-low, good-high, end-good}
+use Rattle.layout.specs.declared.Bank.{Bank}
+use Rattle.layout.specs.Layout.{goodN, otherOf, startOf, endOf}
+use Rattle.layout.proofs.Layouts.{start-small, good-low, good-high, end-good}
 use Rattle.sender.specs.declared.request.Request.{Request}
 use Rattle.sender.specs.declared.request.Request.the-variants.{WriteStart}
 use Rattle.sender.specs.Request.{codeOf, asksFor, requestFrame}

@@ -9,9 +9,9 @@ use lib.Dec.{eqb, ltb}
 use lib.ListN.{length}
 use borrow.Author.Tests.{eqb-true, eq-eqb, lt-ltb, le-ltb}
 use Rattle.buffer.proofs.Bools.{and-left, and-right, and-false, split}
-use Rattle.bank.specs.declared.layout.Bank.{Bank}
-use Rattle.bank.specs.declared.layout.Bank.the-variants.{Zero, One}
-use Rattle.bank.specs.Layout.{sectorSize, goodN, wholeLength}
+use Rattle.layout.specs.declared.Bank.{Bank}
+use Rattle.layout.specs.declared.Bank.the-variants.{Zero, One}
+use Rattle.layout.specs.Layout.{sectorSize, goodN, wholeLength}
 use Rattle.bank.specs.Meaning.{Kept}
 use Rattle.bank.specs.Sound.{soundOf, stretchBytes, verdictOf, bodyOf}
 use Rattle.bank.specs.Table.{countOf, entryAt}

@@ -10,7 +10,7 @@ use borrow.Author.Tests.{eq-eqb, ne-eqb}
 use Rattle.buffer.specs.Compare.{blankOf}
 use Rattle.flash.specs.Bank.{blankSector}
 use Rattle.flash.proofs.Blanks.{blank-whole}
-use Rattle.bank.specs.Layout.{sectorSize, goodN}
+use Rattle.layout.specs.Layout.{sectorSize, goodN}
 use Rattle.sender.specs.Packet.{sectorOf, sentOf, packetCount, tallyOf}
 use Rattle.sender.proofs.Packets.{sent-blank, sent-more, sector-length}
 use Rattle.demands.specs.Counting.{Used, none-used, blank-one, used-one, MeetsCounter}

@@ -20,9 +20,9 @@ use Rattle.frame.specs.declared.read.Read.the-variants.{Fault, Control, Write}
 use Rattle.flash.specs.Bank.{sectorOf, withSector}
 use Rattle.flash.specs.Sector.{paddedOf}
 use Rattle.flash.proofs.Writes.{FitsAt, written-here, already-same}
-use Rattle.bank.specs.declared.layout.Bank.{Bank}
-use Rattle.bank.specs.declared.layout.Bank.the-variants.{Zero, One}
-use Rattle.bank.specs.Layout.{sectorSize, goodN, otherOf}
+use Rattle.layout.specs.declared.Bank.{Bank}
+use Rattle.layout.specs.declared.Bank.the-variants.{Zero, One}
+use Rattle.layout.specs.Layout.{sectorSize, goodN, otherOf}
 use Rattle.exchange.specs.declared.answer.Answer.{Answer}
 use Rattle.exchange.specs.declared.answer.Answer.the-variants.{Refused, FrameError, Response, BankIs, VersionIs, Written}
 use Rattle.client.specs.declared.notice.Notice.{Notice}

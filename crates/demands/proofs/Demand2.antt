@@ -24,10 +24,10 @@ use Rattle.flash.specs.Sector.{paddedOf}
 use Rattle.flash.proofs.Blanks.{blank-whole, sector-blanks}
 use Rattle.flash.proofs.Sectors.{Has, ext-sector, with-here, with-other}
 use Rattle.flash.proofs.Sweeps.{length-sweep}
-use Rattle.bank.specs.declared.layout.Bank.{Bank}
-use Rattle.bank.specs.declared.layout.Bank.the-variants.{Zero, One}
-use Rattle.bank.specs.Layout.{sectorSize, goodN, otherOf}
-use Rattle.bank.proofs.Layouts.{good-below, offset-good}
+use Rattle.layout.specs.declared.Bank.{Bank}
+use Rattle.layout.specs.declared.Bank.the-variants.{Zero, One}
+use Rattle.layout.specs.Layout.{sectorSize, goodN, otherOf}
+use Rattle.layout.proofs.Layouts.{good-below, offset-good}
 use Rattle.sender.specs.declared.request.Request.the-variants.{WriteStart, WriteEnd}
 use Rattle.sender.specs.Packet.{packetCount, packetSector, footerOf, packetFrame}
 use Rattle.sender.specs.Packet.{sectorOf as imageSector}

@@ -23,9 +23,9 @@ use Rattle.flash.specs.Sector.{paddedOf}
 use Rattle.flash.proofs.Sectors.{length-with, with-here}
 use Rattle.flash.proofs.Words.{length-padded}
 use Rattle.flash.proofs.Writes.{FitsAt}
-use Rattle.bank.specs.declared.layout.Bank.{Bank}
-use Rattle.bank.specs.declared.layout.Bank.the-variants.{Zero, One}
-use Rattle.bank.specs.Layout.{sectorSize, goodN, endOf}
+use Rattle.layout.specs.declared.Bank.{Bank}
+use Rattle.layout.specs.declared.Bank.the-variants.{Zero, One}
+use Rattle.layout.specs.Layout.{sectorSize, goodN, endOf}
 use Rattle.hex.specs.declared.fault.Kind.the-variants.{H6}
 use Rattle.hex.specs.declared.read.Answer.the-variants.{Refused, Accepted}
 use Rattle.hex.specs.Digit.{digitOf, isDigit, byteOf}

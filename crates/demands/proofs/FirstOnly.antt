@@ -14,8 +14,8 @@ use Rattle.crc.specs.Crc.{feed, crcBit, crcBits, crcByte, crcMore, crcOf}
 use Rattle.frame.specs.Read.{readOf}
 use Rattle.frame.specs.declared.read.Read.the-variants.{Write}
 use Rattle.frame.specs.declared.read.Footer.the-variants.{End, Continued}
-use Rattle.bank.specs.declared.layout.Bank.the-variants.{One}
-use Rattle.bank.specs.Layout.{goodN, wholeLength, sectorOffset}
+use Rattle.layout.specs.declared.Bank.the-variants.{One}
+use Rattle.layout.specs.Layout.{goodN, wholeLength, sectorOffset}
 use Rattle.bank.specs.Sound.{headerGood, tableGood, laidOutGood, bodyGood, allGood, bodiesGood, blankGood, listedGood, soundOf, verdictOf}
 use Rattle.bank.specs.Stretch.{fitsAt, laidOut, blankOutside}
 use Rattle.bank.specs.Table.{entryAt, entriesFrom, restOf, stretchesOf}

@@ -6,8 +6,8 @@ use Prim.Native.Nat.{ℕ, _*_}
 use Rattle.frame.specs.Checksum.{checksumOf}
 use Rattle.frame.specs.Frame.{framed, controlFrame}
 use Rattle.frame.specs.Read.{readOf}
-use Rattle.bank.specs.declared.layout.Bank.{Bank}
-use Rattle.bank.specs.Layout.{sectorSize, goodN}
+use Rattle.layout.specs.declared.Bank.{Bank}
+use Rattle.layout.specs.Layout.{sectorSize, goodN}
 use Rattle.sender.specs.declared.request.Request.the-variants.{ModeStart, ModeEnd}
 use Rattle.sender.specs.Request.{requestFrame}
 use Rattle.client.specs.declared.notice.Kind.the-variants.{Started, Ended}

@@ -27,8 +27,8 @@ use Rattle.frame.proofs.RoundTrip.{error-frame}
 use Rattle.frame.proofs.Told.{Told, told}
 use Rattle.flash.specs.Bank.{sectorOf}
 use Rattle.flash.specs.Sector.{paddedOf}
-use Rattle.bank.specs.declared.layout.Bank.{Bank}
-use Rattle.bank.specs.Layout.{goodN, bankNumber, otherOf}
+use Rattle.layout.specs.declared.Bank.{Bank}
+use Rattle.layout.specs.Layout.{goodN, bankNumber, otherOf}
 use Rattle.response.specs.declared.read.Coded.the-variants.{Answers}
 use Rattle.response.specs.declared.read.Kind.{Kind}
 use Rattle.response.specs.declared.read.Kind.the-variants.{ModeStart, BankInfo, Version, WriteStart, Packet, WriteEnd, ModeEnd, Error}

@@ -12,7 +12,7 @@ use Rattle.buffer.specs.Place.{frontOf}
 use Rattle.buffer.proofs.Numbers.{length-bytes}
 use Rattle.buffer.proofs.Places.{front-take, front-drop}
 use Rattle.frame.proofs.Writing.{length-control}
-use Rattle.bank.specs.Layout.{startOf, endOf}
+use Rattle.layout.specs.Layout.{startOf, endOf}
 use Rattle.sender.specs.declared.made.Made.{Made}
 use Rattle.sender.specs.declared.made.Made.the-variants.{Frame}
 use Rattle.sender.specs.declared.request.Request.{Request}

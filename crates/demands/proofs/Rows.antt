@@ -11,7 +11,7 @@ use Rattle.frame.specs.Read.{readOf}
 use Rattle.frame.specs.declared.read.Footer.{Footer}
 use Rattle.frame.specs.declared.read.Footer.the-variants.{End}
 use Rattle.frame.specs.declared.read.Read.the-variants.{Fault, Control, Write}
-use Rattle.bank.specs.Layout.{goodN, otherOf}
+use Rattle.layout.specs.Layout.{goodN, otherOf}
 use Rattle.client.specs.declared.notice.Kind.the-variants.{Started, Ended}
 use Rattle.client.specs.declared.record.Latest.the-variants.{Good, Otherwise}
 use Rattle.exchange.specs.declared.state.State.{State}

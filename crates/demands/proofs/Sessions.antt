@@ -20,8 +20,8 @@ use Rattle.flash.proofs.Sectors.{has, has-still, length-sector}
 use Rattle.flash.proofs.Sweeps.{length-sweep, swept-blank}
 use Rattle.flash.proofs.Words.{written-fits}
 use Rattle.flash.proofs.Writes.{FitsAt, length-written}
-use Rattle.bank.specs.Layout.{sectorSize, goodN}
-use Rattle.bank.proofs.Layouts.{good-high}
+use Rattle.layout.specs.Layout.{sectorSize, goodN}
+use Rattle.layout.proofs.Layouts.{good-high}
 use Rattle.exchange.specs.declared.answer.Answer.{Answer}
 use Rattle.client.specs.declared.host.Hosted.{Hosted}
 use Rattle.client.specs.declared.record.Client.{Client}

@@ -6,7 +6,7 @@ use Prim.Native.Nat.{ℕ}
 use native.Mathlib.Omega.{arith}
 use lib.ListN.{getD}
 use Rattle.buffer.specs.Number.{byteAt}
-use Rattle.bank.specs.declared.layout.Bank.the-variants.{One}
+use Rattle.layout.specs.declared.Bank.the-variants.{One}
 use Rattle.sender.specs.declared.request.Request.the-variants.{WriteStart, WriteEnd}
 use Rattle.sender.specs.Packet.{packetCount}
 use Rattle.sender.specs.Request.{requestFrame}

@@ -11,7 +11,7 @@ use Rattle.frame.specs.Read.{readOf, bytesIn}
 use Rattle.frame.specs.declared.read.Footer.{Footer}
 use Rattle.frame.specs.declared.read.Read.the-variants.{Write}
 use Rattle.frame.proofs.Told.{Told, told}
-use Rattle.bank.specs.Layout.{sectorSize, goodN}
+use Rattle.layout.specs.Layout.{sectorSize, goodN}
 use Rattle.client.specs.declared.record.Client.{Client}
 use Rattle.exchange.specs.declared.state.State.the-variants as state
 use Rattle.decision.specs.Plan.{valuesGood}

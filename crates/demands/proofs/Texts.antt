@@ -8,9 +8,9 @@ use Prim.Native.Nat.{ℕ, zero, suc, _*_}
 use native.Mathlib.Omega.{arith}
 use lib.ListN.{length, replicate, length-replicate}
 use borrow.Author.Tests.{eq-eqb, ne-eqb}
-use Rattle.bank.specs.declared.layout.Bank.{Bank}
-use Rattle.bank.specs.declared.layout.Bank.the-variants.{Zero}
-use Rattle.bank.specs.Layout.{sectorSize, goodN, startOf}
+use Rattle.layout.specs.declared.Bank.{Bank}
+use Rattle.layout.specs.declared.Bank.the-variants.{Zero}
+use Rattle.layout.specs.Layout.{sectorSize, goodN, startOf}
 use Rattle.hex.specs.declared.fault.Kind.the-variants.{H6}
 use Rattle.hex.specs.declared.fault.Refusal.{Refusal}
 use Rattle.hex.specs.declared.read.Answer.the-variants.{BadN, BadLength, Accepted}

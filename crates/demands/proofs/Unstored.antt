@@ -8,9 +8,9 @@ use native.Mathlib.Omega.{arith}
 use lib.ListN.{length, getD, take, replicate, length-replicate}
 use Rattle.frame.specs.Frame.{framed, controlFrame}
 use Rattle.frame.specs.declared.read.Read.the-variants.{Control}
-use Rattle.bank.specs.declared.layout.Bank.{Bank}
-use Rattle.bank.specs.declared.layout.Bank.the-variants.{Zero, One}
-use Rattle.bank.specs.Layout.{goodN}
+use Rattle.layout.specs.declared.Bank.{Bank}
+use Rattle.layout.specs.declared.Bank.the-variants.{Zero, One}
+use Rattle.layout.specs.Layout.{goodN}
 use Rattle.sender.specs.declared.request.Request.the-variants.{WriteStart, WriteEnd}
 use Rattle.sender.specs.Request.{requestFrame}
 use Rattle.client.specs.declared.record.Latest.the-variants.{Nothing}

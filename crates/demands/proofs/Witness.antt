@@ -9,8 +9,8 @@ use lib.ListN.{length, replicate, length-replicate}
 use Rattle.buffer.specs.Compare.{blankOf}
 use Rattle.buffer.specs.Number.{numberAt, numberOf}
 use Rattle.crc.specs.Crc.{feed, crcBit, crcBits, crcByte, crcMore, crcOf}
-use Rattle.bank.specs.declared.layout.Bank.the-variants.{Zero, One}
-use Rattle.bank.specs.Layout.{goodN, wholeLength, sectorOffset}
+use Rattle.layout.specs.declared.Bank.the-variants.{Zero, One}
+use Rattle.layout.specs.Layout.{goodN, wholeLength, sectorOffset}
 use Rattle.bank.specs.Sound.{headerGood, tableGood, laidOutGood, bodyGood, allGood, bodiesGood, blankGood, listedGood, soundOf, verdictOf}
 use Rattle.bank.specs.Stretch.{fitsAt, laidOut, blankOutside}
 use Rattle.bank.specs.Table.{entryAt, entriesFrom, restOf, stretchesOf}

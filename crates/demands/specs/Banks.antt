@@ -7,7 +7,7 @@ use Prim.Native.Nat.{ℕ, _≤_, _<_}
 use lib.ListN.{length}
 use Rattle.bank.specs.declared.check.Verdict.{Verdict}
 use Rattle.bank.specs.declared.check.Verdict.the-variants.{Refused, Sound, Unsound}
-use Rattle.bank.specs.Layout.{wholeLength}
+use Rattle.layout.specs.Layout.{wholeLength}
 use Rattle.bank.specs.Meaning.{Kept}
 use Rattle.bank.specs.Sound.{stretchBytes}
 use Rattle.bank.specs.Table.{countOf, entryAt}

@@ -19,7 +19,7 @@ use Rattle.frame.specs.declared.read.Read.{Read}
 use Rattle.frame.specs.declared.read.Read.the-variants.{Fault, Control, Write}
 use Rattle.flash.specs.Bank.{sectorOf, withSector, sweptOf}
 use Rattle.flash.specs.Sector.{paddedOf}
-use Rattle.bank.specs.Layout.{goodN, bankNumber, otherOf}
+use Rattle.layout.specs.Layout.{goodN, bankNumber, otherOf}
 use Rattle.client.specs.declared.notice.Kind.the-variants.{Started, Ended}
 use Rattle.client.specs.declared.notice.Notice.{Notice}
 use Rattle.client.specs.declared.record.Client.{Client}

@@ -11,7 +11,7 @@ use lib.ListN.{length, replicate}
 use Rattle.crc.specs.Crc.{crcOf}
 use Rattle.frame.specs.Frame.{writeFrame}
 use Rattle.frame.specs.declared.read.Footer.the-variants.{End}
-use Rattle.bank.specs.Layout.{sectorSize, goodN, otherOf}
+use Rattle.layout.specs.Layout.{sectorSize, goodN, otherOf}
 use Rattle.sender.specs.declared.request.Request.the-variants.{WriteStart, WriteEnd}
 use Rattle.sender.specs.Packet.{sectorOf, packetCount, packetSector, packetFrame}
 use Rattle.sender.specs.Request.{requestFrame}

@@ -7,7 +7,7 @@ use mathlib.Core.List.{List}
 use Prim.Native.Nat.{ℕ}
 use denote.Ref.{RefT}
 use Rattle.frame.specs.declared.read.Footer.{Footer}
-use Rattle.bank.specs.declared.layout.Bank.{Bank}
+use Rattle.layout.specs.declared.Bank.{Bank}
 use Rattle.hex.specs.declared.fault.Kind.{Kind}
 use Rattle.hex.specs.declared.line.LineReader.{LineReader}
 use Rattle.sender.specs.declared.request.Request.{Request}
@@ -27,7 +27,7 @@ use Rattle.frame.specs.Read.{Read·Is as ReadFrame·Is}
 use Rattle.frame.specs.Write.{PutControl·Is, PutWrite·Is, PutError·Is}
 use Rattle.flash.specs.Bank.{WriteAt·Is, SectorBlank·Is, Sweep·Is}
 use Rattle.flash.specs.Sector.{Erase·Is, StoreWord·Is, WriteSector·Is}
-use Rattle.bank.specs.Layout.{GoodN·Is, Sectors·Is, BankNumber·Is, Other·Is, Start·Is, End·Is, SectorOffset·Is}
+use Rattle.layout.specs.Layout.{GoodN·Is, Sectors·Is, BankNumber·Is, Other·Is, Start·Is, End·Is, SectorOffset·Is}
 use Rattle.bank.specs.Sound.{Check·Is, Body·Is}
 use Rattle.hex.specs.Places.{Ahead·Is, Reader·Is, Next·Is}
 use Rattle.hex.specs.Read.{KindNumber·Is}

@@ -9,8 +9,8 @@ use mathlib.Core.List.{List, [], _∷_}
 use Prim.Native.Nat.{ℕ, _+_, _-_, _*_, _^_, _≤_, _<_}
 use lib.ListN.{length, getD, drop}
 use Rattle.buffer.specs.Number.{byteAt}
-use Rattle.bank.specs.declared.layout.Bank.{Bank}
-use Rattle.bank.specs.Layout.{sectorSize, otherOf, startOf}
+use Rattle.layout.specs.declared.Bank.{Bank}
+use Rattle.layout.specs.Layout.{sectorSize, otherOf, startOf}
 use Rattle.hex.specs.declared.read.Answer.the-variants.{Accepted}
 use Rattle.hex.specs.declared.record.Found.the-variants.{Data}
 use Rattle.hex.specs.Digit.{bytesOf as digitsOf}

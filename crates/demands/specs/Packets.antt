@@ -9,7 +9,7 @@ use lib.Dec.{leb}
 use lib.ListN.{length, take, drop}
 use Rattle.frame.specs.Read.{readOf, bytesIn}
 use Rattle.frame.specs.declared.read.Read.the-variants.{Write}
-use Rattle.bank.specs.Layout.{goodN}
+use Rattle.layout.specs.Layout.{sectorSize, goodN}
 use Rattle.sender.specs.declared.made.Made.{Made}
 use Rattle.sender.specs.declared.made.Made.the-variants.{BadN, BadLength, PastLast, Frame}
 use Rattle.sender.specs.Made.{room, standing}
@@ -31,8 +31,8 @@ Maker = List ℕ → ℕ → ℕ → List ℕ → Made·Out
 pub record Packet (image : List ℕ) (n p : ℕ) (before : List ℕ) (o : Made·Out) : Type 0 where
   pub size : ℕ
   pub made : o .answer ≡ Frame size
-  pub reads : readOf (take size (o .buffer)) ≡ Write (packetSector image n p) 512 (footerOf (packetCount image n) p)
-  pub bytes : bytesIn (take size (o .buffer)) 512 ≡ sectorOf image (packetSector image n p)
+  pub reads : readOf (take size (o .buffer)) ≡ Write (packetSector image n p) sectorSize (footerOf (packetCount image n) p)
+  pub bytes : bytesIn (take size (o .buffer)) sectorSize ≡ sectorOf image (packetSector image n p)
   pub rest : drop size (o .buffer) ≡ drop size before
 
 -- 3, 2, 5, and then the packet

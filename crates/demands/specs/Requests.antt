@@ -6,8 +6,8 @@ use mathlib.Core.Bool.{true, false}
 use mathlib.Core.List.{List}
 use Prim.Native.Nat.{ℕ, _≤_, _<_}
 use lib.ListN.{length, take, drop}
-use Rattle.bank.specs.declared.layout.Bank.{Bank}
-use Rattle.bank.specs.Layout.{goodN}
+use Rattle.layout.specs.declared.Bank.{Bank}
+use Rattle.layout.specs.Layout.{goodN}
 use Rattle.sender.specs.declared.made.Made.the-variants.{BadN, BadLength, Frame}
 use Rattle.sender.specs.declared.request.Request.{Request}
 use Rattle.sender.specs.declared.request.Request.the-variants.{WriteStart}

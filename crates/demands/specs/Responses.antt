@@ -8,7 +8,7 @@ use Prim.Native.Nat.{ℕ, _<_}
 use Rattle.buffer.specs.Number.{bytesOf, byteAt}
 use Rattle.frame.specs.Frame.{controlFrame, writeFrame}
 use Rattle.frame.specs.declared.read.Footer.the-variants.{End}
-use Rattle.bank.specs.Layout.{bankNumber}
+use Rattle.layout.specs.Layout.{bankNumber}
 use Rattle.response.specs.declared.read.Kind.{Kind}
 use Rattle.response.specs.declared.read.Kind.the-variants.{ModeStart, BankInfo, Version, WriteStart, Packet, WriteEnd, ModeEnd, Error}
 use Rattle.response.specs.declared.read.Response.{Response}

@@ -11,7 +11,7 @@ use Rattle.frame.specs.declared.read.Read.{Read}
 use Rattle.frame.specs.declared.read.Read.the-variants.{Fault, Control, Write}
 use Rattle.flash.specs.Bank.{withSector, blankSector}
 use Rattle.flash.specs.Sector.{blanks, paddedOf}
-use Rattle.bank.specs.Layout.{sectorSize}
+use Rattle.layout.specs.Layout.{sectorSize}
 use Rattle.demands.specs.Board.{Input, Initiate, Terminate, Datagram, Outcome, said}
 
 -- a control response with this code and result

@@ -13,8 +13,8 @@ use Rattle.frame.specs.Frame.{frameError}
 use Rattle.frame.specs.Write.{putControl, putWrite}
 use Rattle.frame.specs.declared.read.Footer.the-variants.{End}
 use Rattle.frame.proofs.Writing.{control-fits, write-fits, length-control, length-write}
-use Rattle.bank.specs.Layout.{bankNumber}
-use Rattle.bank.specs.declared.layout.Bank.{Bank}
+use Rattle.layout.specs.Layout.{bankNumber}
+use Rattle.layout.specs.declared.Bank.{Bank}
 use Rattle.exchange.specs.declared.answer.Answer.{Answer}
 use Rattle.exchange.specs.declared.answer.Answer.the-variants.{Refused, FrameError, Response, BankIs, VersionIs, Written}
 use Rattle.exchange.specs.declared.answer.Refusal.{Refusal}

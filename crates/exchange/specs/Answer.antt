@@ -8,7 +8,7 @@ use Rattle.buffer.specs.Number.{bytesOf}
 use Rattle.buffer.specs.Place.{frontOf}
 use Rattle.frame.specs.Frame.{controlFrame, writeFrame, frameError}
 use Rattle.frame.specs.declared.read.Footer.the-variants.{End}
-use Rattle.bank.specs.Layout.{bankNumber}
+use Rattle.layout.specs.Layout.{bankNumber}
 use Rattle.exchange.specs.declared.answer.Answer.{Answer}
 use Rattle.exchange.specs.declared.answer.Answer.the-variants.{Refused, FrameError, Response, BankIs, VersionIs, Written}
 use Rattle.exchange.specs.declared.answer.Refusal.{Refusal}

@@ -1,5 +1,5 @@
 // What a client answers.
-use bank::layout::Bank;
+use layout::Bank;
 ghost use Rattle.exchange.specs.Answer.{Say·Is};
 ghost use Rattle.exchange.specs.declared.answer.Answer.the-variants.{Response, BankIs, VersionIs, Written};
 
@@ -43,7 +43,7 @@ fn say_response(buffer: &mut [u8], code: u8, result: u8) -> usize
 fn say_bank(buffer: &mut [u8], bank: Bank) -> usize
     ensures { λ r. ⌜ Say·Is (BankIs bank) (now (buffer .entry)) (now (buffer .exit)) r ⌝ }
 {
-    let number = bank::layout::bank_number(bank);
+    let number = layout::bank_number(bank);
     let fields = [0x06, number];
     frame::write::put_control(buffer, 0x72, &fields);
     7

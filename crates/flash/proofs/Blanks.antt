@@ -10,7 +10,8 @@ use lib.Seq.{ext-getD, getD-take, getD-drop}
 use borrow.Author.Tests.{not-true}
 use Rattle.buffer.specs.Compare.{blankOf}
 use Rattle.buffer.proofs.Comparing.{blank-true}
-use Rattle.flash.specs.Sector.{sectorBytes, blanks, erasedOf, paddedOf}
+use Rattle.layout.specs.Layout.{sectorSize}
+use Rattle.flash.specs.Sector.{blanks, erasedOf, paddedOf}
 use Rattle.flash.specs.Bank.{sectorStart, hasSector, sectorOf, blankSector, blankAt, SectorBlank·Is}
 use Rattle.flash.proofs.Sectors.{Has, has, length-sector, lent-out}
 
@@ -20,37 +21,37 @@ length-blanks n = length-replicate n 0xFF
 -- ---- a blank sector
 
 -- a sector of which every byte is 0xFF
-pub blank-whole : (sector : List ℕ) → length sector ≡ sectorBytes → blankOf sector ≡ true → sector ≡ blankSector
+pub blank-whole : (sector : List ℕ) → length sector ≡ sectorSize → blankOf sector ≡ true → sector ≡ blankSector
 unfolding blankSector
 blank-whole sector e b = blank-true sector b ∙ ap blanks e
 
 -- one that was erased
-pub erased-blank : (sector : List ℕ) → length sector ≡ sectorBytes → erasedOf sector ≡ blankSector
+pub erased-blank : (sector : List ℕ) → length sector ≡ sectorSize → erasedOf sector ≡ blankSector
 unfolding erasedOf blankSector
 erased-blank sector e = ap blanks e
 
 -- blank bytes, followed by 0xFF
-pub padded-blanks : (bytes : List ℕ) → length bytes ≤ sectorBytes → blankOf bytes ≡ true → paddedOf bytes ≡ blankSector
+pub padded-blanks : (bytes : List ℕ) → length bytes ≤ sectorSize → blankOf bytes ≡ true → paddedOf bytes ≡ blankSector
 unfolding paddedOf blankSector
 padded-blanks bytes h b =
-    let e : length bytes + (sectorBytes - length bytes) ≡ sectorBytes = omega arith in
-    ap (λ (l : List ℕ). l ++ blanks (sectorBytes - length bytes)) (blank-true bytes b)
-    ∙ replicate-append-replicate (length bytes) (sectorBytes - length bytes) 0xFF
+    let e : length bytes + (sectorSize - length bytes) ≡ sectorSize = omega arith in
+    ap (λ (l : List ℕ). l ++ blanks (sectorSize - length bytes)) (blank-true bytes b)
+    ∙ replicate-append-replicate (length bytes) (sectorSize - length bytes) 0xFF
     ∙ ap blanks e
 
 -- a sector of a bank that is blank
-pub sector-blanks : (n k : ℕ) → 1 ≤ k → k ≤ n → sectorOf (blanks (n * sectorBytes)) k ≡ blankSector
+pub sector-blanks : (n k : ℕ) → 1 ≤ k → k ≤ n → sectorOf (blanks (n * sectorSize)) k ≡ blankSector
 unfolding sectorOf blankSector
 sector-blanks n k a l =
-    let size : length (blanks (n * sectorBytes)) ≡ n * sectorBytes = length-blanks (n * sectorBytes) in
-    let part : length (take sectorBytes (drop (sectorStart k) (blanks (n * sectorBytes)))) ≡ sectorBytes =
-    length-sector (blanks (n * sectorBytes)) k (record { first = a; last = omega arith }) in
-    ext-getD 0 (take sectorBytes (drop (sectorStart k) (blanks (n * sectorBytes)))) (blanks sectorBytes) (part ∙ sym (length-blanks sectorBytes))
+    let size : length (blanks (n * sectorSize)) ≡ n * sectorSize = length-blanks (n * sectorSize) in
+    let part : length (take sectorSize (drop (sectorStart k) (blanks (n * sectorSize)))) ≡ sectorSize =
+    length-sector (blanks (n * sectorSize)) k (record { first = a; last = omega arith }) in
+    ext-getD 0 (take sectorSize (drop (sectorStart k) (blanks (n * sectorSize)))) (blanks sectorSize) (part ∙ sym (length-blanks sectorSize))
     (λ i h.
-    getD-take sectorBytes (drop (sectorStart k) (blanks (n * sectorBytes))) i 0 (omega arith)
-    ∙ getD-drop (sectorStart k) (blanks (n * sectorBytes)) i 0
-    ∙ getD-replicate {A = ℕ} (n * sectorBytes) (sectorStart k + i) 0xFF 0 (omega arith)
-    ∙ sym (getD-replicate {A = ℕ} sectorBytes i 0xFF 0 (omega arith)))
+    getD-take sectorSize (drop (sectorStart k) (blanks (n * sectorSize))) i 0 (omega arith)
+    ∙ getD-drop (sectorStart k) (blanks (n * sectorSize)) i 0
+    ∙ getD-replicate {A = ℕ} (n * sectorSize) (sectorStart k + i) 0xFF 0 (omega arith)
+    ∙ sym (getD-replicate {A = ℕ} sectorSize i 0xFF 0 (omega arith)))
 
 -- ---- the look at sector k
 
@@ -67,5 +68,5 @@ module _ (bank : List ℕ) (k : ℕ) where
       rw n
 
   pub blank-inside : (start : ℕ) (r : Bool) → Has (length bank) k → start ≡ sectorStart k
-      → r ≡ blankOf (take ((start + sectorBytes) - start) (drop start bank)) → SectorBlank·Is bank k r
+      → r ≡ blankOf (take ((start + sectorSize) - start) (drop start bank)) → SectorBlank·Is bank k r
   blank-inside start r h e b = b ∙ ap blankOf (lent-out bank k start e) ∙ sym (blank-here h)

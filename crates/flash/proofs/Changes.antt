@@ -5,7 +5,7 @@ use mathlib.Core.Bool.{Bool, true, false, cond}
 use mathlib.Core.List.{List}
 use Prim.Native.Nat.{ℕ}
 use lib.ListN.{length}
-use Rattle.flash.specs.Sector.{sectorBytes}
+use Rattle.layout.specs.Layout.{sectorSize}
 use Rattle.flash.specs.Bank.{hasSector, sectorOf, withSector, atSector}
 use Rattle.flash.proofs.Sectors.{Has, has, has-told, length-sector, length-with, with-here, with-other, with-again, with-same, with-swap}
 
@@ -38,7 +38,7 @@ module _ (f : List ℕ → List ℕ) (k : ℕ) (bank : List ℕ) where
 
 module _ (f : List ℕ → List ℕ) (keeps : Keeps f) (k : ℕ) (bank : List ℕ) where
   -- the sector is as long as it was
-  length-done : Has (length bank) k → length (f (sectorOf bank k)) ≡ sectorBytes
+  length-done : Has (length bank) k → length (f (sectorOf bank k)) ≡ sectorSize
   length-done h = keeps (sectorOf bank k) ∙ length-sector bank k h
 
   pub length-at : length (atSector f k bank) ≡ length bank

@@ -9,13 +9,13 @@ use lib.Dec.{eqb}
 use lib.ListN.{length, getD, set}
 use lib.Seq.{getD-set-same, getD-set-other}
 use borrow.Author.Tests.{eqb-true, eqb-false}
-use Rattle.flash.specs.Sector.{sectorBytes}
+use Rattle.layout.specs.Layout.{sectorSize}
 use Rattle.flash.specs.Bank.{sectorOf, blankSector, writtenAt, sweptOf}
 use Rattle.flash.proofs.Sectors.{Has, has-still, ext-sector}
 use Rattle.flash.proofs.Sweeps.{length-sweep, swept-sector, swept-received}
 use Rattle.flash.proofs.Writes.{FitsAt, length-written, written-here, written-other}
 
-module _ (bank : List ℕ) (n k : ℕ) (bytes : List ℕ) (received : List Bool) (w : length bank ≡ n * sectorBytes) (f : FitsAt bank k bytes) (i : k - 1 < length received) where
+module _ (bank : List ℕ) (n k : ℕ) (bytes : List ℕ) (received : List Bool) (w : length bank ≡ n * sectorSize) (f : FitsAt bank k bytes) (i : k - 1 < length received) where
   marked : List Bool
   marked = set received (k - 1) true
 

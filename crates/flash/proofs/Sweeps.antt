@@ -11,7 +11,8 @@ use lib.ListN.{length, getD, take, drop, length-replicate}
 use borrow.Author.Tests.{eqb-true, eqb-false, leb-true, leb-false, lt-leb, not-true}
 use borrow.Rule.Slice.PartMut.{putMid}
 use Rattle.buffer.proofs.Bools.{and-false}
-use Rattle.flash.specs.Sector.{sectorBytes, blanks, erasedOf}
+use Rattle.layout.specs.Layout.{sectorSize}
+use Rattle.flash.specs.Sector.{blanks, erasedOf}
 use Rattle.flash.specs.Bank.{sectorStart, hasSector, sectorOf, withSector, blankSector, sweptOne, swept, sweptOf}
 use Rattle.flash.proofs.Blanks.{erased-blank, sector-blanks}
 use Rattle.flash.proofs.Changes.{Keeps, at-has, at-none, length-at, at-here, at-other}
@@ -108,10 +109,10 @@ module _ (bank : List ℕ) (n : ℕ) (received : List Bool) where
       swept-sector k h l ∙ ap (λ (t : Bool). cond t (sectorOf bank k) blankSector) r
 
 -- nothing received: every byte of the bank is 0xFF then
-pub swept-blank : (bank : List ℕ) (n : ℕ) (received : List Bool) → length bank ≡ n * sectorBytes
-    → ((i : ℕ) → i < n → getD received i false ≡ false) → sweptOf bank n received ≡ blanks (n * sectorBytes)
+pub swept-blank : (bank : List ℕ) (n : ℕ) (received : List Bool) → length bank ≡ n * sectorSize
+    → ((i : ℕ) → i < n → getD received i false ≡ false) → sweptOf bank n received ≡ blanks (n * sectorSize)
 swept-blank bank n received w none =
-    ext-sector (sweptOf bank n received) (blanks (n * sectorBytes)) n (length-sweep bank n received ∙ w) (length-replicate (n * sectorBytes) 0xFF)
+    ext-sector (sweptOf bank n received) (blanks (n * sectorSize)) n (length-sweep bank n received ∙ w) (length-replicate (n * sectorSize) 0xFF)
     (λ k a l.
     swept-missed bank n received k (record { first = a; last = omega arith }) l (none (k - 1) (omega arith))
     ∙ sym (sector-blanks n k a l))
@@ -126,8 +127,8 @@ one-outside bank k received r e h t = rw e (sym (at-none erasedOf k bank (sym h 
 
 -- the part that was lent for the sector, and what came back
 pub one-erased : (bank : List ℕ) (k start : ℕ) (received : Bool) (sector : List ℕ) → received ≡ false → Has (length bank) k → start ≡ sectorStart k
-    → sector ≡ erasedOf (take ((start + sectorBytes) - start) (drop start bank))
-    → putMid start ((start + sectorBytes) - start) bank sector ≡ sweptOne bank k received
+    → sector ≡ erasedOf (take ((start + sectorSize) - start) (drop start bank))
+    → putMid start ((start + sectorSize) - start) bank sector ≡ sweptOne bank k received
 one-erased bank k start received sector e h s a =
     rw e
     (lent-back bank k start s (h .first) sector
@@ -145,32 +146,32 @@ swept-next received j bank begun after b a =
     a ∙ ap (λ (l : List ℕ). sweptOne l (j + 1) (getD received j false)) b ∙ rw add-one
 
 -- a sector that the bank does not have changes nothing
-swept-beyond : (received : List Bool) (bank : List ℕ) (j : ℕ) → length bank / sectorBytes ≤ j → swept received (suc j) bank ≡ swept received j bank
+swept-beyond : (received : List Bool) (bank : List ℕ) (j : ℕ) → length bank / sectorSize ≤ j → swept received (suc j) bank ≡ swept received j bank
 unfolding swept hasSector
 swept-beyond received bank j h = by (getD received j false)
   where
     by : (t : Bool) → sweptOne (swept received j bank) (suc j) t ≡ swept received j bank
     by true = refl
     by false =
-        let n : length (swept received j bank) < suc j * sectorBytes = omega (arith, length-swept received j bank) in
-        at-none erasedOf (suc j) (swept received j bank) (rw (lt-leb (suc j * sectorBytes) (length (swept received j bank)) n) (and-false (not (eqb (suc j) 0))))
+        let n : length (swept received j bank) < suc j * sectorSize = omega (arith, length-swept received j bank) in
+        at-none erasedOf (suc j) (swept received j bank) (rw (lt-leb (suc j * sectorSize) (length (swept received j bank)) n) (and-false (not (eqb (suc j) 0))))
 
-all-beyond : (received : List Bool) (bank : List ℕ) (q d : ℕ) → length bank / sectorBytes ≤ q → swept received (q + d) bank ≡ swept received q bank
+all-beyond : (received : List Bool) (bank : List ℕ) (q d : ℕ) → length bank / sectorSize ≤ q → swept received (q + d) bank ≡ swept received q bank
 all-beyond received bank q zero h = let e : q + 0 ≡ q = omega arith in rw e
 all-beyond received bank q (suc d) h =
     let e : q + suc d ≡ suc (q + d) = omega arith in
     rw e (swept-beyond received bank (q + d) (omega arith) ∙ all-beyond received bank q d h)
 
 -- the turns end at the last sector that the bank has
-pub swept-all : (received : List Bool) (j n : ℕ) (bank after : List ℕ) → after ≡ swept received j bank → j ≡ min n (length bank / sectorBytes) → after ≡ swept received n bank
-swept-all received j n bank after a e = a ∙ by (leb n (length bank / sectorBytes)) refl
+pub swept-all : (received : List Bool) (j n : ℕ) (bank after : List ℕ) → after ≡ swept received j bank → j ≡ min n (length bank / sectorSize) → after ≡ swept received n bank
+swept-all received j n bank after a e = a ∙ by (leb n (length bank / sectorSize)) refl
   where
-    by : (t : Bool) → leb n (length bank / sectorBytes) ≡ t → swept received j bank ≡ swept received n bank
+    by : (t : Bool) → leb n (length bank / sectorSize) ≡ t → swept received j bank ≡ swept received n bank
     by true t =
-        let l : n ≤ length bank / sectorBytes = leb-true n (length bank / sectorBytes) t in
+        let l : n ≤ length bank / sectorSize = leb-true n (length bank / sectorSize) t in
         let q : j ≡ n = omega arith in
         ap (λ (i : ℕ). swept received i bank) q
     by false t =
-        let l : length bank / sectorBytes < n = leb-false n (length bank / sectorBytes) t in
+        let l : length bank / sectorSize < n = leb-false n (length bank / sectorSize) t in
         let q : j + (n - j) ≡ n = omega arith in
         sym (all-beyond received bank j (n - j) (omega arith)) ∙ ap (λ (i : ℕ). swept received i bank) q

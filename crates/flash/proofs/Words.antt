@@ -16,18 +16,19 @@ use Rattle.buffer.proofs.Bools.{and-left, and-right}
 use Rattle.buffer.proofs.Comparing.{blank-true, blank-part, same-append, same-filled, same-true}
 use Rattle.buffer.proofs.Parts.{part-next, part-length}
 use Rattle.buffer.proofs.Places.{place-next}
-use Rattle.flash.specs.Sector.{sectorBytes, wordBytes, blanks, erasedOf, paddedOf, fitsSector, writtenOf, alreadyOf, WriteSector·Is}
+use Rattle.layout.specs.Layout.{sectorSize}
+use Rattle.flash.specs.Sector.{wordBytes, blanks, erasedOf, paddedOf, fitsSector, writtenOf, alreadyOf, WriteSector·Is}
 use Rattle.flash.specs.Store.{Store, Erase, allMade, wordAt, wordStore, wordStores, storesOf}
 use Rattle.flash.proofs.Blanks.{length-blanks, erased-blank, padded-blanks}
 
 -- ---- bytes followed by 0xFF
 
-pub length-padded : (bytes : List ℕ) → length bytes ≤ sectorBytes → length (paddedOf bytes) ≡ sectorBytes
+pub length-padded : (bytes : List ℕ) → length bytes ≤ sectorSize → length (paddedOf bytes) ≡ sectorSize
 unfolding paddedOf
-length-padded bytes h = omega (arith, length-append bytes (blanks (sectorBytes - length bytes)), length-blanks (sectorBytes - length bytes))
+length-padded bytes h = omega (arith, length-append bytes (blanks (sectorSize - length bytes)), length-blanks (sectorSize - length bytes))
 
 -- a sector that was erased is no bytes, followed by 0xFF
-padded-none : (sector : List ℕ) → length sector ≡ sectorBytes → erasedOf sector ≡ paddedOf []
+padded-none : (sector : List ℕ) → length sector ≡ sectorSize → erasedOf sector ≡ paddedOf []
 unfolding blankOf
 padded-none sector e = erased-blank sector e ∙ sym (padded-blanks [] (omega arith) refl)
 
@@ -35,17 +36,17 @@ padded-none sector e = erased-blank sector e ∙ sym (padded-blanks [] (omega ar
 filled-parts : (n w m : ℕ) → n ≡ w + m → blanks n ≡ blanks w ++ blanks m
 filled-parts n w m e = ap (λ (i : ℕ). blanks i) e ∙ sym (replicate-append-replicate w m 0xFF)
 
-module _ (begun word : List ℕ) (h : length begun + length word ≤ sectorBytes) where
+module _ (begun word : List ℕ) (h : length begun + length word ≤ sectorSize) where
   -- how much is left behind the word
-  left-over : sectorBytes - length begun ≡ length word + (sectorBytes - length (begun ++ word))
+  left-over : sectorSize - length begun ≡ length word + (sectorSize - length (begun ++ word))
   left-over = omega (arith, length-append begun word)
 
   -- bytes stored right behind others
   padded-put : placeOf (paddedOf begun) (length begun) word ≡ paddedOf (begun ++ word)
   unfolding paddedOf
   padded-put =
-      let n : ℕ = sectorBytes - length begun in
-      let m : ℕ = sectorBytes - length (begun ++ word) in
+      let n : ℕ = sectorSize - length begun in
+      let m : ℕ = sectorSize - length (begun ++ word) in
       let l : length (blanks n) ≡ n = length-blanks n in
       place-next begun (blanks n) word (omega arith)
       ∙ ap (λ (r : List ℕ). begun ++ word ++ r)
@@ -56,23 +57,23 @@ module _ (begun word : List ℕ) (h : length begun + length word ≤ sectorBytes
   padded-blank : blankOf word ≡ true → paddedOf begun ≡ paddedOf (begun ++ word)
   unfolding paddedOf
   padded-blank b =
-      let m : ℕ = sectorBytes - length (begun ++ word) in
+      let m : ℕ = sectorSize - length (begun ++ word) in
       ap (λ (r : List ℕ). begun ++ r)
-      (filled-parts (sectorBytes - length begun) (length word) m left-over
+      (filled-parts (sectorSize - length begun) (length word) m left-over
       ∙ ap (λ (r : List ℕ). r ++ blanks m) (sym (blank-true word b)))
       ∙ sym (append-assoc begun word (blanks m))
 
 -- ---- the comparison
 
-module _ (sector bytes : List ℕ) (s : length sector ≡ sectorBytes) (h : length bytes ≤ sectorBytes) where
+module _ (sector bytes : List ℕ) (s : length sector ≡ sectorSize) (h : length bytes ≤ sectorSize) where
   -- the first part is compared with the bytes, the rest with 0xFF
   same-padded : sameOf sector (paddedOf bytes) ≡ (sameOf (take (length bytes) sector) bytes && blankOf (drop (length bytes) sector))
   unfolding paddedOf
   same-padded =
       let m : ℕ = length bytes in
-      let d : length (drop m sector) ≡ sectorBytes - m = length-drop m sector ∙ ap (λ (n : ℕ). n - m) s in
-      ap (λ (l : List ℕ). sameOf l (bytes ++ blanks (sectorBytes - m))) (sym (take-append-drop m sector))
-      ∙ same-append (take m sector) (drop m sector) bytes (blanks (sectorBytes - m)) (length-take-le m sector (omega arith))
+      let d : length (drop m sector) ≡ sectorSize - m = length-drop m sector ∙ ap (λ (n : ℕ). n - m) s in
+      ap (λ (l : List ℕ). sameOf l (bytes ++ blanks (sectorSize - m))) (sym (take-append-drop m sector))
+      ∙ same-append (take m sector) (drop m sector) bytes (blanks (sectorSize - m)) (length-take-le m sector (omega arith))
       ∙ ap (λ (r : Bool). sameOf (take m sector) bytes && r)
       (ap (λ (n : ℕ). sameOf (drop m sector) (blanks n)) (sym d) ∙ same-filled (drop m sector))
 
@@ -117,7 +118,7 @@ words-next bytes i sector begun after b a =
     a ∙ ap (allMade (wordStore bytes i)) b ∙ rw add-one (sym (all-append (wordStores bytes i) (wordStore bytes i) sector))
 
 -- one word more
-module _ (bytes : List ℕ) (i : ℕ) (begun : List ℕ) (n : length begun ≡ i * wordBytes) (h : length begun + length (wordAt bytes i) ≤ sectorBytes) where
+module _ (bytes : List ℕ) (i : ℕ) (begun : List ℕ) (n : length begun ≡ i * wordBytes) (h : length begun + length (wordAt bytes i) ≤ sectorSize) where
   word-more : (b : Bool) → b ≡ blankOf (wordAt bytes i) → allMade (wordStore bytes i) (paddedOf begun) ≡ paddedOf (begun ++ wordAt bytes i)
   word-more true b = sym (word-blank bytes i (wordAt bytes i) (paddedOf begun) refl b) ∙ padded-blank begun (wordAt bytes i) h (sym b)
   word-more false b =
@@ -126,7 +127,7 @@ module _ (bytes : List ℕ) (i : ℕ) (begun : List ℕ) (n : length begun ≡ i
       ∙ padded-put begun (wordAt bytes i) h
 
 -- the first n words, stored to a sector that was erased
-words-leave : (bytes : List ℕ) (n : ℕ) → n * wordBytes ≤ length bytes → length bytes ≤ sectorBytes → allMade (wordStores bytes n) (paddedOf []) ≡ paddedOf (take (n * wordBytes) bytes)
+words-leave : (bytes : List ℕ) (n : ℕ) → n * wordBytes ≤ length bytes → length bytes ≤ sectorSize → allMade (wordStores bytes n) (paddedOf []) ≡ paddedOf (take (n * wordBytes) bytes)
 unfolding wordStores allMade
 words-leave bytes zero h l = refl
 words-leave bytes (suc i) h l =
@@ -149,27 +150,27 @@ blank-words bytes (suc i) b = rw (blank-words bytes i b, blank-part bytes (i * w
 
 -- a whole sector, and bytes that fit it in whole words
 pub record Fits (sector bytes : List ℕ) : Type 0 where
-  pub whole : length sector ≡ sectorBytes
-  pub short : length bytes ≤ sectorBytes
+  pub whole : length sector ≡ sectorSize
+  pub short : length bytes ≤ sectorSize
   pub words : length bytes % wordBytes ≡ 0
 
 module _ (sector bytes : List ℕ) where
   pub fits-told : fitsSector sector bytes ≡ true → Fits sector bytes
   unfolding fitsSector
   fits-told e =
-      let w : Bool = eqb (length sector) sectorBytes in
-      let s : Bool = leb (length bytes) sectorBytes in
+      let w : Bool = eqb (length sector) sectorSize in
+      let s : Bool = leb (length bytes) sectorSize in
       let v : Bool = eqb (length bytes % wordBytes) 0 in
       let r : (s && v) ≡ true = and-right w (s && v) e in
       record {
-        whole = eqb-true (length sector) sectorBytes (and-left w (s && v) e);
-        short = leb-true (length bytes) sectorBytes (and-left s v r);
+        whole = eqb-true (length sector) sectorSize (and-left w (s && v) e);
+        short = leb-true (length bytes) sectorSize (and-left s v r);
         words = eqb-true (length bytes % wordBytes) 0 (and-right s v r);
       }
 
   fits : Fits sector bytes → fitsSector sector bytes ≡ true
   unfolding fitsSector
-  fits f = rw (eq-eqb (length sector) sectorBytes (f .whole), le-leb (length bytes) sectorBytes (f .short), eq-eqb (length bytes % wordBytes) 0 (f .words))
+  fits f = rw (eq-eqb (length sector) sectorSize (f .whole), le-leb (length bytes) sectorSize (f .short), eq-eqb (length bytes % wordBytes) 0 (f .words))
 
   pub written-fits : Fits sector bytes → writtenOf sector bytes ≡ paddedOf bytes
   unfolding writtenOf
@@ -208,17 +209,17 @@ module _ (sector bytes : List ℕ) where
   unfolding writtenOf alreadyOf
   unfit e = record { written = rw e; already = rw e }
 
-  pub write-part : (length sector ≡ sectorBytes → ⊥) → WriteSector·Is sector bytes sector false
+  pub write-part : (length sector ≡ sectorSize → ⊥) → WriteSector·Is sector bytes sector false
   unfolding fitsSector
-  write-part n = unfit (rw (ne-eqb (length sector) sectorBytes n))
+  write-part n = unfit (rw (ne-eqb (length sector) sectorSize n))
 
-  pub write-long : length sector ≡ sectorBytes → sectorBytes < length bytes → WriteSector·Is sector bytes sector false
+  pub write-long : length sector ≡ sectorSize → sectorSize < length bytes → WriteSector·Is sector bytes sector false
   unfolding fitsSector
-  write-long w l = unfit (rw (eq-eqb (length sector) sectorBytes w, lt-leb (length bytes) sectorBytes l))
+  write-long w l = unfit (rw (eq-eqb (length sector) sectorSize w, lt-leb (length bytes) sectorSize l))
 
-  pub write-odd : length sector ≡ sectorBytes → length bytes ≤ sectorBytes → (length bytes % wordBytes ≡ 0 → ⊥) → WriteSector·Is sector bytes sector false
+  pub write-odd : length sector ≡ sectorSize → length bytes ≤ sectorSize → (length bytes % wordBytes ≡ 0 → ⊥) → WriteSector·Is sector bytes sector false
   unfolding fitsSector
-  write-odd w l n = unfit (rw (eq-eqb (length sector) sectorBytes w, le-leb (length bytes) sectorBytes l, ne-eqb (length bytes % wordBytes) 0 n))
+  write-odd w l n = unfit (rw (eq-eqb (length sector) sectorSize w, le-leb (length bytes) sectorSize l, ne-eqb (length bytes % wordBytes) 0 n))
 
   pub write-held : Fits sector bytes → true ≡ sameOf sector (paddedOf bytes) → WriteSector·Is sector bytes sector true
   write-held f h =

@@ -10,7 +10,8 @@ use borrow.Rule.Slice.PartMut.{putMid}
 use Rattle.buffer.specs.Compare.{sameOf}
 use Rattle.buffer.proofs.Bools.{and-left, and-right}
 use Rattle.buffer.proofs.Comparing.{same-self, same-true}
-use Rattle.flash.specs.Sector.{sectorBytes, wordBytes, paddedOf, fitsSector, writtenOf, alreadyOf, WriteSector·Is}
+use Rattle.layout.specs.Layout.{sectorSize}
+use Rattle.flash.specs.Sector.{wordBytes, paddedOf, fitsSector, writtenOf, alreadyOf, WriteSector·Is}
 use Rattle.flash.specs.Bank.{sectorStart, hasSector, sectorOf, withSector, writtenAt, alreadyAt, WriteAt·Is}
 use Rattle.flash.proofs.Changes.{Keeps, at-has, at-none, at-same, length-at, at-here, at-other, at-swap}
 use Rattle.flash.proofs.Sectors.{Has, has, has-told, has-still, length-sector, lent-out, lent-back}
@@ -49,7 +50,7 @@ keeps-written bytes sector = by (fitsSector sector bytes) refl
 -- a sector that the bank has, and bytes that fit it in whole words
 pub record FitsAt (bank : List ℕ) (k : ℕ) (bytes : List ℕ) : Type 0 where
   pub inside : Has (length bank) k
-  pub short : length bytes ≤ sectorBytes
+  pub short : length bytes ≤ sectorSize
   pub words : length bytes % wordBytes ≡ 0
 
 module _ (bank : List ℕ) (k : ℕ) (bytes : List ℕ) where
@@ -119,8 +120,8 @@ write-outside bank k bytes r h t =
 
 -- the part that was lent for the sector, and what came back
 pub write-inside : (bank : List ℕ) (k start : ℕ) (bytes sector : List ℕ) (r : Bool) → Has (length bank) k → start ≡ sectorStart k
-    → WriteSector·Is (take ((start + sectorBytes) - start) (drop start bank)) bytes sector r
-    → WriteAt·Is bank k bytes (putMid start ((start + sectorBytes) - start) bank sector) r
+    → WriteSector·Is (take ((start + sectorSize) - start) (drop start bank)) bytes sector r
+    → WriteAt·Is bank k bytes (putMid start ((start + sectorSize) - start) bank sector) r
 unfolding alreadyAt
 write-inside bank k start bytes sector r h e w =
     let t : hasSector (length bank) k ≡ true = has (length bank) k h in

@@ -7,27 +7,28 @@ use Prim.Native.Nat.{ℕ, zero, suc, _-_, _*_}
 use lib.Dec.{eqb, leb}
 use lib.ListN.{length, getD, take, drop}
 use Rattle.buffer.specs.Compare.{blankOf}
-use Rattle.flash.specs.Sector.{sectorBytes, blanks, erasedOf, writtenOf, alreadyOf}
+use Rattle.layout.specs.Layout.{sectorSize}
+use Rattle.flash.specs.Sector.{blanks, erasedOf, writtenOf, alreadyOf}
 
 -- the index of the first byte of sector k ("sector k starts at start + (k - 1)·512")
 abbrev pub sectorStart : ℕ → ℕ
-sectorStart k = (k - 1) * sectorBytes
+sectorStart k = (k - 1) * sectorSize
 
 -- whether a bank of so many bytes has a sector k ("Sector numbers run from 1")
 unfoldable pub hasSector : ℕ → ℕ → Bool
-hasSector bytes k = not (eqb k 0) && leb (k * sectorBytes) bytes
+hasSector bytes k = not (eqb k 0) && leb (k * sectorSize) bytes
 
 -- the bytes of sector k
 unfoldable pub sectorOf : List ℕ → ℕ → List ℕ
-sectorOf bank k = take sectorBytes (drop (sectorStart k) bank)
+sectorOf bank k = take sectorSize (drop (sectorStart k) bank)
 
 -- the bank with another sector k
 unfoldable pub withSector : List ℕ → ℕ → List ℕ → List ℕ
-withSector bank k sector = take (sectorStart k) bank ++ (sector ++ drop (k * sectorBytes) bank)
+withSector bank k sector = take (sectorStart k) bank ++ (sector ++ drop (k * sectorSize) bank)
 
 -- a sector that was erased
 unfoldable pub blankSector : List ℕ
-blankSector = blanks sectorBytes
+blankSector = blanks sectorSize
 
 -- the bank after something was done to its sector k; one that it does not have changes nothing
 unfoldable pub atSector : (List ℕ → List ℕ) → ℕ → List ℕ → List ℕ

@@ -8,10 +8,7 @@ use lib.Dec.{eqb, leb}
 use lib.ListN.{length, replicate}
 use Rattle.buffer.specs.Compare.{sameOf}
 use Rattle.buffer.specs.Place.{placeOf}
-
--- "N sectors of 512 bytes"
-abbrev pub sectorBytes : ℕ
-sectorBytes = 512
+use Rattle.layout.specs.Layout.{sectorSize}
 
 -- what is stored at once
 abbrev pub wordBytes : ℕ
@@ -27,12 +24,12 @@ erasedOf sector = blanks (length sector)
 
 -- "the M data bytes followed by 0xFF"
 unfoldable pub paddedOf : List ℕ → List ℕ
-paddedOf bytes = bytes ++ blanks (sectorBytes - length bytes)
+paddedOf bytes = bytes ++ blanks (sectorSize - length bytes)
 
 -- a whole sector, and bytes that fit it in whole words
 unfoldable pub fitsSector : List ℕ → List ℕ → Bool
 fitsSector sector bytes =
-    eqb (length sector) sectorBytes && (leb (length bytes) sectorBytes && eqb (length bytes % wordBytes) 0)
+    eqb (length sector) sectorSize && (leb (length bytes) sectorSize && eqb (length bytes % wordBytes) 0)
 
 -- the sector after the bytes were written to it: what does not fit changes nothing
 unfoldable pub writtenOf : List ℕ → List ℕ → List ℕ

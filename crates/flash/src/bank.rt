@@ -1,10 +1,10 @@
 // A bank of sectors, numbered from 1. Only the bytes of one sector are lent on to what changes them.
-use crate::sector::SECTOR;
+use layout::SECTOR;
 ghost use mathlib.Core.Path.{_≡_};
 ghost use mathlib.Core.Bool.{false};
 ghost use Prim.Native.Nat.{_+_, _*_, _/_, _≤_, min};
 ghost use lib.ListN.{getD};
-ghost use Rattle.flash.specs.Sector.{sectorBytes};
+ghost use Rattle.layout.specs.Layout.{sectorSize};
 ghost use Rattle.flash.specs.Bank.{sectorStart, hasSector, sweptOne, WriteAt·Is, SectorBlank·Is, Sweep·Is};
 
 // Whether sector `k` lies within a bank of so many bytes.
@@ -19,8 +19,8 @@ fn has_sector(bytes: usize, k: usize) -> bool
 
 // The index of the first byte of sector `k`, which a bank of so many bytes has.
 fn start(bytes: usize, k: usize) -> usize
-    requires { ⌜ (1 ≤ k) × (k * sectorBytes ≤ bytes) ⌝ }
-    ensures { λ r. ⌜ (r ≡ sectorStart k) × (r + sectorBytes ≤ bytes) ⌝ }
+    requires { ⌜ (1 ≤ k) × (k * sectorSize ≤ bytes) ⌝ }
+    ensures { λ r. ⌜ (r ≡ sectorStart k) × (r + sectorSize ≤ bytes) ⌝ }
 {
     (k - 1) * SECTOR
 }
@@ -63,7 +63,7 @@ fn sweep_one(bank: &mut [u8], k: usize, received: bool)
 
 // How many of the first `n` sectors a bank of so many bytes has.
 fn had(bytes: usize, n: usize) -> usize
-    ensures { λ r. ⌜ r ≡ min n (bytes / sectorBytes) ⌝ }
+    ensures { λ r. ⌜ r ≡ min n (bytes / sectorSize) ⌝ }
 {
     if n < bytes / SECTOR {
         return n;

@@ -1,13 +1,12 @@
 // One sector. Its bytes change through `erase` and `store_word` only.
+use layout::SECTOR;
 ghost use mathlib.Core.Path.{_≡_};
 ghost use Prim.Native.Nat.{_+_, _*_, _≤_};
 ghost use lib.ListN.{length};
 ghost use Rattle.buffer.specs.Compare.{sameOf};
-ghost use Rattle.flash.specs.Sector.{sectorBytes, wordBytes, paddedOf, Erase·Is, StoreWord·Is, WriteSector·Is};
+ghost use Rattle.layout.specs.Layout.{sectorSize};
+ghost use Rattle.flash.specs.Sector.{wordBytes, paddedOf, Erase·Is, StoreWord·Is, WriteSector·Is};
 ghost use Rattle.flash.specs.Store.{allMade, wordStore, wordStores};
-
-// As many bytes as a sector has.
-pub const SECTOR: usize = 512;
 
 // As many bytes as are stored at once.
 pub const WORD: usize = 4;
@@ -26,7 +25,7 @@ pub fn store_word(sector: &mut [u8], at: usize, word: [u8; WORD])
 
 // Whether a sector is the bytes followed by 0xFF, to its end: the old tail counts too.
 fn holds(sector: &[u8], bytes: &[u8]) -> bool
-    requires { ⌜ (length (now sector) ≡ sectorBytes) × (length (now bytes) ≤ sectorBytes) ⌝ }
+    requires { ⌜ (length (now sector) ≡ sectorSize) × (length (now bytes) ≤ sectorSize) ⌝ }
     ensures { λ r. ⌜ r ≡ sameOf (now (sector .entry)) (paddedOf (now (bytes .entry))) ⌝ }
 {
     let m = bytes.len();

@@ -4,8 +4,8 @@ use mathlib.Core.Path.{_≡_, refl}
 use mathlib.Core.List.{List, [], _∷_}
 use Prim.Native.Nat.{ℕ}
 use lib.ListN.{replicate}
-use Rattle.bank.specs.declared.layout.Bank.the-variants.{Zero}
-use Rattle.bank.specs.Layout.{goodN}
+use Rattle.layout.specs.declared.Bank.the-variants.{Zero}
+use Rattle.layout.specs.Layout.{goodN}
 use Rattle.hex.specs.declared.fault.Kind.the-variants.{H1}
 use Rattle.hex.specs.declared.read.Answer.the-variants.{Refused}
 use Rattle.hex.specs.Digit.{digitOf, isDigit, byteOf, bytesOf}

@@ -13,8 +13,8 @@ use lib.ListN.{length, getD, set, replicate, length-replicate, length-set, getD-
 use lib.Seq.{sets, length-sets, getD-set-same, getD-set-other}
 use borrow.Author.Tests.{eqb-true}
 use Rattle.buffer.proofs.Bools.{split, no-way}
-use Rattle.bank.specs.declared.layout.Bank.{Bank}
-use Rattle.bank.specs.Layout.{goodN, startOf, sectorSize}
+use Rattle.layout.specs.declared.Bank.{Bank}
+use Rattle.layout.specs.Layout.{goodN, startOf, sectorSize}
 use Rattle.hex.specs.declared.fault.Kind.{Kind}
 use Rattle.hex.specs.declared.fault.Kind.the-variants.{H6}
 use Rattle.hex.specs.declared.fault.Refusal.{Refusal}

@@ -12,8 +12,8 @@ use Rattle.buffer.proofs.Bools.{no-way}
 use Rattle.buffer.specs.Place.{placeOf}
 use Rattle.buffer.proofs.Parts.{part-out}
 use Rattle.buffer.proofs.Places.{place-fits}
-use Rattle.bank.specs.declared.layout.Bank.{Bank}
-use Rattle.bank.specs.Layout.{goodN, startOf, sectorSize}
+use Rattle.layout.specs.declared.Bank.{Bank}
+use Rattle.layout.specs.Layout.{goodN, startOf, sectorSize}
 use Rattle.hex.specs.declared.fault.Kind.{Kind}
 use Rattle.hex.specs.declared.fault.Kind.the-variants.{H6}
 use Rattle.hex.specs.declared.fault.Refusal.{Refusal}

@@ -7,8 +7,8 @@ use mathlib.Core.Bool.{true, false, cond}
 use lib.ListN.{length, drop, replicate}
 use lib.Seq.{sets}
 use lib.Dec.{eqb}
-use Rattle.bank.specs.declared.layout.Bank.{Bank}
-use Rattle.bank.specs.Layout.{sectorSize, goodN, startOf}
+use Rattle.layout.specs.declared.Bank.{Bank}
+use Rattle.layout.specs.Layout.{sectorSize, goodN, startOf}
 use Rattle.hex.specs.declared.fault.Kind.{Kind}
 use Rattle.hex.specs.declared.fault.Kind.the-variants.{H1, H2, H3, H4, H5, H6}
 use Rattle.hex.specs.declared.record.State.{State}

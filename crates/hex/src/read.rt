@@ -5,7 +5,7 @@ use crate::line::Ahead;
 use crate::line::Line;
 use crate::record::Found;
 use crate::record::State;
-use bank::layout::Bank;
+use layout::Bank;
 ghost use mathlib.Core.Path.{_≡_};
 ghost use Prim.Native.Nat.{_<_};
 ghost use lib.ListN.{length};
@@ -126,14 +126,14 @@ fn wide4(number: u32) -> usize
 pub fn read(text: &[u8], bank: Bank, n: usize, image: &mut [u8]) -> Answer
     ensures { λ r. ⌜ Read·Is (now (text .entry)) bank n (now (image .entry)) (now (image .exit)) r ⌝ }
 {
-    if !bank::layout::good_n(n) {
+    if !layout::good_n(n) {
         return Answer::BadN;
     }
-    if image.len() != bank::layout::SECTOR * n {
+    if image.len() != layout::SECTOR * n {
         return Answer::BadLength;
     }
     buffer::fill::fill(image, 0xFF);
-    let base = wide4(bank::layout::start_address(bank));
+    let base = wide4(layout::start_address(bank));
     let outcome = read_lines(text, base, image);
     match outcome {
         Outcome::Stopped(refusal) => {

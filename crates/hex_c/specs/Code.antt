@@ -3,7 +3,7 @@
 use Prim.Native.Nat.{ℕ, _+_}
 use mathlib.Core.Path.{_≡_}
 use mathlib.Core.List.{List}
-use Rattle.bank.specs.declared.layout.Bank.the-variants.{Zero}
+use Rattle.layout.specs.declared.Bank.the-variants.{Zero}
 use Rattle.hex.specs.declared.read.Answer.{Answer}
 use Rattle.hex.specs.declared.read.Answer.the-variants.{BadN, BadLength, Refused, Accepted}
 use Rattle.hex.specs.Read.{kindNumber, readOf}

@@ -1,7 +1,7 @@
 // The hex reader for C: what bench/ measures. The library itself exports nothing.
-use bank::layout::Bank;
 use hex::fault::Kind;
 use hex::read::Answer;
+use layout::Bank;
 ghost use mathlib.Core.Path.{_≡_};
 ghost use Prim.Native.Nat.{_+_};
 ghost use Rattle.hex.specs.Read.{kindNumber};

@@ -1,9 +1,9 @@
 // Hex text for bank 0 of 32 sectors, from standard input, as the sector packets that are sent of it: each one's sector and footer, and how
 // many they are.
-use bank::layout::Bank;
-use bank::layout::SECTOR;
 use hex::fault::Refusal;
 use hex::read::Answer;
+use layout::Bank;
+use layout::SECTOR;
 use libc::STDIN_FILENO;
 use script::say;
 use sender::made::Made;

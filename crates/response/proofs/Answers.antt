@@ -14,9 +14,9 @@ use Rattle.buffer.proofs.Numbers.{number-inside, number-two, number-bytes, leng
 use Rattle.frame.specs.Frame.{controlFrame, writeFrame}
 use Rattle.frame.specs.declared.read.Footer.the-variants.{End}
 use Rattle.frame.proofs.RoundTrip.{control-back, control-parameters, write-back, write-bytes}
-use Rattle.bank.specs.Layout.{bankNumber}
-use Rattle.bank.specs.declared.layout.Bank.{Bank}
-use Rattle.bank.specs.declared.layout.Bank.the-variants.{Zero, One}
+use Rattle.layout.specs.Layout.{bankNumber}
+use Rattle.layout.specs.declared.Bank.{Bank}
+use Rattle.layout.specs.declared.Bank.the-variants.{Zero, One}
 use Rattle.response.specs.declared.read.Kind.{Kind}
 use Rattle.response.specs.declared.read.Kind.the-variants.{ModeStart, BankInfo, Version, WriteStart, Packet, WriteEnd, ModeEnd, Error}
 use Rattle.response.specs.declared.read.Coded.the-variants.{Answers}

@@ -1,7 +1,7 @@
 // What a datagram that comes back says.
-use bank::layout::Bank;
 use frame::read::Footer;
 use frame::read::Read;
+use layout::Bank;
 ghost use mathlib.Core.Path.{_≡_};
 ghost use Prim.Native.Nat.{_+_};
 ghost use lib.ListN.{length};

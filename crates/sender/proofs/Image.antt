@@ -19,8 +19,8 @@ use Rattle.frame.specs.declared.read.Footer.{Footer}
 use Rattle.frame.specs.declared.read.Footer.the-variants.{End, Continued}
 use Rattle.frame.specs.declared.read.Read.the-variants.{Write}
 use Rattle.frame.proofs.RoundTrip.{write-back, write-bytes}
-use Rattle.bank.specs.Layout.{sectorSize, goodN, sectorOffset}
-use Rattle.bank.proofs.Layouts.{good-below}
+use Rattle.layout.specs.Layout.{sectorSize, goodN, sectorOffset}
+use Rattle.layout.proofs.Layouts.{good-below}
 use Rattle.sender.specs.Packet.{sectorOf, sentOf, packetCount, packetSector, footerOf, packetFrame}
 use Rattle.sender.specs.Meaning.{putBack, restored}
 use Rattle.sender.proofs.Packets.{Sent, sector-from, sector-length, sent-blank, sent-more, sent-in, packet-small}

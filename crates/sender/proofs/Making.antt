@@ -14,8 +14,8 @@ use Rattle.buffer.proofs.Places.{place-front, front-fits, place-next}
 use Rattle.frame.specs.Frame.{controlFrame}
 use Rattle.frame.specs.Write.{putControl}
 use Rattle.frame.proofs.Writing.{length-control, control-fits}
-use Rattle.bank.specs.Layout.{goodN}
-use Rattle.bank.specs.declared.layout.Bank.{Bank}
+use Rattle.layout.specs.Layout.{goodN}
+use Rattle.layout.specs.declared.Bank.{Bank}
 use Rattle.sender.specs.declared.made.Made.{Made}
 use Rattle.sender.specs.declared.made.Made.the-variants.{BadN, BadLength, Frame}
 use Rattle.sender.specs.declared.request.Request.{Request}

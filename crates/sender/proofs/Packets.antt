@@ -17,8 +17,8 @@ use Rattle.frame.specs.Frame.{writeFrame}
 use Rattle.frame.specs.Write.{putWrite}
 use Rattle.frame.specs.declared.read.Footer.{Footer}
 use Rattle.frame.proofs.Writing.{length-write, write-fits}
-use Rattle.bank.specs.Layout.{sectorSize, goodN, sectorOffset}
-use Rattle.bank.proofs.Layouts.{good-high, good-below, offset-good}
+use Rattle.layout.specs.Layout.{sectorSize, goodN, sectorOffset}
+use Rattle.layout.proofs.Layouts.{good-high, good-below, offset-good}
 use Rattle.sender.specs.declared.made.Made.{Made}
 use Rattle.sender.specs.declared.made.Made.the-variants.{BadN, BadLength, PastLast, Frame}
 use Rattle.sender.specs.declared.packet.Seen.{Seen}

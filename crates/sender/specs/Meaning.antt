@@ -8,7 +8,7 @@ use Rattle.buffer.specs.Place.{placeOf}
 use Rattle.frame.specs.Read.{readOf, bytesIn}
 use Rattle.frame.specs.declared.read.Read.{Read}
 use Rattle.frame.specs.declared.read.Read.the-variants.{Fault, Control, Write}
-use Rattle.bank.specs.Layout.{sectorSize, sectorOffset}
+use Rattle.layout.specs.Layout.{sectorSize, sectorOffset}
 use Rattle.sender.specs.Packet.{packetFrame}
 
 -- "Sender: 3, 2, 5", and 0 where nothing is refused

@@ -10,7 +10,7 @@ use Rattle.buffer.specs.Compare.{blankOf}
 use Rattle.frame.specs.Frame.{writeFrame}
 use Rattle.frame.specs.declared.read.Footer.{Footer}
 use Rattle.frame.specs.declared.read.Footer.the-variants.{End, Continued}
-use Rattle.bank.specs.Layout.{sectorSize, goodN, sectorOffset}
+use Rattle.layout.specs.Layout.{sectorSize, goodN, sectorOffset}
 use Rattle.sender.specs.declared.made.Made.{Made}
 use Rattle.sender.specs.declared.made.Made.the-variants.{BadN, BadLength, PastLast, Frame}
 use Rattle.sender.specs.declared.packet.Seen.{Seen}

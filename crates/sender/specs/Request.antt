@@ -7,7 +7,7 @@ use Prim.Native.Nat.{ℕ}
 use lib.ListN.{length}
 use Rattle.buffer.specs.Number.{bytesOf}
 use Rattle.frame.specs.Frame.{controlFrame}
-use Rattle.bank.specs.Layout.{goodN, startOf, endOf}
+use Rattle.layout.specs.Layout.{goodN, startOf, endOf}
 use Rattle.sender.specs.declared.made.Made.{Made}
 use Rattle.sender.specs.declared.made.Made.the-variants.{BadN}
 use Rattle.sender.specs.declared.request.Request.{Request}

@@ -1,13 +1,13 @@
 // The sector packets of an image, by number.
 use crate::made::Made;
 use crate::made::ROOM;
-use bank::layout::SECTOR;
 use frame::read::Footer;
+use layout::SECTOR;
 ghost use mathlib.Core.Path.{_≡_};
 ghost use mathlib.Core.Bool.{true};
 ghost use Prim.Native.Nat.{_+_, _*_, _<_, _≤_};
 ghost use lib.ListN.{length};
-ghost use Rattle.bank.specs.Layout.{sectorSize, goodN};
+ghost use Rattle.layout.specs.Layout.{sectorSize, goodN};
 ghost use Rattle.sender.specs.Packet.{seenOf, footerOf, Packet·Is, Count·Is};
 
 // How many packets an image has.
@@ -32,7 +32,7 @@ fn look(image: &[u8], k: usize, p: usize, seen: Seen) -> Seen
     requires { ⌜ seen ≡ seenOf (now image) k p ⌝ }
     ensures { λ r. ⌜ r ≡ seenOf (now (image .entry)) (k + 1) p ⌝ }
 {
-    let from = bank::layout::sector_offset(k + 1);
+    let from = layout::sector_offset(k + 1);
     let to = from + SECTOR;
     if buffer::compare::blank(&image[from..to]) {
         return seen;
@@ -82,7 +82,7 @@ fn footer(count: usize, p: usize) -> Footer
 pub fn count(image: &[u8], n: usize) -> Tally
     ensures { λ r. ⌜ Count·Is (now (image .entry)) n r ⌝ }
 {
-    if !bank::layout::good_n(n) {
+    if !layout::good_n(n) {
         return Tally::BadN;
     }
     if image.len() != SECTOR * n {
@@ -95,7 +95,7 @@ pub fn count(image: &[u8], n: usize) -> Tally
 pub fn packet(image: &[u8], n: usize, p: usize, buffer: &mut [u8]) -> Made
     ensures { λ r. ⌜ Packet·Is (now (image .entry)) n p (now (buffer .entry)) r (now (buffer .exit)) ⌝ }
 {
-    if !bank::layout::good_n(n) {
+    if !layout::good_n(n) {
         return Made::BadN;
     }
     if image.len() != SECTOR * n {
@@ -108,7 +108,7 @@ pub fn packet(image: &[u8], n: usize, p: usize, buffer: &mut [u8]) -> Made
     if seen.count <= p {
         return Made::PastLast;
     }
-    let from = bank::layout::sector_offset(seen.sector);
+    let from = layout::sector_offset(seen.sector);
     let to = from + SECTOR;
     let sector = seen.sector as u16;
     frame::write::put_write(buffer, sector, &image[from..to], footer(seen.count, p));

@@ -1,7 +1,7 @@
 // The requests, each a control frame.
 use crate::made::Made;
 use crate::made::ROOM;
-use bank::layout::Bank;
+use layout::Bank;
 ghost use mathlib.Core.List.{[]};
 ghost use Prim.Native.Nat.{_≤_};
 ghost use lib.ListN.{length};
@@ -39,12 +39,12 @@ fn bare(code: u8, buffer: &mut [u8]) -> Made
 fn write_start(bank: Bank, n: usize, buffer: &mut [u8]) -> Made
     ensures { λ r. ⌜ Request·Is (Request.WriteStart bank n) (now (buffer .entry)) r (now (buffer .exit)) ⌝ }
 {
-    if !bank::layout::good_n(n) {
+    if !layout::good_n(n) {
         return Made::BadN;
     }
     let mut addresses = [0u8; 8];
-    buffer::number::put_number4(&mut addresses, 0, bank::layout::start_address(bank));
-    buffer::number::put_number4(&mut addresses, 4, bank::layout::end_address(bank, n));
+    buffer::number::put_number4(&mut addresses, 0, layout::start_address(bank));
+    buffer::number::put_number4(&mut addresses, 4, layout::end_address(bank, n));
     control(0x40, &addresses, buffer)
 }
 

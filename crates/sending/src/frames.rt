@@ -1,7 +1,7 @@
 // The requests that make a request of the exchange or read a response.
 use crate::made;
 use crate::made::LARGEST_BUFFER;
-use bank::layout::Bank;
+use layout::Bank;
 use response::read::Kind;
 use response::read::Response;
 use script::say;
@@ -91,7 +91,7 @@ fn say_plain(kind: Kind, result: u8) {
 
 fn say_bank(bank: Bank) {
     say::text(b"bank ");
-    say::decimal(bank::layout::bank_number(bank) as usize);
+    say::decimal(layout::bank_number(bank) as usize);
 }
 
 fn say_version(id: u16, major: u8, minor: u8, revision: u32) {

@@ -3,9 +3,9 @@ use crate::held;
 use crate::held::Answered;
 use crate::held::Held;
 use crate::held::LONGEST_IMAGE;
-use bank::layout::Bank;
 use hex::fault::Refusal;
 use hex::read::Answer;
+use layout::Bank;
 use script::say;
 use script::text;
 

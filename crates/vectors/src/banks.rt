@@ -4,8 +4,8 @@ ghost use lib.ListN.{length};
 ghost use Rattle.io.specs.Counts.{Counts};
 use crate::sums;
 use bank::check::Verdict;
-use bank::layout::Bank;
-use bank::layout::Counted;
+use layout::Bank;
+use layout::Counted;
 use script::say;
 use script::text;
 
@@ -17,11 +17,11 @@ const LONGEST_SHOWN: usize = 64;
 
 fn say_layout(bank: Bank, n: usize) {
     say::text(b"layout ");
-    say::decimal(bank::layout::bank_number(bank) as usize);
+    say::decimal(layout::bank_number(bank) as usize);
     say::text(b" ");
-    say::quad(bank::layout::start_address(bank));
+    say::quad(layout::start_address(bank));
     say::text(b" ");
-    say::quad(bank::layout::end_address(bank, n));
+    say::quad(layout::end_address(bank, n));
     say::end();
 }
 
@@ -53,7 +53,7 @@ pub(crate) fn sectors(fields: &[u8]) -> bool {
     if length > text::LARGEST_NUMBER {
         return false;
     }
-    match bank::layout::sectors(length) {
+    match layout::sectors(length) {
         Counted::Refused => say::text(b"refused\n"),
         Counted::Sectors(n) => say_sectors(n),
     }

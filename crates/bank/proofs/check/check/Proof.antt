@@ -3,7 +3,7 @@
 use mathlib.Core.Path.{sym, _∙_}
 use native.Mathlib.Omega.{arith}
 use borrow.Author.Tests.{not-true, not-false}
-use Rattle.bank.proofs.Layouts.{counted-whole, refused-whole}
+use Rattle.layout.proofs.Layouts.{counted-whole, refused-whole}
 use Rattle.bank.proofs.Tables.{table-fits, listed-some, listed-none}
 use Rattle.bank.proofs.Cases.{long, check-refused, check-header, check-table, check-listed, check-sound}
 use borrow.Author.Needs.{needs}

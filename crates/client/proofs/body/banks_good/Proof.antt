@@ -2,7 +2,7 @@
 -- Assumes nothing.
 use mathlib.Core.Path.{sym, _∙_}
 use borrow.Author.Tests.{not-true, not-false}
-use Rattle.bank.proofs.Layouts.{good-high}
+use Rattle.layout.proofs.Layouts.{good-high}
 use Rattle.client.proofs.Bodies.{banks-bad, banks-first, banks-second}
 use borrow.Author.Needs.{needs}
 use Rattle.client.proofs.body.banks_good.Statement.{statement}

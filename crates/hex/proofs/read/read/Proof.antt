@@ -3,7 +3,7 @@
 use mathlib.Core.Path.{sym, _∙_}
 use native.Mathlib.Omega.{arith}
 use borrow.Author.Tests.{not-true, not-false}
-use Rattle.bank.proofs.Layouts.{good-high, start-small}
+use Rattle.layout.proofs.Layouts.{good-high, start-small}
 use Rattle.hex.proofs.Steps.{read-3, read-2, read-accepted, read-refused}
 use borrow.Author.Needs.{needs}
 use Rattle.hex.proofs.read.read.Statement.{statement}

@@ -3,7 +3,7 @@
 use mathlib.Core.Path.{sym, ap, _∙_}
 use native.Mathlib.Omega.{arith}
 use borrow.Author.Tests.{not-true, not-false}
-use Rattle.bank.proofs.Layouts.{good-high}
+use Rattle.layout.proofs.Layouts.{good-high}
 use Rattle.sender.specs.declared.packet.Tally.the-variants.{Packets}
 use Rattle.sender.proofs.Packets.{seen-count, tally-bad-n, tally-bad-image, tally-packets}
 use borrow.Author.Needs.{needs}

@@ -4,7 +4,7 @@ use mathlib.Core.Path.{refl, sym, ap, _∙_}
 use Prim.Native.Nat.{ℕ}
 use native.Mathlib.Omega.{arith}
 use borrow.Author.Tests.{not-true, not-false}
-use Rattle.bank.proofs.Layouts.{good-high}
+use Rattle.layout.proofs.Layouts.{good-high}
 use Rattle.sender.specs.Packet.{footerOf}
 use Rattle.sender.proofs.Packets.{seen-count, seen-sector, packet-end, packet-small, made-bad-n, made-bad-image, made-no-room, made-past, packet-refused, packet-put}
 use borrow.Author.Needs.{needs}

@@ -3,7 +3,7 @@
 use mathlib.Core.Path.{_≡_, ap, _∙_}
 use Prim.Native.Nat.{ℕ, _-_, _≤_}
 use native.Mathlib.Omega.{arith}
-use Rattle.bank.proofs.Layouts.{good-below}
+use Rattle.layout.proofs.Layouts.{good-below}
 use Rattle.sender.specs.Packet.{seenOf}
 use Rattle.sender.proofs.Packets.{seen-none}
 use Rattle.sender.proofs.packet.survey.Statement.{statement}

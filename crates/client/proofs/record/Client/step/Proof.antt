@@ -1,6 +1,6 @@
 -- `client::step::Client::step` meets its contract.
 -- Assumes nothing.
-use Rattle.bank.specs.declared.layout.Bank.the-variants.{Zero, One}
+use Rattle.layout.specs.declared.Bank.the-variants.{Zero, One}
 use Rattle.client.proofs.Stepping.{addressed, fair, step-is}
 use borrow.Author.Needs.{needs}
 use Rattle.client.proofs.record.Client.step.Statement.{statement}

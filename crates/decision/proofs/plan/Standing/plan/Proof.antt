@@ -2,7 +2,7 @@
 -- Assumes nothing.
 use mathlib.Core.Path.{sym, _∙_}
 use borrow.Author.Tests.{not-true, not-false}
-use Rattle.bank.proofs.Layouts.{good-high}
+use Rattle.layout.proofs.Layouts.{good-high}
 use Rattle.decision.proofs.Planning.{lent, plan-3, plan-2, plan-1, plan-rest}
 use borrow.Author.Needs.{needs}
 use Rattle.decision.proofs.plan.Standing.plan.Statement.{statement}

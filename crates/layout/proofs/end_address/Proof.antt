@@ -1,12 +1,12 @@
--- `bank::layout::end_address` meets its contract.
+-- `layout::end_address` meets its contract.
 -- Assumes nothing.
 use mathlib.Core.Path.{sym, _∙_}
 use native.Mathlib.Omega.{arith}
 use borrow.Author.Tests.{not-true, not-false}
-use Rattle.bank.proofs.Layouts.{good-low, good-high, start-small, end-bad, end-good}
+use Rattle.layout.proofs.Layouts.{good-low, good-high, start-small, end-bad, end-good}
 use borrow.Author.Needs.{needs}
-use Rattle.bank.proofs.layout.end_address.Statement.{statement}
-use Rattle.bank.proofs.layout.end_address.Tie as tie
+use Rattle.layout.proofs.end_address.Statement.{statement}
+use Rattle.layout.proofs.end_address.Tie as tie
 
 good-n-requires : tie.Need-good-n-requires
 good-n-requires c κs = search needs

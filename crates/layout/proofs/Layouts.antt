@@ -8,11 +8,11 @@ use native.Mathlib.Omega.{arith}
 use lib.Dec.{eqb, leb}
 use borrow.Author.Tests.{eq-eqb, ne-eqb, le-leb, lt-leb, leb-true}
 use Rattle.buffer.proofs.Bools.{and-left, and-right, and-both}
-use Rattle.bank.specs.declared.layout.Bank.{Bank}
-use Rattle.bank.specs.declared.layout.Bank.the-variants.{Zero, One}
-use Rattle.bank.specs.declared.layout.Counted.the-variants.{Refused, Sectors}
-use Rattle.bank.specs.Said.{number, value, countedSaid}
-use Rattle.bank.specs.Layout.{sectorSize, mostSectors, goodN, wholeLength, sectorsOf, startOf, endOf, sectorOffset}
+use Rattle.layout.specs.declared.Bank.{Bank}
+use Rattle.layout.specs.declared.Bank.the-variants.{Zero, One}
+use Rattle.layout.specs.declared.Counted.the-variants.{Refused, Sectors}
+use Rattle.layout.specs.Said.{number, value, countedSaid}
+use Rattle.layout.specs.Layout.{sectorSize, mostSectors, goodN, wholeLength, sectorsOf, startOf, endOf, sectorOffset}
 
 pub start-small : (bank : Bank) → startOf bank ≤ 0x14000A00
 start-small Zero = omega arith

@@ -1,5 +1,5 @@
 // Where the two banks and their sectors lie.
-ghost use Rattle.bank.specs.Layout.{GoodN·Is, Sectors·Is, BankNumber·Is, Other·Is, Start·Is, End·Is, SectorOffset·Is};
+ghost use Rattle.layout.specs.Layout.{GoodN·Is, Sectors·Is, BankNumber·Is, Other·Is, Start·Is, End·Is, SectorOffset·Is};
 
 // The most sectors that a bank has.
 pub const MOST: usize = 491;

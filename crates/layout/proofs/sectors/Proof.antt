@@ -1,10 +1,10 @@
--- `bank::layout::sectors` meets its contract.
+-- `layout::sectors` meets its contract.
 -- Assumes nothing.
 use mathlib.Core.Path.{sym, _∙_}
-use Rattle.bank.proofs.Layouts.{sectors-odd, sectors-good, sectors-bad}
+use Rattle.layout.proofs.Layouts.{sectors-odd, sectors-good, sectors-bad}
 use borrow.Author.Needs.{needs}
-use Rattle.bank.proofs.layout.sectors.Statement.{statement}
-use Rattle.bank.proofs.layout.sectors.Tie as tie
+use Rattle.layout.proofs.sectors.Statement.{statement}
+use Rattle.layout.proofs.sectors.Tie as tie
 
 returns : tie.Need-returns
 returns c = sectors-odd (c .before .args .length) (c .if1 .taken)

@@ -4,10 +4,10 @@ use mathlib.Core.Path.{_≡_}
 use mathlib.Core.Bool.{Bool, _&&_, cond}
 use Prim.Native.Nat.{ℕ, _+_, _-_, _*_, _/_, _%_}
 use lib.Dec.{eqb, leb}
-use Rattle.bank.specs.declared.layout.Bank.{Bank}
-use Rattle.bank.specs.declared.layout.Bank.the-variants.{Zero, One}
-use Rattle.bank.specs.declared.layout.Counted.{Counted}
-use Rattle.bank.specs.declared.layout.Counted.the-variants.{Refused, Sectors}
+use Rattle.layout.specs.declared.Bank.{Bank}
+use Rattle.layout.specs.declared.Bank.the-variants.{Zero, One}
+use Rattle.layout.specs.declared.Counted.{Counted}
+use Rattle.layout.specs.declared.Counted.the-variants.{Refused, Sectors}
 
 -- the bytes of a sector, and the most sectors that a bank has
 abbrev pub sectorSize : ℕ
