@@ -26,11 +26,11 @@ use Rattle.flash.proofs.Writes.{FitsAt}
 use Rattle.layout.specs.declared.Bank.{Bank}
 use Rattle.layout.specs.declared.Bank.the-variants.{Zero, One}
 use Rattle.layout.specs.Layout.{sectorSize, goodN, endOf}
+use Rattle.lines.specs.Line.{lines}
 use Rattle.hex.specs.declared.fault.Kind.the-variants.{H6}
 use Rattle.hex.specs.declared.read.Answer.the-variants.{Refused, Accepted}
 use Rattle.hex.specs.Digit.{digitOf, isDigit, byteOf}
 use Rattle.hex.specs.Digit.{bytesOf as digitsOf}
-use Rattle.hex.specs.Line.{lines}
 use Rattle.hex.specs.Record.{digitsIn, digitsWhole, recordOf, total, dataAt, typed, foundOf}
 use Rattle.hex.specs.Read.{readLines}
 use Rattle.hex.specs.Read.{readOf as readText}

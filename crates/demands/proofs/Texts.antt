@@ -11,6 +11,7 @@ use borrow.Author.Tests.{eq-eqb, ne-eqb}
 use Rattle.layout.specs.declared.Bank.{Bank}
 use Rattle.layout.specs.declared.Bank.the-variants.{Zero}
 use Rattle.layout.specs.Layout.{sectorSize, goodN, startOf}
+use Rattle.lines.specs.Line.{lines}
 use Rattle.hex.specs.declared.fault.Kind.the-variants.{H6}
 use Rattle.hex.specs.declared.fault.Refusal.{Refusal}
 use Rattle.hex.specs.declared.read.Answer.the-variants.{BadN, BadLength, Accepted}
@@ -20,7 +21,6 @@ use Rattle.hex.specs.declared.record.Found.{Found}
 use Rattle.hex.specs.declared.record.Found.the-variants.{Fault, Data, Upper, End, Other}
 use Rattle.hex.specs.Digit.{digitOf, isDigit, byteOf}
 use Rattle.hex.specs.Digit.{bytesOf as digitsOf}
-use Rattle.hex.specs.Line.{lines}
 use Rattle.hex.specs.Meaning.{stateAt, saysAt, Faulted, at-line, past-the-last}
 use Rattle.hex.specs.Read.{fresh, answerOf, readLines, readOf}
 use Rattle.hex.specs.Record.{digitsIn, digitsWhole, recordOf, total, dataAt, typed, foundOf}

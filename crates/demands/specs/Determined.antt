@@ -8,8 +8,8 @@ use Prim.Native.Nat.{ℕ}
 use denote.Ref.{RefT}
 use Rattle.frame.specs.declared.read.Footer.{Footer}
 use Rattle.layout.specs.declared.Bank.{Bank}
+use Rattle.lines.specs.declared.line.LineReader.{LineReader}
 use Rattle.hex.specs.declared.fault.Kind.{Kind}
-use Rattle.hex.specs.declared.line.LineReader.{LineReader}
 use Rattle.sender.specs.declared.request.Request.{Request}
 use Rattle.exchange.specs.declared.answer.Answer.{Answer}
 use Rattle.exchange.specs.declared.command.Command.{Command}
@@ -29,7 +29,7 @@ use Rattle.flash.specs.Bank.{WriteAt·Is, SectorBlank·Is, Sweep·Is}
 use Rattle.flash.specs.Sector.{Erase·Is, StoreWord·Is, WriteSector·Is}
 use Rattle.layout.specs.Layout.{GoodN·Is, Sectors·Is, BankNumber·Is, Other·Is, Start·Is, End·Is, SectorOffset·Is}
 use Rattle.bank.specs.Sound.{Check·Is, Body·Is}
-use Rattle.hex.specs.Places.{Ahead·Is, Reader·Is, Next·Is}
+use Rattle.lines.specs.Places.{Ahead·Is, Reader·Is, Next·Is}
 use Rattle.hex.specs.Read.{KindNumber·Is}
 use Rattle.hex.specs.Read.{Read·Is as ReadText·Is}
 use Rattle.sender.specs.Packet.{Count·Is, Packet·Is}

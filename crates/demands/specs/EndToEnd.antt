@@ -11,10 +11,10 @@ use lib.ListN.{length, getD, drop}
 use Rattle.buffer.specs.Number.{byteAt}
 use Rattle.layout.specs.declared.Bank.{Bank}
 use Rattle.layout.specs.Layout.{sectorSize, otherOf, startOf}
+use Rattle.lines.specs.Line.{lines}
 use Rattle.hex.specs.declared.read.Answer.the-variants.{Accepted}
 use Rattle.hex.specs.declared.record.Found.the-variants.{Data}
 use Rattle.hex.specs.Digit.{bytesOf as digitsOf}
-use Rattle.hex.specs.Line.{lines}
 use Rattle.hex.specs.Meaning.{saysAt}
 use Rattle.hex.specs.Read.{fresh, readOf}
 use Rattle.hex.specs.Record.{dataOf}

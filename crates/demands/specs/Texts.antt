@@ -8,10 +8,10 @@ use Prim.Native.Nat.{ℕ, _*_}
 use lib.ListN.{length, replicate}
 use Rattle.layout.specs.declared.Bank.{Bank}
 use Rattle.layout.specs.Layout.{sectorSize, goodN, startOf}
+use Rattle.lines.specs.Line.{lines}
 use Rattle.hex.specs.declared.fault.Refusal.{Refusal}
 use Rattle.hex.specs.declared.read.Answer.{Answer}
 use Rattle.hex.specs.declared.read.Answer.the-variants.{BadN, BadLength, Refused, Accepted}
-use Rattle.hex.specs.Line.{lines}
 use Rattle.hex.specs.Meaning.{stateAt, Sound, Faulted}
 use Rattle.hex.specs.Read.{Reading, fresh}
 use Rattle.demands.specs.EndToEnd.{Holds}

@@ -6,10 +6,10 @@ use Prim.Native.Nat.{ℕ}
 use lib.ListN.{replicate}
 use Rattle.layout.specs.declared.Bank.the-variants.{Zero}
 use Rattle.layout.specs.Layout.{goodN}
+use Rattle.lines.specs.Line.{lines}
 use Rattle.hex.specs.declared.fault.Kind.the-variants.{H1}
 use Rattle.hex.specs.declared.read.Answer.the-variants.{Refused}
 use Rattle.hex.specs.Digit.{digitOf, isDigit, byteOf, bytesOf}
-use Rattle.hex.specs.Line.{lines}
 use Rattle.hex.specs.Record.{Broken, digitsIn, digitsWhole, recordOf, foundOf}
 use Rattle.hex.specs.Read.{Reading, readLines, readOf}
 

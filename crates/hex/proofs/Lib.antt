@@ -1,6 +1,5 @@
 pub mod Digits
 pub mod Examples
-pub mod Lines
 pub mod Meaning
 pub mod Records
 pub mod Steps

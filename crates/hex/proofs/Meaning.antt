@@ -15,6 +15,7 @@ use borrow.Author.Tests.{eqb-true}
 use Rattle.buffer.proofs.Bools.{split, no-way}
 use Rattle.layout.specs.declared.Bank.{Bank}
 use Rattle.layout.specs.Layout.{goodN, startOf, sectorSize}
+use Rattle.lines.specs.Line.{lines}
 use Rattle.hex.specs.declared.fault.Kind.{Kind}
 use Rattle.hex.specs.declared.fault.Kind.the-variants.{H6}
 use Rattle.hex.specs.declared.fault.Refusal.{Refusal}
@@ -25,7 +26,6 @@ use Rattle.hex.specs.declared.read.Answer.the-variants.{BadN, BadLength,
 use Rattle.hex.specs.declared.read.Outcome.{Outcome}
 use Rattle.hex.specs.declared.read.Outcome.the-variants.{Stopped, Through}
 use Rattle.hex.specs.Record.{dataOf, foundOf}
-use Rattle.hex.specs.Line.{lines}
 use Rattle.hex.specs.Read.{stateAfter, imageAfter, Done, refused, readLines, fresh, Reading, answerOf, answered, answerNumber, readOf}
 use Rattle.hex.specs.Meaning.{stateAt, saysAt, Sound, Faulted, at-line, past-the-last}
 use Rattle.hex.proofs.Records.{spelledBy, data-in}

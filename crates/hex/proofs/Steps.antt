@@ -14,6 +14,9 @@ use Rattle.buffer.proofs.Parts.{part-out}
 use Rattle.buffer.proofs.Places.{place-fits}
 use Rattle.layout.specs.declared.Bank.{Bank}
 use Rattle.layout.specs.Layout.{goodN, startOf, sectorSize}
+use Rattle.lines.specs.Line.{lines}
+use Rattle.lines.specs.Places.{LineAt}
+use Rattle.lines.proofs.Lines.{lines-here, lines-none}
 use Rattle.hex.specs.declared.fault.Kind.{Kind}
 use Rattle.hex.specs.declared.fault.Kind.the-variants.{H6}
 use Rattle.hex.specs.declared.fault.Refusal.{Refusal}
@@ -25,11 +28,9 @@ use Rattle.hex.specs.declared.read.Outcome.{Outcome}
 use Rattle.hex.specs.declared.read.Outcome.the-variants.{Stopped, Through}
 use Rattle.hex.specs.declared.read.Step.the-variants.{Stop, On}
 use Rattle.hex.specs.Digit.{bytesOf}
-use Rattle.hex.specs.Line.{lines}
 use Rattle.hex.specs.Record.{dataOf, foundOf}
 use Rattle.hex.specs.Read.{stateAfter, imageAfter, Done, refused, goes, readLines, finishOf, fresh, answered, readOf, Read·Is}
-use Rattle.hex.specs.Places.{LineAt, Looked, stepOf, Took, Came}
-use Rattle.hex.proofs.Lines.{lines-here, lines-none}
+use Rattle.hex.specs.Places.{Looked, stepOf, Took, Came}
 use Rattle.hex.proofs.Records.{upper-in, looked-in}
 
 abbrev pub outcome-of : Done → Outcome

@@ -1,5 +1,4 @@
 pub mod Digit
-pub mod Line
 pub mod Meaning
 pub mod Places
 pub mod Read

@@ -9,6 +9,7 @@ use lib.Seq.{sets}
 use lib.Dec.{eqb}
 use Rattle.layout.specs.declared.Bank.{Bank}
 use Rattle.layout.specs.Layout.{sectorSize, goodN, startOf}
+use Rattle.lines.specs.Line.{lines}
 use Rattle.hex.specs.declared.fault.Kind.{Kind}
 use Rattle.hex.specs.declared.fault.Kind.the-variants.{H1, H2, H3, H4, H5, H6}
 use Rattle.hex.specs.declared.record.State.{State}
@@ -19,7 +20,6 @@ use Rattle.hex.specs.declared.read.Answer.the-variants.{BadN, BadLength,
 use Rattle.hex.specs.declared.read.Outcome.{Outcome}
 use Rattle.hex.specs.declared.read.Outcome.the-variants.{Stopped, Through}
 use Rattle.hex.specs.Digit.{bytesOf}
-use Rattle.hex.specs.Line.{lines}
 use Rattle.hex.specs.Record.{dataOf, foundOf}
 
 -- WHAT A LINE CHANGES: the upper half, the end of the data, whether the end record was seen

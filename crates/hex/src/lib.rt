@@ -1,6 +1,5 @@
 // Intel hex text, read into the image of a bank.
 mod digit;
 pub mod fault;
-pub mod line;
 pub mod read;
 pub mod record;

@@ -1,16 +1,15 @@
 // A text, line after line, into the image of a bank.
 use crate::fault::Kind;
 use crate::fault::Refusal;
-use crate::line::Ahead;
-use crate::line::Line;
 use crate::record::Found;
 use crate::record::State;
 use layout::Bank;
+use lines::line::Ahead;
 ghost use mathlib.Core.Path.{_≡_};
 ghost use Prim.Native.Nat.{_<_};
 ghost use lib.ListN.{length};
 ghost use lib.Seq.{slice};
-ghost use Rattle.hex.specs.Line.{lines};
+ghost use Rattle.lines.specs.Line.{lines};
 ghost use Rattle.hex.specs.Read.{readLines, fresh, finishOf, Read·Is};
 ghost use Rattle.hex.specs.Places.{LookFits, Took, Came};
 
@@ -100,7 +99,7 @@ fn read_lines(text: &[u8], base: usize, image: &mut [u8]) -> Outcome
     let mut at = 0;
     let mut line: usize = 1;
     loop {
-        let found = crate::line::ahead_of(text, at);
+        let found = lines::line::ahead_of(text, at);
         match found {
             Ahead::Nothing => return finish(state, line),
             Ahead::One(l) => {

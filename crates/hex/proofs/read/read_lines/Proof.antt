@@ -6,9 +6,9 @@ use native.Mathlib.Omega.{arith}
 use borrow.Author.Needs.{needs}
 use Prim.Native.Nat.{_+_, _-_, _≤_, _<_}
 use lib.ListN.{length, drop}
-use Rattle.hex.specs.Line.{lines}
+use Rattle.lines.specs.Line.{lines}
+use Rattle.lines.proofs.Lines.{ahead-line, ahead-none}
 use Rattle.hex.specs.Read.{readLines, fresh}
-use Rattle.hex.proofs.Lines.{ahead-line, ahead-none}
 use Rattle.hex.proofs.Steps.{outcome-of, step-upper, read-on, read-stop, read-finish}
 use Rattle.hex.proofs.read.read_lines.Statement.{statement}
 use Rattle.hex.proofs.read.read_lines.Tie as tie

@@ -1,11 +1,11 @@
--- `hex::line::line_from` meets its contract: by whether the place lies within the text.
+-- `lines::line::line_from` meets its contract: by whether the place lies within the text.
 -- Assumes nothing.
 use borrow.Author.Tests.{lt-ltb, le-ltb}
 use lib.ListN.{length}
 use borrow.Author.Needs.{needs}
-use Rattle.hex.specs.Places.{aheadAt}
-use Rattle.hex.proofs.line.line_from.Statement.{statement}
-use Rattle.hex.proofs.line.line_from.Tie as tie
+use Rattle.lines.specs.Places.{aheadAt}
+use Rattle.lines.proofs.line.line_from.Statement.{statement}
+use Rattle.lines.proofs.line.line_from.Tie as tie
 
 line-at-requires : tie.Need-line-at-requires
 line-at-requires c κs = search needs

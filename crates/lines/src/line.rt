@@ -2,8 +2,8 @@
 ghost use mathlib.Core.Path.{_≡_};
 ghost use Prim.Native.Nat.{_+_, _<_, _≤_};
 ghost use lib.ListN.{length, drop};
-ghost use Rattle.hex.specs.Line.{lfNext};
-ghost use Rattle.hex.specs.Places.{quietAt, Skipped, endLen, LineAt, aheadAt, Reader·Is, Next·Is, Ahead·Is};
+ghost use Rattle.lines.specs.Line.{lfNext};
+ghost use Rattle.lines.specs.Places.{quietAt, Skipped, endLen, LineAt, aheadAt, Reader·Is, Next·Is, Ahead·Is};
 
 // A line's end, without LF or CR LF, and the start of the next one.
 pub struct Line {

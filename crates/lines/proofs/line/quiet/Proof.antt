@@ -1,13 +1,13 @@
--- `hex::line::quiet` meets its contract: the loop's invariant: whether all are quiet is what is known of those passed and of those left.
+-- `lines::line::quiet` meets its contract: the loop's invariant: whether all are quiet is what is known of those passed and of those left.
 -- Assumes nothing.
 use mathlib.Core.Path.{_≡_, refl, sym, _∙_}
 use native.Mathlib.Omega.{arith}
 use mathlib.Core.Bool.{_&&_}
 use Prim.Native.Nat.{_≤_, _+_}
-use Rattle.hex.specs.Places.{quietAt}
-use Rattle.hex.proofs.Lines.{quiet-one, quiet-none}
-use Rattle.hex.proofs.line.quiet.Statement.{statement}
-use Rattle.hex.proofs.line.quiet.Tie as tie
+use Rattle.lines.specs.Places.{quietAt}
+use Rattle.lines.proofs.Lines.{quiet-one, quiet-none}
+use Rattle.lines.proofs.line.quiet.Statement.{statement}
+use Rattle.lines.proofs.line.quiet.Tie as tie
 
 abbrev Inv-loop : tie.InvT-loop
 Inv-loop text at good₀ p₀ left₀ good p left = (p + left ≡ at + 16) × ((left ≤ 16) × (quietAt text at 16 ≡ (good && quietAt text p left)))

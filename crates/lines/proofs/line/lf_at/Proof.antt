@@ -1,10 +1,10 @@
--- `hex::line::lf_at` meets its contract: by whether the place lies within the text.
+-- `lines::line::lf_at` meets its contract: by whether the place lies within the text.
 -- Assumes nothing.
 use mathlib.Core.Path.{sym}
 use borrow.Author.Needs.{needs}
-use Rattle.hex.proofs.Lines.{lf-here, lf-past}
-use Rattle.hex.proofs.line.lf_at.Statement.{statement}
-use Rattle.hex.proofs.line.lf_at.Tie as tie
+use Rattle.lines.proofs.Lines.{lf-here, lf-past}
+use Rattle.lines.proofs.line.lf_at.Statement.{statement}
+use Rattle.lines.proofs.line.lf_at.Tie as tie
 
 shared-slice-read-result : tie.Need-shared-slice-read-result
 shared-slice-read-result c = search needs

@@ -1,14 +1,14 @@
--- `hex::line::line_at` meets its contract: the loop's invariant: the line goes on up to i. It stops at the first end, or with the text.
+-- `lines::line::line_at` meets its contract: the loop's invariant: the line goes on up to i. It stops at the first end, or with the text.
 -- Assumes nothing.
 use mathlib.Core.Path.{_≡_, sym, _∙_}
 use borrow.Author.Needs.{needs}
 use native.Mathlib.Omega.{arith}
 use Prim.Native.Nat.{_≤_, _+_, _-_}
 use lib.ListN.{length, drop}
-use Rattle.hex.specs.Places.{lineLen, lineAll}
-use Rattle.hex.proofs.Lines.{line-stops, line-goes, line-past, end-fits}
-use Rattle.hex.proofs.line.line_at.Statement.{statement}
-use Rattle.hex.proofs.line.line_at.Tie as tie
+use Rattle.lines.specs.Places.{lineLen, lineAll}
+use Rattle.lines.proofs.Lines.{line-stops, line-goes, line-past, end-fits}
+use Rattle.lines.proofs.line.line_at.Statement.{statement}
+use Rattle.lines.proofs.line.line_at.Tie as tie
 
 abbrev Inv-loop : tie.InvT-loop
 Inv-loop text at i₀ i = (at ≤ i) × ((i ≤ length text) × ((at + lineLen (drop at text) ≡ i + lineLen (drop i text)) × (at + lineAll (drop at text) ≡ i + lineAll (drop i text))))

@@ -1,4 +1,4 @@
--- `hex::line::reader_at` meets its contract: a walk of its MIR, by hand. A `LineReader` is made of the text and the place, in the result's local.
+-- `lines::line::reader_at` meets its contract: a walk of its MIR, by hand. A `LineReader` is made of the text and the place, in the result's local.
 -- A `&[u8]` is Copy, so what it owns is had twice: once for text at exit, and once inside the result, beside the facts of at.
 -- Assumes nothing.
 use mathlib.Core.Path.{refl}
@@ -34,13 +34,13 @@ use denote.Triple.Spec.{Meets, tripleOf}
 use denote.Triple.Table.{entered}
 use denote.Triple.Walked.{says, Stays, stay-none, stay-none-slice, walkOf, goes-none, goes-none-slice, Walks, ends-at, walked, walk-meets}
 use denote.Exit.{yes}
-use Rattle.hex.specs.declared.line.LineReader.{LineReader}
-use Rattle.hex.proofs.line.LineReader as T
-use Rattle.hex.proofs.line.LineReader.Laws as T′
-use Rattle.hex.proofs.line.reader_at.Key.{name as #hex·line·reader-at}
-use Rattle.hex.proofs.line.reader_at as new
-use Rattle.hex.proofs.line.reader_at.Statement as stated
-use Rattle.hex.proofs.line.reader_at.Code as code
+use Rattle.lines.specs.declared.line.LineReader.{LineReader}
+use Rattle.lines.proofs.line.LineReader as T
+use Rattle.lines.proofs.line.LineReader.Laws as T′
+use Rattle.lines.proofs.line.reader_at.Key.{name as #lines·line·reader-at}
+use Rattle.lines.proofs.line.reader_at as new
+use Rattle.lines.proofs.line.reader_at.Statement as stated
+use Rattle.lines.proofs.line.reader_at.Code as code
 
 abbrev stayed : Stays (new.ended .signature .params) (new.ended .kept)
 stayed = (stay-none-slice (0 ∷ []) tt (plain (λ _. u8)) yes, (stay-none (λ _. usize) yes, tt))
@@ -94,5 +94,5 @@ pub reader-at-spec : {M : Type 1} → stated.statement M
 unfolding code.routine tablesOf
 reader-at-spec 𝓤 H 𝓜 𝓖 𝓡 =
     entered 𝓤 H (tripleOf 𝓤 H (𝓖 .A) new.signature (new.spec 𝓤 H (𝓖 .A) (𝓜 .mem) (𝓡 .run)))
-    (tables 𝓤 H 𝓜 𝓡 code.env .C) (tables 𝓤 H 𝓜 𝓡 code.env .Λ) #hex·line·reader-at code.function (code.unfolded 𝓤 H 𝓜 𝓡)
+    (tables 𝓤 H 𝓜 𝓡 code.env .C) (tables 𝓤 H 𝓜 𝓡 code.env .Λ) #lines·line·reader-at code.function (code.unfolded 𝓤 H 𝓜 𝓡)
     (new-meets 𝓤 H (𝓖 .A) (givenOf 𝓤 H 𝓜 𝓖) (𝓜 .mem) (𝓡 .run) (tablesOf 𝓤 H 𝓜 (tables 𝓤 H 𝓜 𝓡 code.env)))

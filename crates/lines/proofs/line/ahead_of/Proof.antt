@@ -1,4 +1,4 @@
--- `hex::line::ahead_of` meets its contract: a walk of its MIR, by hand. A `LineReader` that one call returns is held in a local and passed to the next. All that the proof knows of `reader_at` and of `next_line` is that each meets its contract.
+-- `lines::line::ahead_of` meets its contract: a walk of its MIR, by hand. A `LineReader` that one call returns is held in a local and passed to the next. All that the proof knows of `reader_at` and of `next_line` is that each meets its contract.
 -- The machine value that `reader_at` returns is stored and passed on as it is. In a local of a body MIR erases the lifetime of the struct's type, so the value is shown to have the type at `erased`: what the struct owns does not say the lifetime's name.
 -- Assumes nothing.
 use mathlib.Core.Path.{_≡_, refl, ap, _∙_}
@@ -30,7 +30,7 @@ use denote.Slice.{sliceVal, ShrSlice, slice-vals, shr-slice-tells, shr-slice-law
 use denote.Steps.{owned, peeks, heard, nothing}
 use denote.Enum.Laws as EL
 use denote.Struct.Laws as LL
-use Rattle.hex.specs.Places.{aheadAt, Reader·Is}
+use Rattle.lines.specs.Places.{aheadAt, Reader·Is}
 use denote.Triple.Statement.{Contract, Triple}
 use denote.Triple.Call.{calls-at}
 use denote.Triple.Entry.{onEntry}
@@ -39,24 +39,24 @@ use denote.Triple.Table.{entered, cited}
 use denote.Triple.Walked.{says, Stays, stay-none, stay-none-slice, walkOf, goes-none, goes-none-slice, Walks, ends-at, walked, walk-meets}
 use denote.Exit.{yes}
 use denote.Triple.Clauses.{ensured, lasts}
-use Rattle.hex.specs.declared.line.LineReader.{LineReader}
-use Rattle.hex.specs.declared.line.Ahead.{Ahead}
-use Rattle.hex.proofs.line.LineReader as T
-use Rattle.hex.proofs.line.LineReader.Laws as T′
-use Rattle.hex.proofs.line.Ahead as S
-use Rattle.hex.proofs.line.Ahead.Laws as S′
-use Rattle.hex.proofs.line.reader_at as new
-use Rattle.hex.proofs.line.reader_at.Symbol as new-def
-use Rattle.hex.proofs.line.reader_at.Symbol.{name as #hex·line·reader-at}
-use Rattle.hex.proofs.line.reader_at.Met as new-thm
-use Rattle.hex.proofs.line.next_line as next
-use Rattle.hex.proofs.line.next_line.Symbol as next-def
-use Rattle.hex.proofs.line.next_line.Symbol.{name as #hex·line·next-line}
-use Rattle.hex.proofs.line.next_line.Met as next-thm
-use Rattle.hex.proofs.line.ahead_of.Key.{name as #hex·line·ahead-of}
-use Rattle.hex.proofs.line.ahead_of as first
-use Rattle.hex.proofs.line.ahead_of.Statement as stated
-use Rattle.hex.proofs.line.ahead_of.Code as code
+use Rattle.lines.specs.declared.line.LineReader.{LineReader}
+use Rattle.lines.specs.declared.line.Ahead.{Ahead}
+use Rattle.lines.proofs.line.LineReader as T
+use Rattle.lines.proofs.line.LineReader.Laws as T′
+use Rattle.lines.proofs.line.Ahead as S
+use Rattle.lines.proofs.line.Ahead.Laws as S′
+use Rattle.lines.proofs.line.reader_at as new
+use Rattle.lines.proofs.line.reader_at.Symbol as new-def
+use Rattle.lines.proofs.line.reader_at.Symbol.{name as #lines·line·reader-at}
+use Rattle.lines.proofs.line.reader_at.Met as new-thm
+use Rattle.lines.proofs.line.next_line as next
+use Rattle.lines.proofs.line.next_line.Symbol as next-def
+use Rattle.lines.proofs.line.next_line.Symbol.{name as #lines·line·next-line}
+use Rattle.lines.proofs.line.next_line.Met as next-thm
+use Rattle.lines.proofs.line.ahead_of.Key.{name as #lines·line·ahead-of}
+use Rattle.lines.proofs.line.ahead_of as first
+use Rattle.lines.proofs.line.ahead_of.Statement as stated
+use Rattle.lines.proofs.line.ahead_of.Code as code
 
 -- the struct's type, over the signature's lifetimes
 abbrev B : Lfts 1 → RattleType
@@ -120,7 +120,7 @@ module _ {M : Type 1} (𝓤 : URA M) (H : Heap 𝓤) (A : Atoms 𝓤) (W : Given
       suffices ! _ (ends-at 𝓤 H A first.ended stayed (first.clauses 𝓤 H A mem run) W (((κ, tt), (q, tt), tt, (s, (n, tt)), (v ∷ [], (vint w64 n ∷ [], tt))), tt) u t (tt, (tt, tt)) (tt, (tt, tt))) $ says ! e $
       move ! (1 ∷ []) $ frame ! $ nothing ! $ owned ! usize (Is usize) (uint-makes 𝓤 H A W w64) n _ (refl, ok) $ fjoin ! $ move ! (2 ∷ 0 ∷ []) $ fjoin ! $ frame ! $ done !
 
-  module _ (C : Calls 𝓤 H) (Λ : Loops 𝓤 H) (fm : FmC 𝓤 H (W .laws) C) (known-new : Triple 𝓤 (C #hex·line·reader-at) (New 𝓤 H A mem run)) (known-next : Triple 𝓤 (C #hex·line·next-line) (Next 𝓤 H A mem run)) where
+  module _ (C : Calls 𝓤 H) (Λ : Loops 𝓤 H) (fm : FmC 𝓤 H (W .laws) C) (known-new : Triple 𝓤 (C #lines·line·reader-at) (New 𝓤 H A mem run)) (known-next : Triple 𝓤 (C #lines·line·next-line) (Next 𝓤 H A mem run)) where
     walk : Is (ShrSlice (named 0) κ u8) s (v ∷ []) → ent 𝓤 (onEntry 𝓤 H A first.signature (κ, tt) (q, tt) (s, (n, tt)) (v ∷ [], (vint w64 n ∷ [], tt))) (WpFn 𝓤 H C Λ code.function (v ∷ vint w64 n ∷ []) Post)
     walk p =
         qed W (raw (onEntry 𝓤 H A first.signature (κ, tt) (q, tt) (s, (n, tt)) (v ∷ [], (vint w64 n ∷ [], tt))) ∷ []) ∵ enter ! C Λ code.function (v ∷ vint w64 n ∷ []) _ $
@@ -143,13 +143,13 @@ module _ {M : Type 1} (𝓤 : URA M) (H : Heap 𝓤) (A : Atoms 𝓤) (W : Given
         by ! (exits t u′ (e′ ∙ (ap (λ (x : RefT (List ℕ)). aheadAt (now x) (r .at)) (e .text-is) ∙ ap (aheadAt (now s)) (e .at-is))))))))))))))))
 
 module _ {M : Type 1} (𝓤 : URA M) (H : Heap 𝓤) (A : Atoms 𝓤) (W : Given 𝓤 H A) (mem : Memory → SProp 𝓤) (run : Routine → Fun 𝓤) where
-  first-walks : (C : Calls 𝓤 H) (Λ : Loops 𝓤 H) → FmC 𝓤 H (W .laws) C → Triple 𝓤 (C #hex·line·reader-at) (New 𝓤 H A mem run) → Triple 𝓤 (C #hex·line·next-line) (Next 𝓤 H A mem run)
+  first-walks : (C : Calls 𝓤 H) (Λ : Loops 𝓤 H) → FmC 𝓤 H (W .laws) C → Triple 𝓤 (C #lines·line·reader-at) (New 𝓤 H A mem run) → Triple 𝓤 (C #lines·line·next-line) (Next 𝓤 H A mem run)
       → Walks 𝓤 H A first.ended stayed (WpFn 𝓤 H C Λ code.function) (first.clauses 𝓤 H A mem run)
   first-walks C Λ fm known-new known-next = walked 𝓤 H A first.ended stayed (first.clauses 𝓤 H A mem run) (WpFn 𝓤 H C Λ code.function) (λ κs. (slice-vals, (uint-vals w64, tt))) (λ κs. (shr-slice-tells (named 0) (κs .0) u8, (uint-tells w64, tt)))
       (λ κs qs bounds a g are. via 𝓤 _ (fst∗ 𝓤 _ (emp 𝓤)) (walk 𝓤 H A W mem run (κs .0) (qs .0) (a .0) (a .1 .0) (are .1 .0 .1) C Λ fm known-new known-next (are .0)))
 
 first-meets : {M : Type 1} (𝓤 : URA M) (H : Heap 𝓤) (A : Atoms 𝓤) (W : Given 𝓤 H A) (mem : Memory → SProp 𝓤) (run : Routine → Fun 𝓤) (𝓣 : Tables 𝓤 H)
-    → Triple 𝓤 (𝓣 .C #hex·line·reader-at) (New 𝓤 H A mem run) → Triple 𝓤 (𝓣 .C #hex·line·next-line) (Next 𝓤 H A mem run)
+    → Triple 𝓤 (𝓣 .C #lines·line·reader-at) (New 𝓤 H A mem run) → Triple 𝓤 (𝓣 .C #lines·line·next-line) (Next 𝓤 H A mem run)
     → Meets 𝓤 H A first.signature (WpFn 𝓤 H (𝓣 .C) (𝓣 .Λ) code.function) (first.spec 𝓤 H A mem run)
 first-meets 𝓤 H A W mem run 𝓣 known-new known-next = walk-meets 𝓤 H A first.ended stayed W (goes-none-slice 𝓤 H A W 1 (0 ∷ []) tt (plain (λ _. u8)) yes, (goes-none 𝓤 H A W 1 (λ _. usize) yes (λ κs x f. refl), tt)) (first.clauses 𝓤 H A mem run) (WpFn 𝓤 H (𝓣 .C) (𝓣 .Λ) code.function) (WpFn-mono 𝓤 H (W .laws) 𝓣 code.function)
     (first-walks 𝓤 H A W mem run (𝓣 .C) (𝓣 .Λ) (fmOf 𝓤 H (W .laws) 𝓣) known-new known-next)
@@ -158,7 +158,7 @@ pub ahead-of-spec : {M : Type 1} → stated.statement M
 unfolding code.routine tablesOf
 ahead-of-spec 𝓤 H 𝓜 𝓖 𝓡 =
     entered 𝓤 H (tripleOf 𝓤 H (𝓖 .A) first.signature (first.spec 𝓤 H (𝓖 .A) (𝓜 .mem) (𝓡 .run)))
-    (tables 𝓤 H 𝓜 𝓡 code.env .C) (tables 𝓤 H 𝓜 𝓡 code.env .Λ) #hex·line·ahead-of code.function (code.unfolded 𝓤 H 𝓜 𝓡)
+    (tables 𝓤 H 𝓜 𝓡 code.env .C) (tables 𝓤 H 𝓜 𝓡 code.env .Λ) #lines·line·ahead-of code.function (code.unfolded 𝓤 H 𝓜 𝓡)
     (first-meets 𝓤 H (𝓖 .A) (givenOf 𝓤 H 𝓜 𝓖) (𝓜 .mem) (𝓡 .run) (tablesOf 𝓤 H 𝓜 (tables 𝓤 H 𝓜 𝓡 code.env))
-    (cited 𝓤 H (New 𝓤 H (𝓖 .A) (𝓜 .mem) (𝓡 .run)) 𝓜 𝓡 code.env #hex·line·reader-at new-def.routine code.calls-hex·line·reader-at (new-thm.met 𝓤 H 𝓜 𝓖 𝓡))
-    (cited 𝓤 H (Next 𝓤 H (𝓖 .A) (𝓜 .mem) (𝓡 .run)) 𝓜 𝓡 code.env #hex·line·next-line next-def.routine code.calls-hex·line·next-line (next-thm.met 𝓤 H 𝓜 𝓖 𝓡)))
+    (cited 𝓤 H (New 𝓤 H (𝓖 .A) (𝓜 .mem) (𝓡 .run)) 𝓜 𝓡 code.env #lines·line·reader-at new-def.routine code.calls-lines·line·reader-at (new-thm.met 𝓤 H 𝓜 𝓖 𝓡))
+    (cited 𝓤 H (Next 𝓤 H (𝓖 .A) (𝓜 .mem) (𝓡 .run)) 𝓜 𝓡 code.env #lines·line·next-line next-def.routine code.calls-lines·line·next-line (next-thm.met 𝓤 H 𝓜 𝓖 𝓡)))

@@ -1,11 +1,11 @@
--- `hex::line::end_at` meets its contract: each way out is a case of the first bytes of what is left.
+-- `lines::line::end_at` meets its contract: each way out is a case of the first bytes of what is left.
 -- Assumes nothing.
 use mathlib.Core.Path.{sym, _∙_}
 use borrow.Author.Tests.{eq-eqb, ne-eqb}
 use borrow.Author.Needs.{needs}
-use Rattle.hex.proofs.Lines.{end-here}
-use Rattle.hex.proofs.line.end_at.Statement.{statement}
-use Rattle.hex.proofs.line.end_at.Tie as tie
+use Rattle.lines.proofs.Lines.{end-here}
+use Rattle.lines.proofs.line.end_at.Statement.{statement}
+use Rattle.lines.proofs.line.end_at.Tie as tie
 
 shared-slice-read-if1 : tie.Need-shared-slice-read-if1
 shared-slice-read-if1 c = search needs

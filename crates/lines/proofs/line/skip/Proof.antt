@@ -1,13 +1,13 @@
--- `hex::line::skip` meets its contract: the loop's invariant: the line goes on up to i.
+-- `lines::line::skip` meets its contract: the loop's invariant: the line goes on up to i.
 -- Assumes nothing.
 use mathlib.Core.Path.{_≡_, refl, sym, _∙_}
 use native.Mathlib.Omega.{arith}
 use Prim.Native.Nat.{_≤_, _+_, _-_}
 use lib.ListN.{length, drop}
-use Rattle.hex.specs.Places.{lineLen, lineAll}
-use Rattle.hex.proofs.Lines.{quiet-goes}
-use Rattle.hex.proofs.line.skip.Statement.{statement}
-use Rattle.hex.proofs.line.skip.Tie as tie
+use Rattle.lines.specs.Places.{lineLen, lineAll}
+use Rattle.lines.proofs.Lines.{quiet-goes}
+use Rattle.lines.proofs.line.skip.Statement.{statement}
+use Rattle.lines.proofs.line.skip.Tie as tie
 
 abbrev Inv-loop : tie.InvT-loop
 Inv-loop text at i₀ i = (at ≤ i) × ((i ≤ length text) × ((at + lineLen (drop at text) ≡ i + lineLen (drop i text)) × (at + lineAll (drop at text) ≡ i + lineAll (drop i text))))

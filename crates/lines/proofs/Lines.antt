@@ -12,10 +12,10 @@ use lib.ListN.{length, getD, take, drop, drop-of-length-le, length-drop}
 use lib.Seq.{drop-cons, drop-drop, take-nil, slice}
 use borrow.Author.Tests.{eq-eqb, ne-eqb, eqb-false, ltb-true, ltb-false, leb-true}
 use Rattle.buffer.proofs.Bools.{and-left, and-right, and-false, no-way}
-use Rattle.hex.specs.declared.line.Line.{Line}
-use Rattle.hex.specs.declared.line.Ahead.the-variants.{One, Nothing}
-use Rattle.hex.specs.Line.{front, lfNext, lines}
-use Rattle.hex.specs.Places.{endLen, lineLen, lineAll, quietAt, LineAt, aheadAt}
+use Rattle.lines.specs.declared.line.Line.{Line}
+use Rattle.lines.specs.declared.line.Ahead.the-variants.{One, Nothing}
+use Rattle.lines.specs.Line.{front, lfNext, lines}
+use Rattle.lines.specs.Places.{endLen, lineLen, lineAll, quietAt, LineAt, aheadAt}
 
 pub lf-here : (t : List ℕ) (i : ℕ) → i < length t → lfNext (drop i t) ≡ eqb (getD t i 0) 0x0A
 lf-here t i h = rw (drop-cons t i 0 h)
