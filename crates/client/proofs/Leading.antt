@@ -3,18 +3,14 @@
 use mathlib.Core.Path.{_≡_, refl}
 use mathlib.Core.Bool.{true, false, not, _&&_, _||_, false≢true}
 use mathlib.Core.List.{List}
-use Prim.Native.Nat.{ℕ, _+_, _-_, _*_}
-use native.Mathlib.Omega.{arith}
+use Prim.Native.Nat.{ℕ, _-_, _*_}
 use lib.Dec.{eqb}
-use lib.ListN.{length, getD, drop, length-drop}
-use lib.Seq.{length-take-le}
+use lib.ListN.{length, getD}
 use borrow.Author.Tests.{not-false}
 use Rattle.buffer.proofs.Bools.{split}
 use Rattle.frame.specs.Read.{readOf, bytesIn}
 use Rattle.frame.specs.declared.read.Footer.{Footer}
-use Rattle.frame.specs.declared.read.Read.{Read}
 use Rattle.frame.specs.declared.read.Read.the-variants as read
-use Rattle.frame.proofs.Told.{Told, told}
 use Rattle.layout.specs.Layout.{sectorSize, goodN}
 use Rattle.exchange.specs.declared.answer.Answer.{Answer}
 use Rattle.exchange.specs.declared.answer.Answer.the-variants.{Refused, FrameError, Response, BankIs, VersionIs, Written}
@@ -22,12 +18,13 @@ use Rattle.exchange.specs.declared.command.Asked.{Asked}
 use Rattle.exchange.specs.declared.command.Asked.the-variants.{Fault, NoRequest, WrongLength, Right}
 use Rattle.exchange.specs.declared.command.Command.{Command}
 use Rattle.exchange.specs.declared.command.Command.the-variants.{ModeStart, BankInfo, VersionInfo, WriteStart, WriteEnd, ModeEnd, Packet}
+use Rattle.exchange.proofs.Bearing.{Packed, Bears, Asks, asks}
 use Rattle.decision.specs.declared.plan.Plan.{Plan}
 use Rattle.decision.specs.declared.plan.Plan.the-variants.{Keep, Open, Close, Begin, Store, Wear, Finish}
 use Rattle.client.specs.declared.record.Client.{Client}
 use Rattle.exchange.specs.declared.state.State.{State}
 use Rattle.exchange.specs.declared.state.State.the-variants as state
-use Rattle.exchange.specs.Command.{byCode, askedBy, askedOf, fitsState, declinedOf, isClosed}
+use Rattle.exchange.specs.Command.{askedOf, fitsState, declinedOf, isClosed}
 use Rattle.decision.specs.Plan.{lentGood, isWorn, anyWorn, valuesGood, addressesGood, planStart, planEnd, planPacket, planGood, planCommand, planAsked, planOf}
 use Rattle.client.specs.Step.{targetOf, planned}
 use Rattle.client.proofs.Stepping.{lent-well, whole-target}
@@ -72,51 +69,6 @@ Leads c target datagram Begin = Beginning c target
 Leads c target datagram (Store sector m) = Storing c target datagram sector m
 Leads c target datagram Wear = Unit {0}
 Leads c target datagram Finish = Finishing c target
-
--- ---- how a packet was read
-
-record Packed (datagram : List ℕ) (sector m : ℕ) : Type 0 where
-  footer : Footer
-  reads : readOf datagram ≡ read.Write sector m footer
-  sent : length (bytesIn datagram m) ≡ m
-
-abbrev Bears : List ℕ → Command → Type 0
-Bears d ModeStart = Unit {0}
-Bears d BankInfo = Unit {0}
-Bears d VersionInfo = Unit {0}
-Bears d WriteStart = Unit {0}
-Bears d WriteEnd = Unit {0}
-Bears d ModeEnd = Unit {0}
-Bears d (Packet sector m) = Packed d sector m
-
-abbrev Asks : List ℕ → Asked → Type 0
-Asks d Fault = Unit {0}
-Asks d NoRequest = Unit {0}
-Asks d (WrongLength command) = Unit {0}
-Asks d (Right command) = Bears d command
-
-asks-code : (d : List ℕ) (code n : ℕ) → Asks d (byCode code n)
-unfolding byCode
-asks-code d code n =
-    split (Asks d) (eqb code 0x61) (λ _. split (Asks d) (eqb n 0) (λ _. tt) (λ _. tt))
-    (λ _. split (Asks d) (eqb code 0x62) (λ _. split (Asks d) (eqb n 0) (λ _. tt) (λ _. tt))
-    (λ _. split (Asks d) (eqb code 0x68) (λ _. split (Asks d) (eqb n 0) (λ _. tt) (λ _. tt))
-    (λ _. split (Asks d) (eqb code 0x40) (λ _. split (Asks d) (eqb n 8) (λ _. tt) (λ _. tt))
-    (λ _. split (Asks d) (eqb code 0x45) (λ _. split (Asks d) (eqb n 0) (λ _. tt) (λ _. tt))
-    (λ _. split (Asks d) (eqb code 0x64) (λ _. split (Asks d) (eqb n 0) (λ _. tt) (λ _. tt)) (λ _. tt))))))
-
--- the written bytes lie within the datagram
-sent-whole : (d : List ℕ) (m : ℕ) → length d ≡ m + 7 → length (bytesIn d m) ≡ m
-sent-whole d m e = length-take-le m (drop 5 d) (omega (arith, length-drop 5 d))
-
-asks : (d : List ℕ) → Asks d (askedOf d)
-unfolding askedBy
-asks d = by (readOf d) refl (told d)
-  where
-    by : (r : Read) → readOf d ≡ r → Told d r → Asks d (askedBy r)
-    by read.Fault e t = tt
-    by (read.Control code n) e t = asks-code d code n
-    by (read.Write sector m footer) e t = record { footer = footer; reads = e; sent = sent-whole d m (t .whole) }
 
 -- ---- the deciding, case by case
 

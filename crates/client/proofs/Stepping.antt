@@ -3,17 +3,14 @@
 use mathlib.Core.Path.{_≡_, sym, ap, subst, _∙_}
 use mathlib.Core.Bool.{true, false, not}
 use mathlib.Core.List.{List}
-use Prim.Native.Nat.{ℕ, _+_, _-_, _*_, _≤_}
+use Prim.Native.Nat.{ℕ, _-_, _*_}
 use native.Mathlib.Omega.{arith}
-use lib.Dec.{eqb}
 use lib.ListN.{length, getD}
 use borrow.Author.Tests.{not-false}
 use Rattle.buffer.specs.Place.{frontOf}
 use Rattle.buffer.proofs.Bools.{split}
-use Rattle.frame.specs.Read.{readOf}
-use Rattle.frame.specs.declared.read.Read.{Read}
 use Rattle.frame.specs.declared.read.Read.the-variants as read
-use Rattle.frame.proofs.Told.{Told, told}
+use Rattle.frame.proofs.Told.{told}
 use Rattle.layout.specs.declared.Bank.{Bank}
 use Rattle.layout.specs.declared.Bank.the-variants.{Zero, One}
 use Rattle.layout.specs.Layout.{sectorSize, goodN}
@@ -25,54 +22,19 @@ use Rattle.exchange.specs.declared.command.Asked.the-variants.{Fault, NoRequest
 use Rattle.exchange.specs.declared.command.Command.{Command}
 use Rattle.exchange.specs.declared.command.Command.the-variants.{ModeStart, BankInfo, VersionInfo, WriteStart, WriteEnd, ModeEnd, Packet}
 use Rattle.client.specs.declared.perform.Served.{Served}
+use Rattle.exchange.proofs.Bearing.{Packed, Bears, Asks, asks}
 use Rattle.decision.specs.declared.plan.Plan.{Plan}
 use Rattle.decision.specs.declared.plan.Standing.{Standing}
 use Rattle.decision.specs.declared.plan.Plan.the-variants.{Keep, Open, Close, Begin, Store, Wear, Finish}
 use Rattle.client.specs.declared.record.Client.{Client}
 use Rattle.client.specs.declared.step.Stepped.{Stepped}
 use Rattle.exchange.specs.Answer.{answerBytes, Say·Is}
-use Rattle.exchange.specs.Command.{byCode, askedBy, askedOf, fitsState, isClosed}
+use Rattle.exchange.specs.Command.{askedOf, fitsState, isClosed}
 use Rattle.decision.specs.Plan.{lentGood, isWorn, anyWorn, valuesGood, addressesGood, planStart, planEnd, planPacket, planGood, planCommand, planAsked, planOf, Plan·Is}
 use Rattle.client.specs.Perform.{servedOf, Served·Is, Fair}
 use Rattle.client.specs.Step.{noticeOf, Addressed, Carried, carriedOf, Carried·Is, targetOf, zeroOf, oneOf, planned, stepOf, Step·Is}
 use Rattle.decision.proofs.Planning.{Lent, lent, values-low, values-high}
 use Rattle.client.specs.Record.{standingOf}
-
--- ---- where the bytes of a packet lie
-
-abbrev Inside : Command → ℕ → Type 0
-Inside ModeStart d = Unit {0}
-Inside BankInfo d = Unit {0}
-Inside VersionInfo d = Unit {0}
-Inside WriteStart d = Unit {0}
-Inside WriteEnd d = Unit {0}
-Inside ModeEnd d = Unit {0}
-Inside (Packet sector m) d = m + 5 ≤ d
-
-abbrev Held : ℕ → Asked → Type 0
-Held d Fault = Unit {0}
-Held d NoRequest = Unit {0}
-Held d (WrongLength command) = Unit {0}
-Held d (Right command) = Inside command d
-
-held-code : (d code n : ℕ) → Held d (byCode code n)
-unfolding byCode
-held-code d code n =
-    split (Held d) (eqb code 0x61) (λ _. split (Held d) (eqb n 0) (λ _. tt) (λ _. tt))
-    (λ _. split (Held d) (eqb code 0x62) (λ _. split (Held d) (eqb n 0) (λ _. tt) (λ _. tt))
-    (λ _. split (Held d) (eqb code 0x68) (λ _. split (Held d) (eqb n 0) (λ _. tt) (λ _. tt))
-    (λ _. split (Held d) (eqb code 0x40) (λ _. split (Held d) (eqb n 8) (λ _. tt) (λ _. tt))
-    (λ _. split (Held d) (eqb code 0x45) (λ _. split (Held d) (eqb n 0) (λ _. tt) (λ _. tt))
-    (λ _. split (Held d) (eqb code 0x64) (λ _. split (Held d) (eqb n 0) (λ _. tt) (λ _. tt)) (λ _. tt))))))
-
-held-asked : (d : List ℕ) → Held (length d) (askedOf d)
-unfolding askedBy
-held-asked d = by (readOf d) (told d)
-  where
-    by : (r : Read) → Told d r → Held (length d) (askedBy r)
-    by read.Fault t = tt
-    by (read.Control code n) t = held-code (length d) code n
-    by (read.Write sector m footer) t = omega (arith, t .whole)
 
 -- ---- what the doing needs of a plan
 
@@ -80,38 +42,38 @@ module _ (c : Client) (marks datagram : List ℕ) (t : ℕ) (good : goodN (c .n)
   abbrev IsFair : Plan → Type 0
   IsFair plan = Fair plan t (length datagram)
 
-  fair-packet : (sector m : ℕ) → m + 5 ≤ length datagram → IsFair (planPacket (c .n) marks sector m)
+  fair-packet : (sector m : ℕ) → Packed datagram sector m → IsFair (planPacket (c .n) marks sector m)
   unfolding planPacket
-  fair-packet sector m h =
+  fair-packet sector m b =
       split IsFair (valuesGood (c .n) sector m)
       (λ e. split IsFair (isWorn (getD marks (sector - 1) 0)) (λ _. tt)
       (λ _.
       let low = values-low (c .n) sector m e in
       let high = values-high (c .n) sector m e in
       let most = good-high (c .n) good in
-      record { first = low; last = omega arith; inside = omega arith; sent = h }))
+      record { first = low; last = omega arith; inside = omega arith; sent = b .inside }))
       (λ _. tt)
 
-  fair-good : (command : Command) → Inside command (length datagram) → IsFair (planGood (standingOf c) command marks datagram)
+  fair-good : (command : Command) → Bears datagram command → IsFair (planGood (standingOf c) command marks datagram)
   unfolding planGood planStart planEnd
-  fair-good ModeStart h = tt
-  fair-good BankInfo h = tt
-  fair-good VersionInfo h = tt
-  fair-good WriteStart h = split IsFair (addressesGood (c .n) (c .running) datagram) (λ _. tt) (λ _. tt)
-  fair-good WriteEnd h = split IsFair (anyWorn marks) (λ _. tt) (λ _. tt)
-  fair-good ModeEnd h = tt
-  fair-good (Packet sector m) h = fair-packet sector m h
+  fair-good ModeStart b = tt
+  fair-good BankInfo b = tt
+  fair-good VersionInfo b = tt
+  fair-good WriteStart b = split IsFair (addressesGood (c .n) (c .running) datagram) (λ _. tt) (λ _. tt)
+  fair-good WriteEnd b = split IsFair (anyWorn marks) (λ _. tt) (λ _. tt)
+  fair-good ModeEnd b = tt
+  fair-good (Packet sector m) b = fair-packet sector m b
 
-  fair-command : (command : Command) → Inside command (length datagram) → IsFair (planCommand (standingOf c) command marks datagram)
+  fair-command : (command : Command) → Bears datagram command → IsFair (planCommand (standingOf c) command marks datagram)
   unfolding planCommand
-  fair-command command h = split IsFair (fitsState (c .state) command) (λ _. fair-good command h) (λ _. tt)
+  fair-command command b = split IsFair (fitsState (c .state) command) (λ _. fair-good command b) (λ _. tt)
 
-  fair-asked : (asked : Asked) → Held (length datagram) asked → IsFair (planAsked (standingOf c) asked marks datagram)
+  fair-asked : (asked : Asked) → Asks datagram asked → IsFair (planAsked (standingOf c) asked marks datagram)
   unfolding planAsked
-  fair-asked Fault h = tt
-  fair-asked NoRequest h = tt
-  fair-asked (WrongLength command) h = tt
-  fair-asked (Right command) h = fair-command command h
+  fair-asked Fault b = tt
+  fair-asked NoRequest b = tt
+  fair-asked (WrongLength command) b = tt
+  fair-asked (Right command) b = fair-command command b
 
 module _ (c : Client) (bank0 bank1 marks address buffer datagram : List ℕ) where
   pub lent-well : not (lentGood (c .n) (length bank0) (length bank1) (length marks) (length address) (length buffer)) ≡ false
@@ -133,7 +95,7 @@ module _ (c : Client) (bank0 bank1 marks address buffer datagram : List ℕ) whe
       split P (not (goodN (c .n))) (λ _. tt)
       (λ g. split P (not (lentGood (c .n) (length bank0) (length bank1) (length marks) (length address) (length buffer))) (λ _. tt)
       (λ l. split P (isClosed (c .state)) (λ _. tt)
-      (λ _. fair-asked c marks datagram t (not-false _ g) (whole-target (lent-well l)) (askedOf datagram) (held-asked datagram))))
+      (λ _. fair-asked c marks datagram t (not-false _ g) (whole-target (lent-well l)) (askedOf datagram) (asks datagram))))
 
   addressed-any : (plan : Plan) → length address ≡ 16 → Addressed plan (length address)
   addressed-any (Keep answer) e = tt
