@@ -1,4 +1,4 @@
-// A bank: where it lies, whether its contents are sound, and its bodies.
+// A bank: whether its contents are sound, and its bodies.
 mod bodies;
 pub mod body;
 pub mod check;

@@ -2,15 +2,13 @@
 -- Assumes nothing.
 use mathlib.Core.Path.{_≡_, refl, sym, ap, ap₂, _∙_}
 use mathlib.Core.Logic.{_⊎_, inl, inr}
-use mathlib.Core.Bool.{Bool, true, false, not, _&&_, _||_, false≢true}
+use mathlib.Core.Bool.{Bool, true, false, _||_, false≢true}
 use mathlib.Core.List.{List}
-use Prim.Native.Nat.{ℕ, _*_, _%_, _≤_}
+use Prim.Native.Nat.{ℕ, _%_, _≤_}
 use native.Mathlib.Omega.{arith}
-use lib.Dec.{eqb, leb}
 use lib.ListN.{length}
-use borrow.Author.Tests.{leb-true, eqb-true, not-false}
 use Rattle.buffer.specs.Compare.{blankOf}
-use Rattle.buffer.proofs.Bools.{split, and-left, and-right}
+use Rattle.buffer.proofs.Bools.{split}
 use Rattle.crc.specs.Crc.{crcOf}
 use Rattle.frame.specs.Read.{bytesIn}
 use Rattle.buffer.specs.Place.{frontOf}
@@ -20,7 +18,6 @@ use Rattle.flash.proofs.Sweeps.{length-sweep}
 use Rattle.flash.proofs.Writes.{FitsAt, length-written, written-here}
 use Rattle.layout.specs.declared.Bank.{Bank}
 use Rattle.layout.specs.declared.Bank.the-variants.{Zero, One}
-use Rattle.layout.specs.Layout.{sectorSize, goodN}
 use Rattle.exchange.specs.declared.answer.Answer.{Answer}
 use Rattle.exchange.specs.declared.answer.Answer.the-variants.{Response, Written}
 use Rattle.decision.specs.declared.plan.Plan.{Plan}
@@ -29,39 +26,26 @@ use Rattle.client.specs.declared.record.Client.{Client}
 use Rattle.exchange.specs.declared.state.State.{State}
 use Rattle.exchange.specs.declared.state.State.the-variants as state
 use Rattle.exchange.specs.Answer.{answerBytes}
-use Rattle.exchange.specs.Command.{askedOf, isClosed}
-use Rattle.decision.specs.Plan.{lentGood, valuesGood, planAsked, planOf}
+use Rattle.decision.specs.Plan.{planOf}
 use Rattle.client.specs.Perform.{fitOf, Accepted, storeResult, sectorCrc, Done, storeOf, checkedOf, servedOf}
 use Rattle.client.specs.Record.{standingOf, Stays, noneReceived, marked}
 use Rattle.client.specs.Step.{noticeOf, Carried, carriedOf, saidOf, targetOf, planned, stepOf}
-use Rattle.decision.proofs.Planning.{values-low, values-high}
+use Rattle.decision.proofs.Planning.{values-low, values-high, values-short, values-whole}
+use Rattle.decision.proofs.Leading.{Quiet}
+use Rattle.decision.proofs.Leading.{Leads as Decided}
 use Rattle.exchange.proofs.Saying.{answer-short}
-use Rattle.client.proofs.Leading.{Quiet, Storing, Beginning, Finishing, Leads, leads}
+use Rattle.client.proofs.Leading.{Storing, Beginning, Finishing, Leads, heard, decides, leads}
 
 -- ---- a packet that is stored fits its sector
-
-module _ (n sector m : ℕ) (e : valuesGood n sector m ≡ true) where
-  short-words : (leb m sectorSize && eqb (m % 4) 0) ≡ true
-  unfolding valuesGood
-  short-words =
-      let words : Bool = leb m sectorSize && eqb (m % 4) 0 in
-      and-right (leb 1 m) words
-      (and-right (leb sector n) (leb 1 m && words) (and-right (leb 1 sector) (leb sector n && (leb 1 m && words)) e))
-
-  values-short : m ≤ sectorSize
-  values-short = leb-true m sectorSize (and-left (leb m sectorSize) (eqb (m % 4) 0) short-words)
-
-  values-words : m % 4 ≡ 0
-  values-words = eqb-true (m % 4) 0 (and-right (leb m sectorSize) (eqb (m % 4) 0) short-words)
 
 pub fits-stored : (c : Client) (target datagram : List ℕ) (sector m : ℕ) → Storing c (length target) datagram sector m → FitsAt target sector (bytesIn datagram m)
 fits-stored c target datagram sector m s =
     let low = values-low (c .n) sector m (s .values) in
     let high = values-high (c .n) sector m (s .values) in
     let whole = s .whole in
-    let sent = s .sent in
+    let sent = s .packed .sent in
     let short = values-short (c .n) sector m (s .values) in
-    let words = values-words (c .n) sector m (s .values) in
+    let words = values-whole (c .n) sector m (s .values) in
     record {
       inside = record { first = low; last = omega arith };
       short = omega arith;
@@ -217,32 +201,26 @@ module _ (c : Client) (bank0 bank1 marks address buffer datagram : List ℕ) whe
   answered-by : Plan → Answer
   answered-by plan = carriedOf c plan (targetOf (c .running) bank0 bank1) address buffer datagram .answer
 
-  kept-fits : (answer : Answer) → length (answerBytes answer) ≡ 0 → length (answerBytes (answered-by (Keep answer))) ≤ length buffer
+  roomy : (answer : Answer) → heard c bank0 bank1 marks address buffer datagram → length (answerBytes answer) ≤ length buffer
+  roomy answer h = let short = answer-short answer in let room = h .lengths .roomy in omega arith
+
+  fits : (plan : Plan) → Decided (standingOf c) (heard c bank0 bank1 marks address buffer datagram) datagram plan → length (answerBytes (answered-by plan)) ≤ length buffer
   unfolding answered-by carriedOf servedOf
-  kept-fits answer e = omega arith
-
-  room-fits : (answer : Answer) → 14 ≤ length buffer → length (answerBytes answer) ≤ length buffer
-  room-fits answer h = let short = answer-short answer in omega arith
-
-  room : lentGood (c .n) (length bank0) (length bank1) (length marks) (length address) (length buffer) ≡ true → 14 ≤ length buffer
-  unfolding lentGood
-  room e =
-      let p : Bool = eqb (length bank0) (c .n * sectorSize) in
-      let q : Bool = eqb (length bank1) (c .n * sectorSize) in
-      let r : Bool = eqb (length marks) (c .n) in
-      let s : Bool = eqb (length address) 16 in
-      let t : Bool = leb 14 (length buffer) in
-      leb-true 14 (length buffer) (and-right s t (and-right r (s && t) (and-right q (r && (s && t)) (and-right p (q && (r && (s && t))) e))))
+  fits (Keep answer) h = by (h .1)
+    where
+      by : (length (answerBytes answer) ≡ 0) ⊎ heard c bank0 bank1 marks address buffer datagram → length (answerBytes answer) ≤ length buffer
+      by (inl e) = omega arith
+      by (inr r) = roomy answer r
+  fits Open h = roomy (answered-by Open) h
+  fits Close h = roomy (answered-by Close) h
+  fits Begin h = roomy (answered-by Begin) h
+  fits (Store sector m) h = roomy (answered-by (Store sector m)) (h .0)
+  fits Wear h = roomy (answered-by Wear) h
+  fits Finish h = roomy (answered-by Finish) (h .0)
 
   pub step-fits : length (answerBytes (stepOf c bank0 bank1 marks address buffer datagram .answer)) ≤ length buffer
-  unfolding stepOf planOf answered-by answerBytes
-  step-fits =
-      let P : Plan → Type 0 = λ plan. length (answerBytes (answered-by plan)) ≤ length buffer in
-      split P (not (goodN (c .n))) (λ _. kept-fits _ refl)
-      (λ g. split P (not (lentGood (c .n) (length bank0) (length bank1) (length marks) (length address) (length buffer))) (λ _. kept-fits _ refl)
-      (λ l. split P (isClosed (c .state)) (λ _. kept-fits _ refl)
-      (λ _.
-      room-fits (answered-by (planAsked (standingOf c) (askedOf datagram) marks datagram)) (room (not-false _ l)))))
+  unfolding stepOf answered-by
+  step-fits = fits (planned c bank0 bank1 marks address buffer datagram) (decides c bank0 bank1 marks address buffer datagram)
 
 -- the same plan on either board: it looks at lengths alone
 module _ (c : Client) (a0 a1 b0 b1 marks address buffer datagram : List ℕ) (zero : length a0 ≡ length b0) (one : length a1 ≡ length b1) where

@@ -8,7 +8,7 @@ use Rattle.layout.specs.Layout.{goodN}
 use Rattle.client.specs.declared.host.Told.the-variants.{Done, BadN, InVain}
 use Rattle.client.specs.declared.record.Client.{Client}
 use Rattle.client.specs.Record.{newClient, initiated, terminated}
-use Rattle.exchange.specs.Command.{isClosed}
+use Rattle.exchange.specs.State.{isClosed}
 use Rattle.client.specs.Host.{hosted, newOf, initiateOf, terminateOf}
 
 module _ (n : ℕ) (running : Bank) (major minor revision : ℕ) where

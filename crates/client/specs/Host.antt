@@ -9,10 +9,10 @@ use Rattle.client.specs.declared.host.Hosted.{Hosted}
 use Rattle.client.specs.declared.host.Told.{Told}
 use Rattle.client.specs.declared.host.Told.the-variants.{Done, BadN, InVain}
 use Rattle.client.specs.declared.record.Client.{Client}
-use Rattle.exchange.specs.Command.{isClosed}
+use Rattle.exchange.specs.State.{isClosed}
 use Rattle.client.specs.Record.{newClient, initiated, terminated}
 
--- the paper's numbers; a command that is done has none
+-- the paper's numbers; 0 stands for none, where a command is done
 abbrev pub toldNumber : Told → ℕ
 toldNumber Done = 0
 toldNumber BadN = 3

@@ -1,4 +1,4 @@
--- The client's record, and every way in which it changes (01, 'The client, step by step').
+-- The client's record, what of it a datagram is decided by, and every way in which it changes (01, 'The client, step by step').
 -- Assumes nothing.
 use mathlib.Core.Path.{_≡_}
 use mathlib.Core.Bool.{Bool, true, false}

@@ -1,4 +1,4 @@
-// The client's record, and every way in which it changes.
+// The client's record, what of it a datagram is decided by, and every way in which it changes.
 use decision::plan::Standing;
 use exchange::state::State;
 use layout::Bank;

@@ -22,8 +22,9 @@ use Rattle.exchange.specs.declared.command.Command.the-variants.{WriteStart, Pa
 use Rattle.decision.specs.declared.plan.Plan.{Plan}
 use Rattle.decision.specs.declared.plan.Plan.the-variants.{Keep, Begin, Store, Wear, Finish}
 use Rattle.decision.specs.declared.plan.Standing.{Standing}
-use Rattle.exchange.specs.Command.{askedOf, isClosed, fitsState, declinedOf}
-use Rattle.decision.specs.Plan.{lentGood, anyWorn, valuesGood, addressesGood, planStart, planEnd, planPacket, planGood, planCommand, planAsked, planOf}
+use Rattle.exchange.specs.State.{isClosed}
+use Rattle.exchange.specs.Command.{askedOf, fitsState, declinedOf}
+use Rattle.decision.specs.Plan.{lentGood, anyWorn, parameterFault, valuesGood, addressesGood, planStart, planEnd, planPacket, planGood, planCommand, planAsked, planOf}
 
 -- ---- the lent lengths
 
@@ -51,13 +52,14 @@ module _ (n bank0 bank1 marks address buffer : ℕ) where
       lent-buffer m d = simp (eq-eqb _ _ a, eq-eqb _ _ b, eq-eqb _ _ m, eq-eqb _ _ d)
 
 -- what good lengths tell
-pub record Lent (n bank0 bank1 marks address : ℕ) : Type 0 where
+pub record Lent (n bank0 bank1 marks address buffer : ℕ) : Type 0 where
   pub zero-whole : bank0 ≡ n * sectorSize
   pub one-whole : bank1 ≡ n * sectorSize
   pub marked : marks ≡ n
   pub addressed : address ≡ 16
+  pub roomy : 14 ≤ buffer
 
-pub lent : (n bank0 bank1 marks address buffer : ℕ) → lentGood n bank0 bank1 marks address buffer ≡ true → Lent n bank0 bank1 marks address
+pub lent : (n bank0 bank1 marks address buffer : ℕ) → lentGood n bank0 bank1 marks address buffer ≡ true → Lent n bank0 bank1 marks address buffer
 unfolding lentGood
 lent n bank0 bank1 marks address buffer e =
     let p : Bool = eqb bank0 (n * sectorSize) in
@@ -73,6 +75,7 @@ lent n bank0 bank1 marks address buffer e =
       one-whole = eqb-true bank1 (n * sectorSize) (and-left q (r && (s && t)) f);
       marked = eqb-true marks n (and-left r (s && t) g);
       addressed = eqb-true address 16 (and-left s t h);
+      roomy = leb-true 14 buffer (and-right s t h);
     }
 
 -- ---- worn sectors
@@ -123,22 +126,32 @@ module _ (n sector m : ℕ) where
       unfolding valuesGood
       values-words d e = simp (le-leb _ _ a, le-leb _ _ b, le-leb _ _ d, le-leb _ _ e)
 
-  -- what good values tell of the sector
-  pub values-low : valuesGood n sector m ≡ true → 1 ≤ sector
-  unfolding valuesGood
-  values-low e = leb-true 1 sector (and-left (leb 1 sector) (leb sector n && (leb 1 m && (leb m sectorSize && eqb (m % 4) 0))) e)
+  -- what good values tell of sector and length
+  module _ (e : valuesGood n sector m ≡ true) where
+    within : (leb sector n && (leb 1 m && (leb m sectorSize && eqb (m % 4) 0))) ≡ true
+    unfolding valuesGood
+    within = and-right (leb 1 sector) (leb sector n && (leb 1 m && (leb m sectorSize && eqb (m % 4) 0))) e
 
-  pub values-high : valuesGood n sector m ≡ true → sector ≤ n
-  unfolding valuesGood
-  values-high e =
-      leb-true sector n
-      (and-left (leb sector n) (leb 1 m && (leb m sectorSize && eqb (m % 4) 0))
-      (and-right (leb 1 sector) (leb sector n && (leb 1 m && (leb m sectorSize && eqb (m % 4) 0))) e))
+    lengths : (leb m sectorSize && eqb (m % 4) 0) ≡ true
+    lengths = and-right (leb 1 m) (leb m sectorSize && eqb (m % 4) 0) (and-right (leb sector n) (leb 1 m && (leb m sectorSize && eqb (m % 4) 0)) within)
+
+    pub values-low : 1 ≤ sector
+    unfolding valuesGood
+    values-low = leb-true 1 sector (and-left (leb 1 sector) (leb sector n && (leb 1 m && (leb m sectorSize && eqb (m % 4) 0))) e)
+
+    pub values-high : sector ≤ n
+    values-high = leb-true sector n (and-left (leb sector n) (leb 1 m && (leb m sectorSize && eqb (m % 4) 0)) within)
+
+    pub values-short : m ≤ sectorSize
+    values-short = leb-true m sectorSize (and-left (leb m sectorSize) (eqb (m % 4) 0) lengths)
+
+    pub values-whole : m % 4 ≡ 0
+    values-whole = eqb-true (m % 4) 0 (and-right (leb m sectorSize) (eqb (m % 4) 0) lengths)
 
   module _ (marks : List ℕ) where
-    pub packet-bad : (a : Answer) → a ≡ declinedOf (Packet sector m) 0x05 → valuesGood n sector m ≡ false → Keep a ≡ planPacket n marks sector m
+    pub packet-bad : (p : Plan) → p ≡ Keep (parameterFault (Packet sector m)) → valuesGood n sector m ≡ false → p ≡ planPacket n marks sector m
     unfolding planPacket
-    packet-bad a is g = rw (is, g)
+    packet-bad p is g = rw (is, g)
 
     pub packet-worn : valuesGood n sector m ≡ true → (getD marks (sector - 1) 0 ≡ 0 → ⊥) → Keep (Written sector 0x06 0x1C 0) ≡ planPacket n marks sector m
     unfolding planPacket
@@ -151,12 +164,12 @@ module _ (n sector m : ℕ) where
 -- ---- the addresses
 
 module _ (n : ℕ) (running : Bank) (datagram : List ℕ) (target : Bank) (is : target ≡ otherOf running) (a s : ℕ) (first : a ≡ numberAt 4 datagram 3) (begin : s ≡ startOf target) where
-  pub start-first : (w : Answer) → w ≡ declinedOf WriteStart 0x05 → (a ≡ s → ⊥) → Keep w ≡ planStart n running datagram
+  pub start-first : (w : Plan) → w ≡ Keep (parameterFault WriteStart) → (a ≡ s → ⊥) → w ≡ planStart n running datagram
   unfolding planStart addressesGood
   start-first w v e = rw (v, ← is, ← first, ← begin) (simp (ne-eqb _ _ e))
 
   module _ (b e : ℕ) (second : b ≡ numberAt 4 datagram 7) (end : e ≡ endOf target n) (p : a ≡ s) where
-    pub start-second : (w : Answer) → w ≡ declinedOf WriteStart 0x05 → (b ≡ e → ⊥) → Keep w ≡ planStart n running datagram
+    pub start-second : (w : Plan) → w ≡ Keep (parameterFault WriteStart) → (b ≡ e → ⊥) → w ≡ planStart n running datagram
     unfolding planStart addressesGood
     start-second w v q = rw (v, ← is, ← first, ← begin, ← second, ← end) (simp (eq-eqb _ _ p, ne-eqb _ _ q))
 

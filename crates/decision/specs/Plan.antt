@@ -20,7 +20,8 @@ use Rattle.exchange.specs.declared.command.Command.the-variants.{ModeStart, Ban
 use Rattle.decision.specs.declared.plan.Plan.{Plan}
 use Rattle.decision.specs.declared.plan.Plan.the-variants.{Keep, Open, Close, Begin, Store, Wear, Finish}
 use Rattle.decision.specs.declared.plan.Standing.{Standing}
-use Rattle.exchange.specs.Command.{askedOf, isClosed, fitsState, declinedOf}
+use Rattle.exchange.specs.State.{isClosed}
+use Rattle.exchange.specs.Command.{askedOf, fitsState, declinedOf}
 
 -- number 2: both banks 512·N bytes, N marks, a 16-byte address, an answer buffer of at least 14
 unfoldable pub lentGood : ℕ → ℕ → ℕ → ℕ → ℕ → ℕ → Bool

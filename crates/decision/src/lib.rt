@@ -1,2 +1,2 @@
-// Decide: what a datagram leads to, by what the client's record says and by the lengths of what is lent.
+// Decide: what a datagram leads to, by it, the marks and what the client's record says; of banks, address and buffer by the lengths alone.
 pub mod plan;

@@ -9,7 +9,8 @@ ghost use mathlib.Core.Path.{_≡_};
 ghost use Prim.Native.Nat.{_≤_};
 ghost use lib.ListN.{length};
 ghost use Rattle.layout.specs.Layout.{mostSectors};
-ghost use Rattle.decision.specs.Plan.{lentGood, anyWorn, valuesGood, planStart, planEnd, planPacket, planCommand, planAsked, Plan·Is};
+ghost use Rattle.decision.specs.declared.plan.Plan.the-variants.{Keep};
+ghost use Rattle.decision.specs.Plan.{lentGood, anyWorn, parameterFault, valuesGood, planStart, planEnd, planPacket, planCommand, planAsked, Plan·Is};
 
 // What of a client's record the deciding looks at.
 pub struct Standing {
@@ -103,12 +104,19 @@ fn values_good(n: usize, sector: u16, m: usize) -> bool
     m % 4 == 0
 }
 
+// Parameters that are wrong.
+fn parameter_fault(command: Command) -> Plan
+    ensures { λ r. ⌜ r ≡ Keep (parameterFault command) ⌝ }
+{
+    Plan::Keep(exchange::command::declined(command, 0x05))
+}
+
 fn plan_packet(n: usize, marks: &[u8], sector: u16, m: usize) -> Plan
     requires { ⌜ length (now marks) ≡ n ⌝ }
     ensures { λ r. ⌜ r ≡ planPacket n (now (marks .entry)) sector m ⌝ }
 {
     if !values_good(n, sector, m) {
-        return Plan::Keep(exchange::command::declined(Command::Packet { sector, length: m }, 0x05));
+        return parameter_fault(Command::Packet { sector, length: m });
     }
     let k = sector as usize;
     if marks[k - 1] != 0 {
@@ -138,10 +146,10 @@ fn plan_start(n: usize, running: Bank, datagram: &[u8]) -> Plan
 {
     let target = layout::other(running);
     if buffer::number::number4(datagram, 3) != layout::start_address(target) {
-        return Plan::Keep(exchange::command::declined(Command::WriteStart, 0x05));
+        return parameter_fault(Command::WriteStart);
     }
     if buffer::number::number4(datagram, 7) != layout::end_address(target, n) {
-        return Plan::Keep(exchange::command::declined(Command::WriteStart, 0x05));
+        return parameter_fault(Command::WriteStart);
     }
     Plan::Begin
 }
@@ -182,7 +190,7 @@ impl Standing {
                 code: 0xE0,
                 result: 0x05,
             }),
-            Asked::WrongLength(command) => Plan::Keep(exchange::command::declined(command, 0x05)),
+            Asked::WrongLength(command) => parameter_fault(command),
             Asked::Right(command) => self.plan_command(command, marks, datagram),
         }
     }

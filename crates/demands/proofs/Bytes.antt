@@ -11,7 +11,7 @@ use Rattle.exchange.specs.declared.answer.Answer.{Answer}
 use Rattle.exchange.specs.declared.answer.Answer.the-variants.{Refused, FrameError, Response, BankIs, VersionIs, Written}
 use Rattle.exchange.specs.Answer.{answerBytes}
 use Rattle.client.specs.Perform.{Accepted}
-use Rattle.client.proofs.Leading.{Quiet}
+use Rattle.decision.proofs.Leading.{Quiet}
 use Rattle.demands.specs.Session.{isBegin, isEnd, isStored}
 
 either : (a b c : Bool) → (a && (b || c)) ≡ false → ((a && b) || (a && c)) ≡ false

@@ -33,7 +33,8 @@ use Rattle.client.specs.declared.record.Latest.{Latest}
 use Rattle.exchange.specs.declared.state.State.{State}
 use Rattle.exchange.specs.declared.state.State.the-variants as state
 use Rattle.exchange.specs.Answer.{refusalNumber, answerBytes}
-use Rattle.exchange.specs.Command.{byCode, askedBy, isClosed}
+use Rattle.exchange.specs.State.{isClosed}
+use Rattle.exchange.specs.Command.{byCode, askedBy}
 use Rattle.client.specs.Host.{initiateOf, terminateOf}
 use Rattle.client.specs.Notice.{noNotice}
 use Rattle.client.specs.Perform.{fitOf, storeResult, storeOf, checkedOf, servedOf}
@@ -42,7 +43,7 @@ use Rattle.client.specs.Record.{standingOf, marked}
 use Rattle.client.specs.Step.{Carried, carriedOf, targetOf, zeroOf, oneOf, stepOf}
 use Rattle.client.proofs.Courses.{fits-stored}
 use Rattle.decision.proofs.Planning.{lent}
-use Rattle.client.proofs.Stepping.{whole-target}
+use Rattle.client.proofs.Leading.{whole-target}
 use Rattle.demands.specs.Board.{Board, board, Call, Input, Initiate, Terminate, Datagram, Outcome, backIn, answerNumber, lentTarget, callOutcome, stepMachine}
 use Rattle.demands.specs.Demand1.{firstOf, isFault, refused, changed, answered, stored, afterFrame, callRows, tableOf, sweptTarget, Meets1}
 use Rattle.demands.proofs.Sessions.{written-with}

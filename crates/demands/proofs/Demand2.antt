@@ -38,7 +38,7 @@ use Rattle.exchange.specs.declared.answer.Answer.the-variants.{Response, Writte
 use Rattle.client.specs.declared.record.Latest.the-variants.{Good}
 use Rattle.exchange.specs.declared.state.State.the-variants as state
 use Rattle.exchange.specs.Answer.{writtenBytes, answerBytes}
-use Rattle.exchange.specs.Command.{isClosed}
+use Rattle.exchange.specs.State.{isClosed}
 use Rattle.client.specs.Notice.{noNotice}
 use Rattle.client.specs.Perform.{Accepted, fitOf, storeResult}
 use Rattle.decision.specs.Plan.{isWorn, anyWorn, valuesGood, addressesGood}

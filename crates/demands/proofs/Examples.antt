@@ -37,7 +37,7 @@ use Rattle.hex.specs.Read.{readOf as readText}
 use Rattle.exchange.specs.declared.state.State.{State}
 use Rattle.exchange.specs.declared.state.State.the-variants as state
 use Rattle.exchange.specs.Answer.{writtenBytes, answerBytes}
-use Rattle.exchange.specs.Command.{isClosed}
+use Rattle.exchange.specs.State.{isClosed}
 use Rattle.client.specs.Perform.{storeResult}
 use Rattle.decision.specs.Plan.{isWorn, valuesGood}
 use Rattle.client.specs.Step.{targetOf, zeroOf, oneOf}

@@ -12,7 +12,7 @@ use Rattle.sender.specs.declared.request.Request.the-variants.{ModeStart, ModeE
 use Rattle.sender.specs.Request.{requestFrame}
 use Rattle.client.specs.declared.notice.Kind.the-variants.{Started, Ended}
 use Rattle.client.specs.declared.record.Latest.{Latest}
-use Rattle.exchange.specs.Command.{isClosed}
+use Rattle.exchange.specs.State.{isClosed}
 use Rattle.client.specs.Host.{newOf}
 use Rattle.client.specs.Notice.{noticeWith, noticeBytes, latestNumber}
 use Rattle.client.specs.Record.{newClient, initiated, opened, modeEnded}

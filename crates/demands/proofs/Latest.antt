@@ -54,7 +54,7 @@ module _ (n k : ℕ) (low : 1 ≤ k) (high : k ≤ n) where
           let bytes : List ℕ = bytesIn (call .datagram) m in
           let f = fits-stored (b .client) (lentTarget b call) (call .datagram) number m h in
           let whole : length image ≡ length (lentTarget b call) = at .size ∙ ap (λ (x : ℕ). x * sectorSize) (sym sectors) ∙ sym (h .whole) in
-          rw (a, written-begin number 0x06 write (crcOf (paddedOf bytes)), written-stored number write (crcOf (paddedOf bytes)) v, h .reads)
+          rw (a, written-begin number 0x06 write (crcOf (paddedOf bytes)), written-stored number write (crcOf (paddedOf bytes)) v, h .packed .reads)
           (put-at number (paddedOf bytes) (has-still whole (f .inside)) (length-padded bytes (f .short)))
       step-at (ends result u a t x h) = rw (a, ended-begin result, response-stored 0x75 result) at
 

@@ -38,7 +38,7 @@ use Rattle.response.specs.Response.{kindOf, mayCarry, addedOf, repeatsOf, store
 use Rattle.response.proofs.Answers.{plain-back, bank-back, version-back, written-back}
 use Rattle.exchange.specs.declared.answer.Answer.the-variants.{BankIs, VersionIs}
 use Rattle.exchange.specs.Answer.{versionBytes, writtenBytes, answerBytes}
-use Rattle.exchange.specs.Command.{isClosed}
+use Rattle.exchange.specs.State.{isClosed}
 use Rattle.client.specs.Perform.{Accepted, storeResult}
 use Rattle.decision.specs.Plan.{lentGood}
 use Rattle.client.proofs.Courses.{accepted}

@@ -27,7 +27,7 @@ use Rattle.client.specs.declared.host.Hosted.{Hosted}
 use Rattle.client.specs.declared.record.Client.{Client}
 use Rattle.exchange.specs.declared.state.State.the-variants as state
 use Rattle.exchange.specs.Answer.{answerBytes}
-use Rattle.exchange.specs.Command.{isClosed}
+use Rattle.exchange.specs.State.{isClosed}
 use Rattle.client.specs.Host.{initiateOf, terminateOf}
 use Rattle.client.specs.Record.{noneReceived}
 use Rattle.client.specs.Step.{Carried}
@@ -166,7 +166,7 @@ module _ (b : Board) (call : Call) where
         let most = good-high n (h .good) in
         let marked = o .marked in
         let e : now ≡ withSector image sector (paddedOf bytes) =
-        rw (a, written-begin sector 0x06 write (crcOf (paddedOf bytes)), written-stored sector write (crcOf (paddedOf bytes)) v, h .reads) in
+        rw (a, written-begin sector 0x06 write (crcOf (paddedOf bytes)), written-stored sector write (crcOf (paddedOf bytes)) v, h .packed .reads) in
         make next n (set (b .client .received) (sector - 1) true) (writtenAt (lentTarget b call) sector bytes) behind now stays-n (ap (λ (x : Client). x .received) k)
         (target-next ∙ ap (λ (l : List ℕ). l ++ behind) t)
         (length-written (lentTarget b call) sector bytes ∙ h .whole)

@@ -10,7 +10,7 @@ use Rattle.layout.specs.Layout.{goodN}
 use Rattle.client.specs.declared.host.Hosted.{Hosted}
 use Rattle.client.specs.declared.record.Client.{Client}
 use Rattle.client.specs.Body.{chosen}
-use Rattle.exchange.specs.Command.{isClosed}
+use Rattle.exchange.specs.State.{isClosed}
 use Rattle.client.specs.Host.{initiateOf, terminateOf}
 use Rattle.client.specs.Record.{Stays}
 use Rattle.client.proofs.Courses.{stays-same, step-stays, step-length}

@@ -36,7 +36,8 @@ use Rattle.sender.specs.Packet.{Count·Is, Packet·Is}
 use Rattle.sender.specs.Request.{Request·Is}
 use Rattle.response.specs.Response.{Response·Is}
 use Rattle.exchange.specs.Answer.{Say·Is}
-use Rattle.exchange.specs.Command.{Asked·Is, IsClosed·Is, FitsState·Is, Declined·Is}
+use Rattle.exchange.specs.State.{IsClosed·Is}
+use Rattle.exchange.specs.Command.{Asked·Is, FitsState·Is, Declined·Is}
 use Rattle.decision.specs.Plan.{Plan·Is}
 use Rattle.client.specs.Body.{Body·Is as NextBody·Is}
 use Rattle.client.specs.Host.{New·Is, Initiate·Is, Terminate·Is}

@@ -25,7 +25,7 @@ use Rattle.sender.specs.Request.{requestFrame}
 use Rattle.exchange.specs.declared.state.State.{State}
 use Rattle.exchange.specs.declared.state.State.the-variants as state
 use Rattle.exchange.specs.Answer.{writtenBytes}
-use Rattle.exchange.specs.Command.{isClosed}
+use Rattle.exchange.specs.State.{isClosed}
 use Rattle.demands.specs.Board.{Board, Call, Datagram, said, stepMachine}
 use Rattle.demands.specs.Demand2.{Lends}
 use Rattle.demands.specs.Session.{isStored}

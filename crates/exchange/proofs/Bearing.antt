@@ -1,6 +1,6 @@
 -- What a datagram bears that asks something: the bytes of a packet lie within it.
 -- Assumes nothing.
-use mathlib.Core.Path.{_≡_, refl}
+use mathlib.Core.Path.{_≡_, refl, subst}
 use mathlib.Core.List.{List}
 use Prim.Native.Nat.{ℕ, _+_, _≤_}
 use native.Mathlib.Omega.{arith}
@@ -51,15 +51,16 @@ asks-code d code n =
     (λ _. split (Asks d) (eqb code 0x45) (λ _. split (Asks d) (eqb n 0) (λ _. tt) (λ _. tt))
     (λ _. split (Asks d) (eqb code 0x64) (λ _. split (Asks d) (eqb n 0) (λ _. tt) (λ _. tt)) (λ _. tt))))))
 
--- the written bytes lie within the datagram
-sent-whole : (d : List ℕ) (m : ℕ) → length d ≡ m + 7 → length (bytesIn d m) ≡ m
-sent-whole d m e = length-take-le m (drop 5 d) (omega (arith, length-drop 5 d))
+pub packed : (d : List ℕ) (sector m : ℕ) (footer : Footer) → readOf d ≡ read.Write sector m footer → Packed d sector m
+packed d sector m footer e =
+    let w = subst (Told d) e (told d) .whole in
+    record { footer = footer; reads = e; inside = omega arith; sent = length-take-le m (drop 5 d) (omega (arith, length-drop 5 d)) }
 
 pub asks : (d : List ℕ) → Asks d (askedOf d)
 unfolding askedBy
-asks d = by (readOf d) refl (told d)
+asks d = by (readOf d) refl
   where
-    by : (r : Read) → readOf d ≡ r → Told d r → Asks d (askedBy r)
-    by read.Fault e t = tt
-    by (read.Control code n) e t = asks-code d code n
-    by (read.Write sector m footer) e t = record { footer = footer; reads = e; inside = omega (arith, t .whole); sent = sent-whole d m (t .whole) }
+    by : (r : Read) → readOf d ≡ r → Asks d (askedBy r)
+    by read.Fault e = tt
+    by (read.Control code n) e = asks-code d code n
+    by (read.Write sector m footer) e = packed d sector m footer e

@@ -1,6 +1,6 @@
 -- What a datagram asks of a client (01, 'The client, step by step', the table; 'What comes back when it is no').
 -- Assumes nothing.
-use mathlib.Core.Bool.{Bool, true, false, cond}
+use mathlib.Core.Bool.{Bool, cond}
 use mathlib.Core.List.{List}
 use mathlib.Core.Path.{_≡_}
 use Prim.Native.Nat.{ℕ}
@@ -16,6 +16,7 @@ use Rattle.exchange.specs.declared.command.Command.{Command}
 use Rattle.exchange.specs.declared.command.Command.the-variants.{ModeStart, BankInfo, VersionInfo, WriteStart, WriteEnd, ModeEnd, Packet}
 use Rattle.exchange.specs.declared.state.State.{State}
 use Rattle.exchange.specs.declared.state.State.the-variants as state
+use Rattle.exchange.specs.State.{stateNumber}
 
 -- "parameter length (control)": as many bytes as the request wants, or others
 abbrev pub counted : Command → ℕ → ℕ → Asked
@@ -50,20 +51,6 @@ stateFor WriteEnd = state.Write
 stateFor ModeEnd = state.Control
 stateFor (Packet sector length) = state.Write
 
--- states by number, so that two can be compared
-abbrev pub stateNumber : State → ℕ
-stateNumber state.Closed = 0
-stateNumber state.Idle = 1
-stateNumber state.Control = 2
-stateNumber state.Write = 3
-
--- the "closed" of number 1 and of the host's commands
-abbrev pub isClosed : State → Bool
-isClosed state.Closed = true
-isClosed state.Idle = false
-isClosed state.Control = false
-isClosed state.Write = false
-
 -- whether a command is accepted in a state
 abbrev pub fitsState : State → Command → Bool
 fitsState s command = eqb (stateNumber s) (stateNumber (stateFor command))
@@ -81,9 +68,6 @@ declinedOf (Packet sector length) result = Written sector result result 0
 -- the contracts
 abbrev pub Asked·Is : List ℕ → Asked → Type 0
 Asked·Is datagram r = r ≡ askedOf datagram
-
-abbrev pub IsClosed·Is : State → Bool → Type 0
-IsClosed·Is s r = r ≡ isClosed s
 
 abbrev pub FitsState·Is : State → Command → Bool → Type 0
 FitsState·Is s command r = r ≡ fitsState s command

@@ -1,6 +1,6 @@
 // The states of a client.
 ghost use mathlib.Core.Path.{_≡_};
-ghost use Rattle.exchange.specs.Command.{stateNumber, IsClosed·Is};
+ghost use Rattle.exchange.specs.State.{stateNumber, IsClosed·Is};
 
 pub enum State {
     Closed,

@@ -1,4 +1,4 @@
--- How 01 says an answer: a number of its table of refusals, a result of a response, or a plain value.
+-- How 01 says an answer, here and in the crates above: a number of its table of refusals, a result of a response, or a plain value.
 -- Assumes nothing.
 use Prim.Native.Nat.{ℕ}
 use Rattle.layout.specs.declared.Counted.{Counted}

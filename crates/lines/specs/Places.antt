@@ -1,4 +1,4 @@
--- The same by positions in the text, as the code goes; proofs/ ties these to the lines.
+-- Lines by positions in the text, and the contracts of the line reader.
 -- Assumes nothing.
 use Prim.Native.Nat.{ℕ, zero, suc, _+_, _≤_, _<_}
 use mathlib.Core.Path.{_≡_}

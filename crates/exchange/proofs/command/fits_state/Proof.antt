@@ -2,7 +2,7 @@
 -- Assumes nothing.
 use mathlib.Core.Path.{ap, ap₂, _∙_}
 use lib.Dec.{eqb}
-use Rattle.exchange.specs.Command.{stateNumber}
+use Rattle.exchange.specs.State.{stateNumber}
 use borrow.Author.Needs.{needs}
 use Rattle.exchange.proofs.command.fits_state.Statement.{statement}
 use Rattle.exchange.proofs.command.fits_state.Tie as tie

@@ -14,8 +14,8 @@ enum-told-2 c = search needs
 enum-known-asked : tie.Need-enum-known-asked
 enum-known-asked c = search needs
 
-declined-requires : tie.Need-declined-requires
-declined-requires c κs = search needs
+parameter-fault-requires : tie.Need-parameter-fault-requires
+parameter-fault-requires c κs = search needs
 
 enum-known-asked-2 : tie.Need-enum-known-asked-2
 enum-known-asked-2 c = search needs
@@ -33,7 +33,7 @@ returns-2 c = rw (c .enum-told2 .given .1)
 
 returns-3 : tie.Need-returns-3
 unfolding planAsked
-returns-3 c = rw ((c .before .before .asked .given .1), (c .declined .ensures))
+returns-3 c = rw (c .before .before .asked .given .1) (c .parameter-fault .ensures)
 
 returns-4 : tie.Need-returns-4
 unfolding planAsked
@@ -46,7 +46,7 @@ plan-asked-spec =
     enum-told
     enum-told-2
     enum-known-asked
-    declined-requires
+    parameter-fault-requires
     enum-known-asked-2
     plan-command-requires
     returns
