@@ -8,10 +8,10 @@ use lib.ListN.{take, drop}
 use Rattle.buffer.specs.Compare.{blankOf}
 use Rattle.buffer.proofs.Parts.{part-out}
 use Rattle.crc.specs.Crc.{crcOf}
-use Rattle.flash.specs.Bank.{sectorStart, WriteAt·Is}
-use Rattle.flash.proofs.Sectors.{lent-out}
+use Rattle.flash.specs.Bank.{WriteAt·Is}
 use Rattle.layout.specs.declared.Bank.{Bank}
-use Rattle.layout.specs.Layout.{otherOf, sectorSize}
+use Rattle.layout.specs.Layout.{otherOf, sectorSize, sectorStart}
+use Rattle.layout.proofs.Layouts.{lent-out}
 use Rattle.exchange.specs.declared.answer.Answer.the-variants.{Response, Written}
 use Rattle.client.specs.declared.perform.Served.{Served}
 use Rattle.client.specs.declared.record.Client.{Client}
