@@ -21,6 +21,10 @@ pub start-small : (bank : Bank) → startOf bank ≤ 0x14000A00
 start-small Zero = omega arith
 start-small One = omega arith
 
+pub good-told : (n : ℕ) → 1 ≤ n → n ≤ mostSectors → goodN n ≡ true
+unfolding goodN
+good-told n l h = and-both (leb 1 n) (leb n mostSectors) (le-leb 1 n l) (le-leb n mostSectors h)
+
 module _ (n : ℕ) where
   pub good-none : n < 1 → false ≡ goodN n
   unfolding goodN
@@ -41,8 +45,7 @@ module _ (n : ℕ) where
 
   -- so is every N below it
   pub good-below : goodN n ≡ true → (k : ℕ) → 1 ≤ k → k ≤ n → goodN k ≡ true
-  unfolding goodN
-  good-below e k l h = and-both (leb 1 k) (leb k mostSectors) (le-leb 1 k l) (le-leb k mostSectors (omega (arith, good-high e)))
+  good-below e k l h = good-told k l (omega (arith, good-high e))
 
   pub whole-good : wholeLength n ≡ true → goodN (n / sectorSize) ≡ true
   unfolding wholeLength
