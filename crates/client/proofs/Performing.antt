@@ -1,23 +1,27 @@
 -- Each way out of the carrying out.
 -- Assumes nothing.
-use mathlib.Core.Path.{_≡_, refl, ap, ap₂, _∙_}
+use mathlib.Core.Path.{_≡_, refl, sym, ap, ap₂, _∙_}
 use mathlib.Core.Bool.{Bool, true, false}
 use mathlib.Core.List.{List}
-use Prim.Native.Nat.{ℕ, _+_, _-_}
+use Prim.Native.Nat.{ℕ, _+_, _-_, _≤_}
 use lib.ListN.{take, drop}
 use Rattle.buffer.specs.Compare.{blankOf}
 use Rattle.buffer.proofs.Parts.{part-out}
 use Rattle.crc.specs.Crc.{crcOf}
-use Rattle.flash.specs.Bank.{sectorStart, WriteAt·Is}
-use Rattle.flash.proofs.Sectors.{lent-out}
+use Rattle.flash.specs.Bank.{WriteAt·Is}
 use Rattle.layout.specs.declared.Bank.{Bank}
-use Rattle.layout.specs.Layout.{otherOf, sectorSize}
+use Rattle.layout.specs.Layout.{otherOf, sectorSize, mostSectors, sectorStart, sectorOffset}
+use Rattle.layout.proofs.Layouts.{good-told, offset-good, lent-out}
 use Rattle.exchange.specs.declared.answer.Answer.the-variants.{Response, Written}
 use Rattle.client.specs.declared.perform.Served.{Served}
 use Rattle.client.specs.declared.record.Client.{Client}
 use Rattle.client.specs.declared.record.Latest.the-variants.{Good, Otherwise}
 use Rattle.client.specs.Record.{marked, ended}
 use Rattle.client.specs.Perform.{fitOf, storeResult, sectorCrc, done, storeOf, checkedOf, served, Served·Is}
+
+-- where the sector starts
+pub starts : (k start : ℕ) → (1 ≤ k) × (k ≤ mostSectors) → start ≡ sectorOffset k → start ≡ sectorStart k
+starts k start h e = e ∙ sym (offset-good k (good-told k (h .0) (h .1)))
 
 -- the part that is handed on is the sector
 pub crc-part : (bank : List ℕ) (k start r : ℕ) → start ≡ sectorStart k → r ≡ crcOf (take ((start + sectorSize) - start) (drop start bank)) → r ≡ sectorCrc bank k

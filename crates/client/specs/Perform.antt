@@ -8,10 +8,10 @@ use Prim.Native.Nat.{ℕ, _+_, _*_, _≤_}
 use Rattle.buffer.specs.Compare.{blankOf}
 use Rattle.crc.specs.Crc.{crcOf}
 use Rattle.frame.specs.Read.{bytesIn}
-use Rattle.flash.specs.Bank.{sectorOf, writtenAt, alreadyAt, sweptOf}
+use Rattle.flash.specs.Bank.{writtenAt, alreadyAt, sweptOf}
 use Rattle.bank.specs.declared.check.Verdict.{Verdict}
 use Rattle.bank.specs.declared.check.Verdict.the-variants as verdict
-use Rattle.layout.specs.Layout.{sectorSize, mostSectors, otherOf}
+use Rattle.layout.specs.Layout.{sectorSize, mostSectors, otherOf, sectorOf}
 use Rattle.bank.specs.Sound.{verdictOf}
 use Rattle.exchange.specs.declared.answer.Answer.{Answer}
 use Rattle.exchange.specs.declared.answer.Answer.the-variants.{Response, Written}

@@ -47,7 +47,7 @@ fn sector_crc(bank: &[u8], k: usize) -> u32
     requires { ⌜ k * sectorSize ≤ length (now bank) ⌝ }
     ensures { λ r. ⌜ r ≡ sectorCrc (now (bank .entry)) k ⌝ }
 {
-    let from = (k - 1) * layout::SECTOR;
+    let from = layout::sector_offset(k);
     crc::crc32(&bank[from..from + layout::SECTOR])
 }
 

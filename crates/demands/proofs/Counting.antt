@@ -10,8 +10,8 @@ use borrow.Author.Tests.{eq-eqb, ne-eqb}
 use Rattle.buffer.specs.Compare.{blankOf}
 use Rattle.flash.specs.Bank.{blankSector}
 use Rattle.flash.proofs.Blanks.{blank-whole}
-use Rattle.layout.specs.Layout.{sectorSize, goodN}
-use Rattle.sender.specs.Packet.{sectorOf, sentOf, packetCount, tallyOf}
+use Rattle.layout.specs.Layout.{sectorSize, sectorOf}
+use Rattle.sender.specs.Packet.{sentOf, packetCount, tallyOf}
 use Rattle.sender.proofs.Packets.{sent-blank, sent-more, sector-length}
 use Rattle.demands.specs.Counting.{Used, none-used, blank-one, used-one, MeetsCounter}
 
@@ -19,7 +19,7 @@ blank-is : blankOf blankSector ≡ true
 unfolding blankSector blankOf
 blank-is = refl
 
-module _ (image : List ℕ) (n : ℕ) (g : goodN n ≡ true) (e : length image ≡ sectorSize * n) where
+module _ (image : List ℕ) (n : ℕ) (e : length image ≡ sectorSize * n) where
   are-used : (k : ℕ) → k ≤ n → Used image k (packetCount image k)
   unfolding sentOf
   are-used zero h = none-used
@@ -28,7 +28,7 @@ module _ (image : List ℕ) (n : ℕ) (g : goodN n ≡ true) (e : length image �
       by : (t : Bool) → blankOf (sectorOf image (suc k)) ≡ t → Used image k (packetCount image k) → Used image (suc k) (packetCount image (suc k))
       by true t u =
           subst (Used image (suc k)) (sym (ap length (sent-blank image k t)))
-          (blank-one (blank-whole (sectorOf image (suc k)) (sector-length image n g e (suc k) (omega arith) h) t) u)
+          (blank-one (blank-whole (sectorOf image (suc k)) (sector-length image n e (suc k) (omega arith) h) t) u)
       by false t u =
           let more : suc (packetCount image k) ≡ packetCount image (suc k) = omega (arith, ap length (sent-more image k t), length-append (sentOf image k) (suc k ∷ [])) in
           subst (Used image (suc k)) more (used-one (λ b. false≢true (sym t ∙ ap blankOf b ∙ blank-is)) u)
@@ -40,5 +40,5 @@ counter-meets =
       bad-n = λ image n g. rw g;
       bad-length = λ image n g l. rw (g, ne-eqb (length image) (sectorSize * n) l);
       counted = λ image n g e.
-          record { count = packetCount image n; counts = rw (g, eq-eqb (length image) (sectorSize * n) e); used = are-used image n g e n (omega arith) };
+          record { count = packetCount image n; counts = rw (g, eq-eqb (length image) (sectorSize * n) e); used = are-used image n e n (omega arith) };
     }

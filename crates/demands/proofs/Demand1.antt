@@ -17,12 +17,12 @@ use Rattle.frame.specs.Read.{readOf, bytesIn}
 use Rattle.frame.specs.declared.read.Footer.{Footer}
 use Rattle.frame.specs.declared.read.Read.{Read}
 use Rattle.frame.specs.declared.read.Read.the-variants.{Fault, Control, Write}
-use Rattle.flash.specs.Bank.{sectorOf, withSector}
+use Rattle.flash.specs.Bank.{withSector}
 use Rattle.flash.specs.Sector.{paddedOf}
 use Rattle.flash.proofs.Writes.{FitsAt, written-here, already-same}
 use Rattle.layout.specs.declared.Bank.{Bank}
 use Rattle.layout.specs.declared.Bank.the-variants.{Zero, One}
-use Rattle.layout.specs.Layout.{sectorSize, goodN, otherOf}
+use Rattle.layout.specs.Layout.{sectorSize, goodN, otherOf, sectorOf}
 use Rattle.exchange.specs.declared.answer.Answer.{Answer}
 use Rattle.exchange.specs.declared.answer.Answer.the-variants.{Refused, FrameError, Response, BankIs, VersionIs, Written}
 use Rattle.client.specs.declared.notice.Notice.{Notice}

@@ -7,7 +7,7 @@ use mathlib.Core.List.{List, [], _∷_, append-nil, List·Memᴰ, List·Memᴰ·
 use Prim.Native.Nat.{ℕ, zero, suc, _-_, _*_, _≤_, _<_}
 use native.Mathlib.Decide.{ℕ-discrete}
 use native.Mathlib.Omega.{arith}
-use lib.ListN.{length, getD, take, drop, replicate, length-replicate, getD-replicate}
+use lib.ListN.{length, getD, take, replicate, length-replicate, getD-replicate}
 use lib.Seq.{length-take-le, take-all}
 use borrow.Author.Tests.{le-leb}
 use Rattle.buffer.specs.Compare.{sameOf, blankOf}
@@ -19,18 +19,16 @@ use Rattle.frame.specs.Frame.{framed, controlFrame, writeFrame}
 use Rattle.frame.specs.Read.{readOf, bytesIn}
 use Rattle.frame.specs.declared.read.Footer.the-variants.{End}
 use Rattle.frame.specs.declared.read.Read.the-variants.{Control, Write}
-use Rattle.flash.specs.Bank.{sectorOf, withSector}
+use Rattle.flash.specs.Bank.{withSector}
 use Rattle.flash.specs.Sector.{paddedOf}
 use Rattle.flash.proofs.Blanks.{blank-whole, sector-blanks}
 use Rattle.flash.proofs.Sectors.{Has, ext-sector, with-here, with-other}
 use Rattle.flash.proofs.Sweeps.{length-sweep}
 use Rattle.layout.specs.declared.Bank.{Bank}
 use Rattle.layout.specs.declared.Bank.the-variants.{Zero, One}
-use Rattle.layout.specs.Layout.{sectorSize, goodN, otherOf}
-use Rattle.layout.proofs.Layouts.{good-below, offset-good}
+use Rattle.layout.specs.Layout.{sectorSize, goodN, otherOf, sectorOf}
 use Rattle.sender.specs.declared.request.Request.the-variants.{WriteStart, WriteEnd}
 use Rattle.sender.specs.Packet.{packetCount, packetSector, footerOf, packetFrame}
-use Rattle.sender.specs.Packet.{sectorOf as imageSector}
 use Rattle.sender.specs.Request.{requestFrame}
 use Rattle.sender.proofs.Image.{SentAt, used-sent, packet-read, packet-bytes}
 use Rattle.sender.proofs.Packets.{Sent, sent-in, sector-length}
@@ -95,11 +93,7 @@ pub written-short : (sector result write crc : ℕ) → length (writeFrame secto
 unfolding answerBytes
 written-short sector result write crc = answer-short (Written sector result write crc)
 
--- ---- sectors of an image
-
-same-sector : (image : List ℕ) (n k : ℕ) → goodN n ≡ true → 1 ≤ k → k ≤ n → sectorOf image k ≡ imageSector image k
-unfolding sectorOf imageSector
-same-sector image n k g a l = ap (λ (i : ℕ). take sectorSize (drop i image)) (offset-good k (good-below n g k a l))
+-- ---- a whole sector
 
 padded-whole : (bytes : List ℕ) → length bytes ≡ 512 → paddedOf bytes ≡ bytes
 unfolding paddedOf
@@ -182,8 +176,8 @@ module _ (n : ℕ) (running : Bank) (good : goodN n ≡ true) (image : List ℕ)
   by-sectors : length image ≡ 512 * n
   by-sectors = omega (arith, size)
 
-  whole : length (imageSector image k) ≡ 512
-  whole = sector-length image n good by-sectors k (sent .low) (sent .high)
+  whole : length (sectorOf image k) ≡ 512
+  whole = sector-length image n by-sectors k (sent .low) (sent .high)
 
   values : valuesGood n k 512 ≡ true
   values = sym (values-words n k 512 (sent .low) (sent .high) (omega arith) (omega arith))
@@ -192,11 +186,11 @@ module _ (n : ℕ) (running : Bank) (good : goodN n ≡ true) (image : List ℕ)
     reads : readOf (call .datagram) ≡ Write k 512 (footerOf (packetCount image n) p)
     reads = ap readOf brings ∙ sym (packet-read image n p good by-sectors h)
 
-    bytes-are : bytesIn (call .datagram) 512 ≡ imageSector image k
+    bytes-are : bytesIn (call .datagram) 512 ≡ sectorOf image k
     bytes-are = ap (λ (d : List ℕ). bytesIn d 512) brings ∙ packet-bytes image n p good by-sectors h
 
-    padded-are : paddedOf (bytesIn (call .datagram) 512) ≡ imageSector image k
-    padded-are = ap paddedOf bytes-are ∙ padded-whole (imageSector image k) whole
+    padded-are : paddedOf (bytesIn (call .datagram) 512) ≡ sectorOf image k
+    padded-are = ap paddedOf bytes-are ∙ padded-whole (sectorOf image k) whole
 
     unworn : isWorn (getD (call .marks) (k - 1) 0) ≡ false
     unworn =
@@ -222,7 +216,7 @@ module _ (n : ℕ) (running : Bank) (good : goodN n ≡ true) (image : List ℕ)
     is-accepted : Accepted result
     is-accepted = accepted (blankOf (bytesIn (call .datagram) 512)) (sameOf (sectorOf (lentTarget b call) k) (paddedOf (bytesIn (call .datagram) 512)))
 
-    stored-said : said (stepMachine b (Datagram call)) ≡ writeFrame k (writtenBytes 0x06 result (crcOf (imageSector image k))) End
+    stored-said : said (stepMachine b (Datagram call)) ≡ writeFrame k (writtenBytes 0x06 result (crcOf (sectorOf image k))) End
     stored-said =
         ap said stored-is
         ∙ said-back call (writeFrame k (writtenBytes 0x06 result (crcOf (paddedOf (bytesIn (call .datagram) 512)))) End)
@@ -232,15 +226,15 @@ module _ (n : ℕ) (running : Bank) (good : goodN n ≡ true) (image : List ℕ)
     pub taken : Taken image n p (stepMachine b (Datagram call))
     taken = record { write = result; accepted = is-accepted; answer = stored-said }
 
-    shown-next : exchanged (b .client .n) g (call .datagram) (writeFrame k (writtenBytes 0x06 result (crcOf (imageSector image k))) End) ≡ withSector g k (imageSector image k)
+    shown-next : exchanged (b .client .n) g (call .datagram) (writeFrame k (writtenBytes 0x06 result (crcOf (sectorOf image k))) End) ≡ withSector g k (sectorOf image k)
     unfolding answerBytes
     shown-next =
-        rw (written-begin k 0x06 result (crcOf (imageSector image k)), written-stored k result (crcOf (imageSector image k)) is-accepted, reads)
+        rw (written-begin k 0x06 result (crcOf (sectorOf image k)), written-stored k result (crcOf (sectorOf image k)) is-accepted, reads)
         (ap (withSector g k) padded-are)
 
-    pub next-busy : Busy n running (stepMachine b (Datagram call) .board) (withSector g k (imageSector image k))
+    pub next-busy : Busy n running (stepMachine b (Datagram call) .board) (withSector g k (sectorOf image k))
     next-busy =
-        goes-on n running b g (withSector g k (imageSector image k)) (Datagram call) (busy .sectors) (busy .runs) (busy .zero-size) (busy .one-size) (λ _. busy .session)
+        goes-on n running b g (withSector g k (sectorOf image k)) (Datagram call) (busy .sectors) (busy .runs) (busy .zero-size) (busy .one-size) (λ _. busy .session)
         (ap (λ (o : Outcome). o .board .client .state) stored-is ∙ busy .writing)
         (ap (exchanged (b .client .n) g (call .datagram)) stored-said ∙ shown-next)
 
@@ -265,7 +259,7 @@ module _ (n : ℕ) (running : Bank) (good : goodN n ≡ true) (image : List ℕ)
 
   -- one of them has come
   due-next : (p : ℕ) (ps shown : List ℕ) → p < packetCount image n → length shown ≡ n * sectorSize → Due shown (p ∷ ps)
-      → Due (withSector shown (packetSector image n p) (imageSector image (packetSector image n p))) ps
+      → Due (withSector shown (packetSector image n p) (sectorOf image (packetSector image n p))) ps
   due-next p ps shown h size-shown due j a l = by (ℕ-discrete j s) (due j a l)
     where
       s : ℕ
@@ -280,8 +274,8 @@ module _ (n : ℕ) (running : Bank) (good : goodN n ≡ true) (image : List ℕ)
           let high = i .high in
           record { first = low; last = omega arith }
 
-      w : length (imageSector image s) ≡ 512
-      w = sector-length image n good (omega (arith, size)) s (i .low) (i .high)
+      w : length (sectorOf image s) ≡ 512
+      w = sector-length image n (omega (arith, size)) s (i .low) (i .high)
 
       later : Coming j (p ∷ ps) → (j ≡ s → ⊥) → Coming j ps
       later c ne = tail (List·Memᴰ·cases-cons (c .among))
@@ -290,15 +284,14 @@ module _ (n : ℕ) (running : Bank) (good : goodN n ≡ true) (image : List ℕ)
           tail (inl e) = absurd (ne (sym (c .brings) ∙ ap (packetSector image n) e))
           tail (inr m) = record { number = c .number; brings = c .brings; among = m }
 
-      by : Dec (j ≡ s) → (sectorOf shown j ≡ sectorOf image j) ⊎ Coming j (p ∷ ps) → (sectorOf (withSector shown s (imageSector image s)) j ≡ sectorOf image j) ⊎ Coming j ps
+      by : Dec (j ≡ s) → (sectorOf shown j ≡ sectorOf image j) ⊎ Coming j (p ∷ ps) → (sectorOf (withSector shown s (sectorOf image s)) j ≡ sectorOf image j) ⊎ Coming j ps
       by (yes e) d =
           inl
-          (ap (sectorOf (withSector shown s (imageSector image s))) e
-          ∙ with-here shown s (imageSector image s) has-s w
-          ∙ sym (same-sector image n s good (i .low) (i .high))
+          (ap (sectorOf (withSector shown s (sectorOf image s))) e
+          ∙ with-here shown s (sectorOf image s) has-s w
           ∙ ap (sectorOf image) (sym e))
       by (no ne) (inl e) =
-          inl (with-other shown s (imageSector image s) has-s w j (record { first = a; last = omega arith }) ne ∙ e)
+          inl (with-other shown s (sectorOf image s) has-s w j (record { first = a; last = omega arith }) ne ∙ e)
       by (no ne) (inr c) = inr (later c ne)
 
   deliver : {ps : List ℕ} {is : List Input} → Packets image n ps is → (b : Board) (shown : List ℕ) → Busy n running b shown → Due shown ps
@@ -314,14 +307,13 @@ module _ (n : ℕ) (running : Bank) (good : goodN n ≡ true) (image : List ℕ)
   -- at the start nothing but 0xFF is shown, and each sector that has another byte has its packet
   due-first : (ps : List ℕ) → ((p : ℕ) → p < packetCount image n → List·Memᴰ p ps) → Due (allBlank n) ps
   due-first ps each zero a l = absurd (omega arith)
-  due-first ps each (suc j) a l = by (blankOf (imageSector image (suc j))) refl
+  due-first ps each (suc j) a l = by (blankOf (sectorOf image (suc j))) refl
     where
-      by : (t : Bool) → blankOf (imageSector image (suc j)) ≡ t → (sectorOf (allBlank n) (suc j) ≡ sectorOf image (suc j)) ⊎ Coming (suc j) ps
+      by : (t : Bool) → blankOf (sectorOf image (suc j)) ≡ t → (sectorOf (allBlank n) (suc j) ≡ sectorOf image (suc j)) ⊎ Coming (suc j) ps
       by true t =
           inl
           (sector-blanks n (suc j) a l
-          ∙ sym (blank-whole (imageSector image (suc j)) (sector-length image n good (omega (arith, size)) (suc j) a l) t)
-          ∙ sym (same-sector image n (suc j) good a l))
+          ∙ sym (blank-whole (sectorOf image (suc j)) (sector-length image n (omega (arith, size)) (suc j) a l) t))
       by false t =
           let s : SentAt image n (suc j) (packetCount image j) = used-sent image n j l t in
           inr (record { number = packetCount image j; brings = s .sector; among = each (packetCount image j) (s .below) })

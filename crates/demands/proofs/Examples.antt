@@ -18,14 +18,14 @@ use Rattle.frame.specs.Read.{readOf, bytesIn, readControl}
 use Rattle.frame.specs.declared.read.Footer.{Footer}
 use Rattle.frame.specs.declared.read.Footer.the-variants.{End}
 use Rattle.frame.specs.declared.read.Read.the-variants.{Fault, Control, Write}
-use Rattle.flash.specs.Bank.{sectorOf, withSector}
+use Rattle.flash.specs.Bank.{withSector}
 use Rattle.flash.specs.Sector.{paddedOf}
 use Rattle.flash.proofs.Sectors.{length-with, with-here}
 use Rattle.flash.proofs.Words.{length-padded}
 use Rattle.flash.proofs.Writes.{FitsAt}
 use Rattle.layout.specs.declared.Bank.{Bank}
 use Rattle.layout.specs.declared.Bank.the-variants.{Zero, One}
-use Rattle.layout.specs.Layout.{sectorSize, goodN, endOf}
+use Rattle.layout.specs.Layout.{sectorSize, goodN, endOf, sectorOf}
 use Rattle.lines.specs.Line.{lines}
 use Rattle.hex.specs.declared.fault.Kind.the-variants.{H6}
 use Rattle.hex.specs.declared.read.Answer.the-variants.{Refused, Accepted}

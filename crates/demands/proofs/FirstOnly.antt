@@ -15,12 +15,12 @@ use Rattle.frame.specs.Read.{readOf}
 use Rattle.frame.specs.declared.read.Read.the-variants.{Write}
 use Rattle.frame.specs.declared.read.Footer.the-variants.{End, Continued}
 use Rattle.layout.specs.declared.Bank.the-variants.{One}
-use Rattle.layout.specs.Layout.{goodN, wholeLength, sectorOffset}
+use Rattle.layout.specs.Layout.{goodN, wholeLength, sectorOf}
 use Rattle.bank.specs.Sound.{headerGood, tableGood, laidOutGood, bodyGood, allGood, bodiesGood, blankGood, listedGood, soundOf, verdictOf}
 use Rattle.bank.specs.Stretch.{fitsAt, laidOut, blankOutside}
 use Rattle.bank.specs.Table.{entryAt, entriesFrom, restOf, stretchesOf}
 use Rattle.sender.specs.declared.request.Request.the-variants.{WriteStart, WriteEnd}
-use Rattle.sender.specs.Packet.{sectorOf, sentOf, packetCount, packetSector, footerOf, packetFrame}
+use Rattle.sender.specs.Packet.{sentOf, packetCount, packetSector, footerOf, packetFrame}
 use Rattle.sender.specs.Request.{requestFrame}
 use Rattle.sender.proofs.Image.{packet-read}
 use Rattle.client.specs.Perform.{fitOf}
@@ -49,16 +49,16 @@ unfolding longer verdictOf wholeLength goodN soundOf headerGood tableGood listed
 longer-sound = refl
 
 longer-packets : packetCount longer 2 ≡ 2
-unfolding longer sentOf sectorOf sectorOffset goodN blankOf
+unfolding longer sentOf sectorOf blankOf
 longer-packets = refl
 
 longer-sectors : (packetSector longer 2 0 ≡ 1) × (packetSector longer 2 1 ≡ 2)
-unfolding longer sentOf sectorOf sectorOffset goodN blankOf
+unfolding longer sentOf sectorOf blankOf
 longer-sectors = (refl, refl)
 
 -- the packet that is sent first is the same
 same-sector : sectorOf longer 2 ≡ sectorOf image 2
-unfolding longer image sectorOf sectorOffset goodN
+unfolding longer image sectorOf
 same-sector = refl
 
 same-first : packetFrame longer 2 1 ≡ packetFrame image 2 1

@@ -10,12 +10,12 @@ use lib.ListN.{length, length-replicate}
 use borrow.Author.Tests.{eqb-true, eqb-false}
 use Rattle.crc.specs.Crc.{crcOf}
 use Rattle.frame.specs.Read.{bytesIn}
-use Rattle.flash.specs.Bank.{sectorOf, withSector, blankSector}
+use Rattle.flash.specs.Bank.{withSector, blankSector}
 use Rattle.flash.specs.Sector.{paddedOf}
 use Rattle.flash.proofs.Blanks.{sector-blanks}
 use Rattle.flash.proofs.Sectors.{Has, has-still, length-with, with-here, with-other}
 use Rattle.flash.proofs.Words.{length-padded}
-use Rattle.layout.specs.Layout.{sectorSize}
+use Rattle.layout.specs.Layout.{sectorSize, sectorOf}
 use Rattle.exchange.specs.Answer.{answerBytes}
 use Rattle.client.proofs.Courses.{Course, still, begins, stores, ends, fits-stored, step-course}
 use Rattle.demands.specs.Board.{Board, Call, Input, Initiate, Terminate, Datagram, said, outcomes, lentTarget, called, stepMachine}

@@ -15,11 +15,11 @@ use Rattle.frame.specs.Read.{readOf, bytesIn}
 use Rattle.frame.specs.declared.read.Read.{Read}
 use Rattle.frame.specs.declared.read.Read.the-variants.{Fault, Control, Write}
 use Rattle.frame.proofs.Writing.{length-write}
-use Rattle.layout.specs.Layout.{goodN}
+use Rattle.layout.specs.Layout.{goodN, sectorOf}
 use Rattle.sender.specs.declared.made.Made.{Made}
 use Rattle.sender.specs.declared.made.Made.the-variants.{BadN, BadLength, PastLast, Frame}
 use Rattle.sender.specs.Made.{room, standing}
-use Rattle.sender.specs.Packet.{sectorOf, packetCount, packetSector, footerOf, packetFrame, imageGood, packetMade}
+use Rattle.sender.specs.Packet.{packetCount, packetSector, footerOf, packetFrame, imageGood, packetMade}
 use Rattle.sender.proofs.Image.{packet-read, packet-bytes}
 use Rattle.sender.proofs.Packets.{Sent, sent-in, sector-length}
 use Rattle.demands.specs.Packets.{Made·Out, Maker, Packet, MeetsPackets, packetMaker, InventsNumber}
@@ -42,7 +42,7 @@ module _ (img : List ℕ) (n p : ℕ) (before : List ℕ) (g : goodN n ≡ true)
     frame-long =
         let s : Sent img n (packetSector img n p) = sent-in img n p h in
         length-write (packetSector img n p) (sectorOf img (packetSector img n p)) (footerOf (packetCount img n) p)
-        ∙ ap (λ (x : ℕ). x + 7) (sector-length img n g sized (packetSector img n p) (s .low) (s .high))
+        ∙ ap (λ (x : ℕ). x + 7) (sector-length img n sized (packetSector img n p) (s .low) (s .high))
 
     buffer-is : packetMaker img n p before .buffer ≡ frontOf before (packetFrame img n p)
     buffer-is = ap (λ (m : Made). standing m before (packetFrame img n p)) made-is

@@ -25,10 +25,9 @@ use Rattle.frame.specs.declared.read.Read.{Read}
 use Rattle.frame.specs.declared.read.Read.the-variants.{Fault, Control, Write}
 use Rattle.frame.proofs.RoundTrip.{error-frame}
 use Rattle.frame.proofs.Told.{Told, told}
-use Rattle.flash.specs.Bank.{sectorOf}
 use Rattle.flash.specs.Sector.{paddedOf}
 use Rattle.layout.specs.declared.Bank.{Bank}
-use Rattle.layout.specs.Layout.{goodN, bankNumber, otherOf}
+use Rattle.layout.specs.Layout.{goodN, bankNumber, otherOf, sectorOf}
 use Rattle.response.specs.declared.read.Coded.the-variants.{Answers}
 use Rattle.response.specs.declared.read.Kind.{Kind}
 use Rattle.response.specs.declared.read.Kind.the-variants.{ModeStart, BankInfo, Version, WriteStart, Packet, WriteEnd, ModeEnd, Error}

@@ -11,7 +11,7 @@ use Rattle.buffer.proofs.Bools.{split}
 use Rattle.buffer.proofs.Places.{front-take}
 use Rattle.crc.specs.Crc.{crcOf}
 use Rattle.frame.specs.Read.{bytesIn}
-use Rattle.flash.specs.Bank.{sectorOf, withSector, writtenAt, sweptOf}
+use Rattle.flash.specs.Bank.{withSector, writtenAt, sweptOf}
 use Rattle.flash.specs.Sector.{paddedOf}
 use Rattle.flash.specs.Sector.{writtenOf}
 use Rattle.flash.proofs.Changes.{at-has}
@@ -20,7 +20,7 @@ use Rattle.flash.proofs.Sectors.{has, has-still, length-sector}
 use Rattle.flash.proofs.Sweeps.{length-sweep, swept-blank}
 use Rattle.flash.proofs.Words.{written-fits}
 use Rattle.flash.proofs.Writes.{FitsAt, length-written}
-use Rattle.layout.specs.Layout.{sectorSize, goodN}
+use Rattle.layout.specs.Layout.{sectorSize, goodN, sectorOf}
 use Rattle.layout.proofs.Layouts.{good-high}
 use Rattle.exchange.specs.declared.answer.Answer.{Answer}
 use Rattle.client.specs.declared.host.Hosted.{Hosted}

@@ -10,12 +10,12 @@ use Rattle.buffer.specs.Compare.{blankOf}
 use Rattle.buffer.specs.Number.{numberAt, numberOf}
 use Rattle.crc.specs.Crc.{feed, crcBit, crcBits, crcByte, crcMore, crcOf}
 use Rattle.layout.specs.declared.Bank.the-variants.{Zero, One}
-use Rattle.layout.specs.Layout.{goodN, wholeLength, sectorOffset}
+use Rattle.layout.specs.Layout.{goodN, wholeLength, sectorOf}
 use Rattle.bank.specs.Sound.{headerGood, tableGood, laidOutGood, bodyGood, allGood, bodiesGood, blankGood, listedGood, soundOf, verdictOf}
 use Rattle.bank.specs.Stretch.{fitsAt, laidOut, blankOutside}
 use Rattle.bank.specs.Table.{entryAt, entriesFrom, restOf, stretchesOf}
 use Rattle.sender.specs.declared.request.Request.the-variants.{WriteStart, WriteEnd}
-use Rattle.sender.specs.Packet.{sectorOf, sentOf, packetCount, packetSector, packetFrame}
+use Rattle.sender.specs.Packet.{sentOf, packetCount, packetSector, packetFrame}
 use Rattle.sender.specs.Request.{requestFrame}
 use Rattle.client.specs.declared.record.Latest.the-variants.{Nothing}
 use Rattle.exchange.specs.declared.state.State.the-variants.{Control}
@@ -40,7 +40,7 @@ unfolding image verdictOf wholeLength goodN soundOf headerGood tableGood listedG
 image-fit = refl
 
 pub two-packets : packetCount image 2 ≡ 2
-unfolding image sentOf sectorOf sectorOffset goodN blankOf
+unfolding image sentOf sectorOf blankOf
 two-packets = refl
 
 pub two-good : goodN 2 ≡ true
@@ -48,7 +48,7 @@ unfolding goodN
 two-good = refl
 
 pub sectors-are : (packetSector image 2 0 ≡ 1) × (packetSector image 2 1 ≡ 2)
-unfolding image sentOf sectorOf sectorOffset goodN blankOf
+unfolding image sentOf sectorOf blankOf
 sectors-are = (refl, refl)
 
 -- banks of zeros

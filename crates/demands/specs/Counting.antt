@@ -7,10 +7,9 @@ use mathlib.Core.List.{List}
 use Prim.Native.Nat.{ℕ, suc, _*_}
 use lib.ListN.{length}
 use Rattle.flash.specs.Bank.{blankSector}
-use Rattle.layout.specs.Layout.{sectorSize, goodN}
+use Rattle.layout.specs.Layout.{sectorSize, goodN, sectorOf}
 use Rattle.sender.specs.declared.packet.Tally.{Tally}
 use Rattle.sender.specs.declared.packet.Tally.the-variants.{BadN, BadLength, Packets}
-use Rattle.sender.specs.Packet.{sectorOf}
 
 -- image, N
 abbrev pub Counter : Type 0

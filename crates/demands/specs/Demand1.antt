@@ -17,9 +17,9 @@ use Rattle.frame.specs.Read.{readOf, bytesIn}
 use Rattle.frame.specs.declared.read.Footer.the-variants.{End}
 use Rattle.frame.specs.declared.read.Read.{Read}
 use Rattle.frame.specs.declared.read.Read.the-variants.{Fault, Control, Write}
-use Rattle.flash.specs.Bank.{sectorOf, withSector, sweptOf}
+use Rattle.flash.specs.Bank.{withSector, sweptOf}
 use Rattle.flash.specs.Sector.{paddedOf}
-use Rattle.layout.specs.Layout.{goodN, bankNumber, otherOf}
+use Rattle.layout.specs.Layout.{goodN, bankNumber, otherOf, sectorOf}
 use Rattle.client.specs.declared.notice.Kind.the-variants.{Started, Ended}
 use Rattle.client.specs.declared.notice.Notice.{Notice}
 use Rattle.client.specs.declared.record.Client.{Client}

@@ -11,9 +11,9 @@ use lib.ListN.{length, replicate}
 use Rattle.crc.specs.Crc.{crcOf}
 use Rattle.frame.specs.Frame.{writeFrame}
 use Rattle.frame.specs.declared.read.Footer.the-variants.{End}
-use Rattle.layout.specs.Layout.{sectorSize, goodN, otherOf}
+use Rattle.layout.specs.Layout.{sectorSize, goodN, otherOf, sectorOf}
 use Rattle.sender.specs.declared.request.Request.the-variants.{WriteStart, WriteEnd}
-use Rattle.sender.specs.Packet.{sectorOf, packetCount, packetSector, packetFrame}
+use Rattle.sender.specs.Packet.{packetCount, packetSector, packetFrame}
 use Rattle.sender.specs.Request.{requestFrame}
 use Rattle.exchange.specs.declared.state.State.the-variants.{Control}
 use Rattle.exchange.specs.Answer.{writtenBytes}

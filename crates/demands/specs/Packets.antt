@@ -9,11 +9,11 @@ use lib.Dec.{leb}
 use lib.ListN.{length, take, drop}
 use Rattle.frame.specs.Read.{readOf, bytesIn}
 use Rattle.frame.specs.declared.read.Read.the-variants.{Write}
-use Rattle.layout.specs.Layout.{sectorSize, goodN}
+use Rattle.layout.specs.Layout.{sectorSize, goodN, sectorOf}
 use Rattle.sender.specs.declared.made.Made.{Made}
 use Rattle.sender.specs.declared.made.Made.the-variants.{BadN, BadLength, PastLast, Frame}
 use Rattle.sender.specs.Made.{room, standing}
-use Rattle.sender.specs.Packet.{sectorOf, packetCount, packetSector, footerOf, packetFrame, imageGood, packetMade}
+use Rattle.sender.specs.Packet.{packetCount, packetSector, footerOf, packetFrame, imageGood, packetMade}
 
 -- what a maker gives back, and the buffer then
 pub record Made·Out : Type 0 where

@@ -10,10 +10,11 @@ use lib.Seq.{ext-getD, getD-take, getD-drop}
 use borrow.Author.Tests.{not-true}
 use Rattle.buffer.specs.Compare.{blankOf}
 use Rattle.buffer.proofs.Comparing.{blank-true}
-use Rattle.layout.specs.Layout.{sectorSize}
+use Rattle.layout.specs.Layout.{sectorSize, sectorStart, sectorOf}
+use Rattle.layout.proofs.Layouts.{lent-out}
 use Rattle.flash.specs.Sector.{blanks, erasedOf, paddedOf}
-use Rattle.flash.specs.Bank.{sectorStart, hasSector, sectorOf, blankSector, blankAt, SectorBlank·Is}
-use Rattle.flash.proofs.Sectors.{Has, has, length-sector, lent-out}
+use Rattle.flash.specs.Bank.{hasSector, blankSector, blankAt, SectorBlank·Is}
+use Rattle.flash.proofs.Sectors.{Has, has, length-sector}
 
 pub length-blanks : (n : ℕ) → length (blanks n) ≡ n
 length-blanks n = length-replicate n 0xFF

@@ -5,8 +5,8 @@ use mathlib.Core.Bool.{Bool, true, false, cond}
 use mathlib.Core.List.{List}
 use Prim.Native.Nat.{ℕ}
 use lib.ListN.{length}
-use Rattle.layout.specs.Layout.{sectorSize}
-use Rattle.flash.specs.Bank.{hasSector, sectorOf, withSector, atSector}
+use Rattle.layout.specs.Layout.{sectorSize, sectorOf}
+use Rattle.flash.specs.Bank.{hasSector, withSector, atSector}
 use Rattle.flash.proofs.Sectors.{Has, has, has-told, length-sector, length-with, with-here, with-other, with-again, with-same, with-swap}
 
 -- a sector keeps its length

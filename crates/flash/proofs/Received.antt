@@ -9,8 +9,8 @@ use lib.Dec.{eqb}
 use lib.ListN.{length, getD, set}
 use lib.Seq.{getD-set-same, getD-set-other}
 use borrow.Author.Tests.{eqb-true, eqb-false}
-use Rattle.layout.specs.Layout.{sectorSize}
-use Rattle.flash.specs.Bank.{sectorOf, blankSector, writtenAt, sweptOf}
+use Rattle.layout.specs.Layout.{sectorSize, sectorOf}
+use Rattle.flash.specs.Bank.{blankSector, writtenAt, sweptOf}
 use Rattle.flash.proofs.Sectors.{Has, has-still, ext-sector}
 use Rattle.flash.proofs.Sweeps.{length-sweep, swept-sector, swept-received}
 use Rattle.flash.proofs.Writes.{FitsAt, length-written, written-here, written-other}

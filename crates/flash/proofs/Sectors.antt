@@ -11,9 +11,9 @@ use lib.Seq.{take-at, drop-at, length-take-le, ext-getD, getD-take, getD-drop, g
 use borrow.Rule.Slice.PartMut.{putMid}
 use borrow.Author.Tests.{eqb-true, eqb-false, leb-true, leb-false, le-leb, lt-leb, eq-eqb, ne-eqb, not-true, not-false}
 use Rattle.buffer.proofs.Bools.{and-left, and-right}
-use Rattle.buffer.proofs.Parts.{part-out, part-back, part-length, part-rest}
-use Rattle.layout.specs.Layout.{sectorSize}
-use Rattle.flash.specs.Bank.{sectorStart, hasSector, sectorOf, withSector}
+use Rattle.buffer.proofs.Parts.{part-back, part-length, part-rest}
+use Rattle.layout.specs.Layout.{sectorSize, sectorStart, sectorOf}
+use Rattle.flash.specs.Bank.{hasSector, withSector}
 
 -- ---- the sectors that a bank of so many bytes has
 
@@ -181,18 +181,13 @@ with-same bank k h =
     ∙ ap (λ (l : List ℕ). take (sectorStart k) bank ++ l) (sym (part-rest bank (sectorStart k) sectorSize))
     ∙ take-append-drop (sectorStart k) bank
 
--- ---- the part of a bank that is its sector k, lent and come back
+-- ---- the part of a bank that is its sector k, come back
 
-module _ (bank : List ℕ) (k start : ℕ) (e : start ≡ sectorStart k) where
-  pub lent-out : take ((start + sectorSize) - start) (drop start bank) ≡ sectorOf bank k
-  unfolding sectorOf
-  lent-out = part-out bank start sectorSize ∙ ap (λ (i : ℕ). take sectorSize (drop i bank)) e
-
-  pub lent-back : 1 ≤ k → (sector : List ℕ) → putMid start ((start + sectorSize) - start) bank sector ≡ withSector bank k sector
-  unfolding withSector
-  lent-back h sector =
-      let f : start + sectorSize ≡ k * sectorSize = omega arith in
-      part-back bank sector start sectorSize ∙ ap₂ (λ (i m : ℕ). take i bank ++ (sector ++ drop m bank)) e f
+pub lent-back : (bank : List ℕ) (k start : ℕ) → start ≡ sectorStart k → 1 ≤ k → (sector : List ℕ) → putMid start ((start + sectorSize) - start) bank sector ≡ withSector bank k sector
+unfolding withSector
+lent-back bank k start e h sector =
+    let f : start + sectorSize ≡ k * sectorSize = omega arith in
+    part-back bank sector start sectorSize ∙ ap₂ (λ (i m : ℕ). take i bank ++ (sector ++ drop m bank)) e f
 
 -- ---- two sectors
 

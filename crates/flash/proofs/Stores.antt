@@ -8,8 +8,9 @@ use lib.ListN.{length, getD}
 use Rattle.buffer.specs.Compare.{sameOf}
 use Rattle.buffer.proofs.Places.{length-place}
 use Rattle.buffer.proofs.Bools.{and-left, and-right}
+use Rattle.layout.specs.Layout.{sectorOf}
 use Rattle.flash.specs.Sector.{erasedOf, paddedOf, fitsSector, writtenOf, alreadyOf}
-use Rattle.flash.specs.Bank.{hasSector, sectorOf, atSector, writtenAt, alreadyAt, sweptOne, swept, sweptOf}
+use Rattle.flash.specs.Bank.{hasSector, atSector, writtenAt, alreadyAt, sweptOne, swept, sweptOf}
 use Rattle.flash.specs.Store.{Store, Erase, Word, made, allMade, storesOf, allMadeIn, storesAt, sweepStore, sweepStores, storesOfSweep}
 use Rattle.flash.proofs.Changes.{Keeps, at-none, at-same, at-alike, at-then}
 use Rattle.flash.proofs.Sweeps.{keeps-erased, length-swept}

@@ -11,12 +11,13 @@ use lib.ListN.{length, getD, take, drop, length-replicate}
 use borrow.Author.Tests.{eqb-true, eqb-false, leb-true, leb-false, lt-leb, not-true}
 use borrow.Rule.Slice.PartMut.{putMid}
 use Rattle.buffer.proofs.Bools.{and-false}
-use Rattle.layout.specs.Layout.{sectorSize}
+use Rattle.layout.specs.Layout.{sectorSize, sectorStart, sectorOf}
+use Rattle.layout.proofs.Layouts.{lent-out}
 use Rattle.flash.specs.Sector.{blanks, erasedOf}
-use Rattle.flash.specs.Bank.{sectorStart, hasSector, sectorOf, withSector, blankSector, sweptOne, swept, sweptOf}
+use Rattle.flash.specs.Bank.{hasSector, withSector, blankSector, sweptOne, swept, sweptOf}
 use Rattle.flash.proofs.Blanks.{erased-blank, sector-blanks}
 use Rattle.flash.proofs.Changes.{Keeps, at-has, at-none, length-at, at-here, at-other}
-use Rattle.flash.proofs.Sectors.{Has, has, has-still, length-sector, ext-sector, lent-out, lent-back}
+use Rattle.flash.proofs.Sectors.{Has, has, has-still, length-sector, ext-sector, lent-back}
 
 pub keeps-erased : Keeps erasedOf
 unfolding erasedOf

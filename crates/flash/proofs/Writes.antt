@@ -10,11 +10,12 @@ use borrow.Rule.Slice.PartMut.{putMid}
 use Rattle.buffer.specs.Compare.{sameOf}
 use Rattle.buffer.proofs.Bools.{and-left, and-right}
 use Rattle.buffer.proofs.Comparing.{same-self, same-true}
-use Rattle.layout.specs.Layout.{sectorSize}
+use Rattle.layout.specs.Layout.{sectorSize, sectorStart, sectorOf}
+use Rattle.layout.proofs.Layouts.{lent-out}
 use Rattle.flash.specs.Sector.{wordBytes, paddedOf, fitsSector, writtenOf, alreadyOf, WriteSector·Is}
-use Rattle.flash.specs.Bank.{sectorStart, hasSector, sectorOf, withSector, writtenAt, alreadyAt, WriteAt·Is}
+use Rattle.flash.specs.Bank.{hasSector, withSector, writtenAt, alreadyAt, WriteAt·Is}
 use Rattle.flash.proofs.Changes.{Keeps, at-has, at-none, at-same, length-at, at-here, at-other, at-swap}
-use Rattle.flash.proofs.Sectors.{Has, has, has-told, has-still, length-sector, lent-out, lent-back}
+use Rattle.flash.proofs.Sectors.{Has, has, has-told, has-still, length-sector, lent-back}
 use Rattle.flash.proofs.Words.{Fits, fits-told, length-padded, written-fits, already-fits}
 
 -- ---- one sector

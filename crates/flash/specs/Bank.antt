@@ -3,24 +3,16 @@
 use mathlib.Core.Path.{_≡_}
 use mathlib.Core.Bool.{Bool, true, false, not, _&&_, cond}
 use mathlib.Core.List.{List, _++_}
-use Prim.Native.Nat.{ℕ, zero, suc, _-_, _*_}
+use Prim.Native.Nat.{ℕ, zero, suc, _*_}
 use lib.Dec.{eqb, leb}
 use lib.ListN.{length, getD, take, drop}
 use Rattle.buffer.specs.Compare.{blankOf}
-use Rattle.layout.specs.Layout.{sectorSize}
+use Rattle.layout.specs.Layout.{sectorSize, sectorStart, sectorOf}
 use Rattle.flash.specs.Sector.{blanks, erasedOf, writtenOf, alreadyOf}
-
--- the index of the first byte of sector k ("sector k starts at start + (k - 1)·512")
-abbrev pub sectorStart : ℕ → ℕ
-sectorStart k = (k - 1) * sectorSize
 
 -- whether a bank of so many bytes has a sector k ("Sector numbers run from 1")
 unfoldable pub hasSector : ℕ → ℕ → Bool
 hasSector bytes k = not (eqb k 0) && leb (k * sectorSize) bytes
-
--- the bytes of sector k
-unfoldable pub sectorOf : List ℕ → ℕ → List ℕ
-sectorOf bank k = take sectorSize (drop (sectorStart k) bank)
 
 -- the bank with another sector k
 unfoldable pub withSector : List ℕ → ℕ → List ℕ → List ℕ

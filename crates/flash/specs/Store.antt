@@ -6,8 +6,9 @@ use Prim.Native.Nat.{ℕ, zero, suc, _*_, _/_}
 use lib.ListN.{length, getD, take, drop}
 use Rattle.buffer.specs.Compare.{sameOf, blankOf}
 use Rattle.buffer.specs.Place.{placeOf}
+use Rattle.layout.specs.Layout.{sectorOf}
 use Rattle.flash.specs.Sector.{wordBytes, erasedOf, paddedOf, fitsSector}
-use Rattle.flash.specs.Bank.{hasSector, sectorOf, atSector}
+use Rattle.flash.specs.Bank.{hasSector, atSector}
 
 -- the two ways in which a sector's bytes change: all of them erased, a word stored from an index on
 pub data Store : Type 0 where

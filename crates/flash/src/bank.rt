@@ -4,8 +4,8 @@ ghost use mathlib.Core.Path.{_≡_};
 ghost use mathlib.Core.Bool.{false};
 ghost use Prim.Native.Nat.{_+_, _*_, _/_, _≤_, min};
 ghost use lib.ListN.{getD};
-ghost use Rattle.layout.specs.Layout.{sectorSize};
-ghost use Rattle.flash.specs.Bank.{sectorStart, hasSector, sweptOne, WriteAt·Is, SectorBlank·Is, Sweep·Is};
+ghost use Rattle.layout.specs.Layout.{sectorSize, sectorStart};
+ghost use Rattle.flash.specs.Bank.{hasSector, sweptOne, WriteAt·Is, SectorBlank·Is, Sweep·Is};
 
 // Whether sector `k` lies within a bank of so many bytes.
 fn has_sector(bytes: usize, k: usize) -> bool

@@ -1,22 +1,29 @@
--- What a good N and a bank's length tell, and each way out of the functions that ask for them.
+-- What a good N and a bank's length tell, each way out of the functions that ask for them, and the bytes of a sector.
 -- Assumes nothing.
 use mathlib.Core.Path.{_≡_, refl, ap, _∙_}
 use mathlib.Core.Bool.{Bool, true, false, cond}
+use mathlib.Core.List.{List}
 use Prim.Native.Nat.{ℕ, _+_, _-_, _*_, _/_, _%_, _≤_, _<_}
 use native.Mathlib.Nat.{mul-comm}
 use native.Mathlib.Omega.{arith}
 use lib.Dec.{eqb, leb}
+use lib.ListN.{take, drop}
 use borrow.Author.Tests.{eq-eqb, ne-eqb, le-leb, lt-leb, leb-true}
 use Rattle.buffer.proofs.Bools.{and-left, and-right, and-both}
+use Rattle.buffer.proofs.Parts.{part-out}
 use Rattle.layout.specs.declared.Bank.{Bank}
 use Rattle.layout.specs.declared.Bank.the-variants.{Zero, One}
 use Rattle.layout.specs.declared.Counted.the-variants.{Refused, Sectors}
 use Rattle.layout.specs.Said.{number, value, countedSaid}
-use Rattle.layout.specs.Layout.{sectorSize, mostSectors, goodN, wholeLength, sectorsOf, startOf, endOf, sectorOffset}
+use Rattle.layout.specs.Layout.{sectorSize, mostSectors, goodN, wholeLength, sectorsOf, startOf, endOf, sectorStart, sectorOffset, sectorOf}
 
 pub start-small : (bank : Bank) → startOf bank ≤ 0x14000A00
 start-small Zero = omega arith
 start-small One = omega arith
+
+pub good-told : (n : ℕ) → 1 ≤ n → n ≤ mostSectors → goodN n ≡ true
+unfolding goodN
+good-told n l h = and-both (leb 1 n) (leb n mostSectors) (le-leb 1 n l) (le-leb n mostSectors h)
 
 module _ (n : ℕ) where
   pub good-none : n < 1 → false ≡ goodN n
@@ -38,8 +45,7 @@ module _ (n : ℕ) where
 
   -- so is every N below it
   pub good-below : goodN n ≡ true → (k : ℕ) → 1 ≤ k → k ≤ n → goodN k ≡ true
-  unfolding goodN
-  good-below e k l h = and-both (leb 1 k) (leb k mostSectors) (le-leb 1 k l) (le-leb k mostSectors (omega (arith, good-high e)))
+  good-below e k l h = good-told k l (omega (arith, good-high e))
 
   pub whole-good : wholeLength n ≡ true → goodN (n / sectorSize) ≡ true
   unfolding wholeLength
@@ -87,7 +93,7 @@ module _ (n : ℕ) where
   unfolding sectorOffset
   offset-bad g = simp g
 
-  pub offset-good : goodN n ≡ true → (n - 1) * sectorSize ≡ sectorOffset n
+  pub offset-good : goodN n ≡ true → sectorStart n ≡ sectorOffset n
   unfolding sectorOffset
   offset-good g = simp g
 
@@ -99,3 +105,14 @@ module _ (n : ℕ) where
       by : (t : Bool) → countedSaid (cond t (Sectors (n / sectorSize)) Refused) ≡ cond t (value (n / sectorSize)) (number 2)
       by true = refl
       by false = refl
+
+-- ---- the bytes of a sector
+
+module _ (bank : List ℕ) (k : ℕ) where
+  pub sector-part : take sectorSize (drop (sectorStart k) bank) ≡ sectorOf bank k
+  unfolding sectorOf
+  sector-part = refl
+
+  -- as they are lent
+  pub lent-out : (start : ℕ) → start ≡ sectorStart k → take ((start + sectorSize) - start) (drop start bank) ≡ sectorOf bank k
+  lent-out start e = part-out bank start sectorSize ∙ ap (λ (i : ℕ). take sectorSize (drop i bank)) e ∙ sector-part

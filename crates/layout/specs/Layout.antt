@@ -2,8 +2,10 @@
 -- Assumes nothing.
 use mathlib.Core.Path.{_≡_}
 use mathlib.Core.Bool.{Bool, _&&_, cond}
+use mathlib.Core.List.{List}
 use Prim.Native.Nat.{ℕ, _+_, _-_, _*_, _/_, _%_}
 use lib.Dec.{eqb, leb}
+use lib.ListN.{take, drop}
 use Rattle.layout.specs.declared.Bank.{Bank}
 use Rattle.layout.specs.declared.Bank.the-variants.{Zero, One}
 use Rattle.layout.specs.declared.Counted.{Counted}
@@ -44,9 +46,17 @@ startOf One = 0x14000A00
 unfoldable pub endOf : Bank → ℕ → ℕ
 endOf bank n = cond (goodN n) (startOf bank + sectorSize * n - 1) 0
 
--- sector k starts (k - 1) sectors behind the bank's start
+-- the index of the first byte of sector k ("sector k starts at start + (k - 1)·512")
+abbrev pub sectorStart : ℕ → ℕ
+sectorStart k = (k - 1) * sectorSize
+
+-- the same, and 0 for a number that no sector has
 unfoldable pub sectorOffset : ℕ → ℕ
-sectorOffset k = cond (goodN k) ((k - 1) * sectorSize) 0
+sectorOffset k = cond (goodN k) (sectorStart k) 0
+
+-- the bytes of sector k of a bank or an image
+unfoldable pub sectorOf : List ℕ → ℕ → List ℕ
+sectorOf bank k = take sectorSize (drop (sectorStart k) bank)
 
 abbrev pub GoodN·Is : ℕ → Bool → Type 0
 GoodN·Is n r = r ≡ goodN n

@@ -19,11 +19,11 @@ use Rattle.frame.specs.declared.read.Footer.{Footer}
 use Rattle.frame.specs.declared.read.Footer.the-variants.{End, Continued}
 use Rattle.frame.specs.declared.read.Read.the-variants.{Write}
 use Rattle.frame.proofs.RoundTrip.{write-back, write-bytes}
-use Rattle.layout.specs.Layout.{sectorSize, goodN, sectorOffset}
-use Rattle.layout.proofs.Layouts.{good-below}
-use Rattle.sender.specs.Packet.{sectorOf, sentOf, packetCount, packetSector, footerOf, packetFrame}
+use Rattle.layout.specs.Layout.{sectorSize, goodN, sectorStart, sectorOf}
+use Rattle.layout.proofs.Layouts.{sector-part}
+use Rattle.sender.specs.Packet.{sentOf, packetCount, packetSector, footerOf, packetFrame}
 use Rattle.sender.specs.Meaning.{putBack, restored}
-use Rattle.sender.proofs.Packets.{Sent, sector-from, sector-length, sent-blank, sent-more, sent-in, packet-small}
+use Rattle.sender.proofs.Packets.{Sent, sector-length, sent-blank, sent-more, sent-in, packet-small}
 
 -- ---- which sector has which packet
 
@@ -86,7 +86,7 @@ module _ (image : List ℕ) (n p : ℕ) (g : goodN n ≡ true) (e : length image
   data-length : length (sectorOf image (packetSector image n p)) ≡ sectorSize
   data-length =
       let s : Sent image n (packetSector image n p) = sent-in image n p h in
-      sector-length image n g e (packetSector image n p) (s .low) (s .high)
+      sector-length image n e (packetSector image n p) (s .low) (s .high)
 
   pub packet-read : Write (packetSector image n p) sectorSize (footerOf (packetCount image n) p) ≡ readOf (packetFrame image n p)
   unfolding packetFrame
@@ -122,18 +122,16 @@ module _ (image : List ℕ) (n : ℕ) (g : goodN n ≡ true) (e : length image �
   begun k = take (sectorSize * k) image ++ blanks k
 
   -- where the sector behind them lies
-  sector-at : (k : ℕ) → k < n → sectorSize * k ≡ sectorOffset (suc k)
-  sector-at k h =
-      let c : sectorSize * k ≡ k * sectorSize = omega arith in
-      c ∙ sector-from k (good-below n g (k + 1) (omega arith) (omega arith)) ∙ ap sectorOffset (add-one k)
+  sector-at : (k : ℕ) → sectorSize * k ≡ sectorStart (suc k)
+  sector-at k = omega arith
 
-  sector-behind : (k : ℕ) → k < n → take (sectorSize * suc k) image ≡ take (sectorSize * k) image ++ sectorOf image (suc k)
-  unfolding sectorOf
-  sector-behind k h =
+  sector-behind : (k : ℕ) → take (sectorSize * suc k) image ≡ take (sectorSize * k) image ++ sectorOf image (suc k)
+  sector-behind k =
       let m : sectorSize * suc k ≡ sectorSize * k + sectorSize = omega arith in
       ap (λ (j : ℕ). take j image) m
       ∙ take-add (sectorSize * k) sectorSize image
-      ∙ ap (λ (j : ℕ). take (sectorSize * k) image ++ take sectorSize (drop j image)) (sector-at k h)
+      ∙ ap (λ (j : ℕ). take (sectorSize * k) image ++ take sectorSize (drop j image)) (sector-at k)
+      ∙ ap (λ (l : List ℕ). take (sectorSize * k) image ++ l) (sector-part image (suc k))
 
   blanks-behind : (k : ℕ) → k < n → blanks k ≡ replicate sectorSize 0xFF ++ blanks (suc k)
   unfolding blanks
@@ -142,11 +140,11 @@ module _ (image : List ℕ) (n : ℕ) (g : goodN n ≡ true) (e : length image �
       ap (λ (j : ℕ). replicate j 0xFF) m ∙ sym (replicate-append-replicate sectorSize (sectorSize * (n - suc k)) 0xFF)
 
   whole : (k : ℕ) → k < n → length (sectorOf image (suc k)) ≡ sectorSize
-  whole k h = sector-length image n g e (suc k) (omega arith) (omega arith)
+  whole k h = sector-length image n e (suc k) (omega arith) (omega arith)
 
-  begun-more : (k : ℕ) → k < n → take (sectorSize * k) image ++ sectorOf image (suc k) ++ blanks (suc k) ≡ begun (suc k)
+  begun-more : (k : ℕ) → take (sectorSize * k) image ++ sectorOf image (suc k) ++ blanks (suc k) ≡ begun (suc k)
   unfolding begun
-  begun-more k h = ap (λ (l : List ℕ). l ++ blanks (suc k)) (sym (sector-behind k h))
+  begun-more k = ap (λ (l : List ℕ). l ++ blanks (suc k)) (sym (sector-behind k))
 
   -- a blank sector stands there already
   over-blank : (k : ℕ) → k < n → blankOf (sectorOf image (suc k)) ≡ true → begun k ≡ begun (suc k)
@@ -156,10 +154,10 @@ module _ (image : List ℕ) (n : ℕ) (g : goodN n ≡ true) (e : length image �
       blank-true (sectorOf image (suc k)) b ∙ ap (λ (j : ℕ). replicate j 0xFF) (whole k h) in
       ap (λ (l : List ℕ). take (sectorSize * k) image ++ l) (blanks-behind k h ∙ ap (λ (l : List ℕ). l ++ blanks (suc k)) (sym s))
       ∙ sym (append-assoc (take (sectorSize * k) image) (sectorOf image (suc k)) (blanks (suc k)))
-      ∙ begun-more k h
+      ∙ begun-more k
 
   -- any other is put there
-  over-used : (k : ℕ) → k < n → placeOf (begun k) (sectorOffset (suc k)) (sectorOf image (suc k)) ≡ begun (suc k)
+  over-used : (k : ℕ) → k < n → placeOf (begun k) (sectorStart (suc k)) (sectorOf image (suc k)) ≡ begun (suc k)
   unfolding begun
   over-used k h =
       let front : List ℕ = take (sectorSize * k) image in
@@ -170,10 +168,10 @@ module _ (image : List ℕ) (n : ℕ) (g : goodN n ≡ true) (e : length image �
       let d : drop (length (sectorOf image (suc k))) (blanks k) ≡ blanks (suc k) =
       ap₂ (λ (j : ℕ) (x : List ℕ). drop j x) w (blanks-behind k h)
       ∙ drop-at (replicate sectorSize 0xFF) (blanks (suc k)) sectorSize (length-replicate {A = ℕ} sectorSize 0xFF) in
-      ap (λ (j : ℕ). placeOf (front ++ blanks k) j (sectorOf image (suc k))) (sym (l ∙ sector-at k h))
+      ap (λ (j : ℕ). placeOf (front ++ blanks k) j (sectorOf image (suc k))) (sym (l ∙ sector-at k))
       ∙ place-next front (blanks k) (sectorOf image (suc k)) (omega arith)
       ∙ ap (λ (x : List ℕ). front ++ sectorOf image (suc k) ++ x) d
-      ∙ begun-more k h
+      ∙ begun-more k
 
   put-next : (k : ℕ) → k < n → blankOf (sectorOf image (suc k)) ≡ false → restored image n (packetCount image k) ≡ begun k → restored image n (packetCount image (suc k)) ≡ begun (suc k)
   unfolding restored
@@ -185,7 +183,7 @@ module _ (image : List ℕ) (n : ℕ) (g : goodN n ≡ true) (e : length image �
       ap (restored image n) c
       ∙ ap (λ (x : List ℕ). putBack x frame (readOf frame)) before
       ∙ ap (putBack (begun k) frame) (sym (packet-read image n p g e (s .below)))
-      ∙ ap₂ (λ (j : ℕ) (x : List ℕ). placeOf (begun k) (sectorOffset j) x) (s .sector) (packet-bytes image n p g e (s .below) ∙ ap (sectorOf image) (s .sector))
+      ∙ ap₂ (λ (j : ℕ) (x : List ℕ). placeOf (begun k) (sectorStart j) x) (s .sector) (packet-bytes image n p g e (s .below) ∙ ap (sectorOf image) (s .sector))
       ∙ over-used k h
 
   first : restored image n (packetCount image 0) ≡ begun 0

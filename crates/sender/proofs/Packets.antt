@@ -12,37 +12,24 @@ use lib.Seq.{getD-at}
 use borrow.Author.Tests.{eq-eqb, ne-eqb, le-leb, lt-leb, lt-ltb, le-ltb}
 use Rattle.buffer.specs.Compare.{blankOf}
 use Rattle.buffer.specs.Place.{frontOf}
-use Rattle.buffer.proofs.Parts.{part-out, part-length}
+use Rattle.buffer.proofs.Parts.{part-length}
 use Rattle.frame.specs.Frame.{writeFrame}
 use Rattle.frame.specs.Write.{putWrite}
 use Rattle.frame.specs.declared.read.Footer.{Footer}
 use Rattle.frame.proofs.Writing.{length-write, write-fits}
-use Rattle.layout.specs.Layout.{sectorSize, goodN, sectorOffset}
-use Rattle.layout.proofs.Layouts.{good-high, good-below, offset-good}
+use Rattle.layout.specs.Layout.{sectorSize, goodN, sectorStart, sectorOffset, sectorOf}
+use Rattle.layout.proofs.Layouts.{good-high, good-below, offset-good, sector-part, lent-out}
 use Rattle.sender.specs.declared.made.Made.{Made}
 use Rattle.sender.specs.declared.made.Made.the-variants.{BadN, BadLength, PastLast, Frame}
 use Rattle.sender.specs.declared.packet.Seen.{Seen}
 use Rattle.sender.specs.declared.packet.Tally.the-variants.{BadN as NoBank, BadLength as NoImage, Packets}
 use Rattle.sender.specs.Made.{room, standing}
-use Rattle.sender.specs.Packet.{sectorOf, sentOf, packetCount, packetSector, footerOf, packetFrame, packetMade, tallyOf, seenOf, Packet·Is}
+use Rattle.sender.specs.Packet.{sentOf, packetCount, packetSector, footerOf, packetFrame, packetMade, tallyOf, seenOf, Packet·Is}
 
 -- ---- a sector of an image
 
--- the sector behind the first k, as it lies
-pub sector-from : (k : ℕ) → goodN (k + 1) ≡ true → k * sectorSize ≡ sectorOffset (k + 1)
-sector-from k g =
-    let less : k ≡ k + 1 - 1 = omega arith in
-    ap (λ (j : ℕ). j * sectorSize) less ∙ offset-good (k + 1) g
-
-module _ (image : List ℕ) (n : ℕ) (g : goodN n ≡ true) (e : length image ≡ sectorSize * n) where
-  sector-end : (k : ℕ) → 1 ≤ k → k ≤ n → sectorOffset k + sectorSize ≤ length image
-  sector-end k l u =
-      let o : (k - 1) * sectorSize ≡ sectorOffset k = offset-good k (good-below n g k l u) in
-      omega arith
-
-  pub sector-length : (k : ℕ) → 1 ≤ k → k ≤ n → length (sectorOf image k) ≡ sectorSize
-  unfolding sectorOf
-  sector-length k l u = part-length image (sectorOffset k) sectorSize (sector-end k l u)
+pub sector-length : (image : List ℕ) (n : ℕ) → length image ≡ sectorSize * n → (k : ℕ) → 1 ≤ k → k ≤ n → length (sectorOf image k) ≡ sectorSize
+sector-length image n e k l u = ap length (sym (sector-part image k)) ∙ part-length image (sectorStart k) sectorSize (omega arith)
 
 -- ---- the list of those that are sent
 
@@ -65,12 +52,8 @@ sent-few image (suc k) = by (blankOf (sectorOf image (suc k))) (sent-few image k
     by false h = omega (arith, length-append (sentOf image k) (suc k ∷ []))
 
 -- the part that was looked at is the sector behind the first k
-pub looked-at : (image : List ℕ) (k from : ℕ) (r : Bool) → from ≡ sectorOffset (k + 1) → r ≡ blankOf (take (from + sectorSize - from) (drop from image)) → r ≡ blankOf (sectorOf image (suc k))
-unfolding sectorOf
-looked-at image k from r o e =
-    e
-    ∙ ap blankOf (part-out image from sectorSize)
-    ∙ ap (λ (i : ℕ). blankOf (take sectorSize (drop i image))) (o ∙ ap sectorOffset (add-one k))
+pub looked-at : (image : List ℕ) (k from : ℕ) (r : Bool) → goodN (k + 1) ≡ true → from ≡ sectorOffset (k + 1) → r ≡ blankOf (take (from + sectorSize - from) (drop from image)) → r ≡ blankOf (sectorOf image (suc k))
+looked-at image k from r g o e = e ∙ ap blankOf (lent-out image (suc k) from (omega (arith, offset-good (k + 1) g)))
 
 -- an element behind a list changes no other
 kept : (l : List ℕ) (x i : ℕ) → (i ≡ length l → ⊥) → getD l i 0 ≡ getD (l ++ (x ∷ [])) i 0
@@ -158,10 +141,15 @@ module _ (image : List ℕ) (n p : ℕ) (g : goodN n ≡ true) where
   pub packet-small : (k : ℕ) → p < packetCount image n → k ≡ packetSector image n p → k < 65536
   packet-small k q e = omega (arith, good-high n g, sent-in image n p q .high)
 
+  packet-offset : p < packetCount image n → sectorStart (packetSector image n p) ≡ sectorOffset (packetSector image n p)
+  packet-offset q =
+      let s : Sent image n (packetSector image n p) = sent-in image n p q in
+      offset-good _ (good-below n g _ (s .low) (s .high))
+
   pub packet-end : length image ≡ sectorSize * n → (k : ℕ) → p < packetCount image n → k ≡ packetSector image n p → sectorOffset k + sectorSize ≤ length image
   packet-end l k q e =
       let s : Sent image n (packetSector image n p) = sent-in image n p q in
-      rw e (sector-end image n g l (packetSector image n p) (s .low) (s .high))
+      rw e (omega (arith, s .low, s .high, packet-offset q))
 
 -- ---- each way out
 
@@ -184,7 +172,7 @@ module _ (image : List ℕ) (n p : ℕ) where
   frame-length g e q =
       let k : ℕ = packetSector image n p in
       let s : Sent image n k = sent-in image n p q in
-      let l : length (sectorOf image k) ≡ sectorSize = sector-length image n g e k (s .low) (s .high) in
+      let l : length (sectorOf image k) ≡ sectorSize = sector-length image n e k (s .low) (s .high) in
       omega (arith, length-write k (sectorOf image k) (footerOf (packetCount image n) p))
 
   module _ (size : ℕ) where
@@ -219,14 +207,14 @@ module _ (image : List ℕ) (n p : ℕ) where
       → sector ≡ packetSector image n p → from ≡ sectorOffset sector → footer ≡ footerOf (packetCount image n) p
       → after ≡ putWrite before sector (take (from + sectorSize - from) (drop from image)) footer
       → Packet·Is image n p before (Frame (sectorSize + 7)) after
-  unfolding packetFrame sectorOf
+  unfolding packetFrame
   packet-put before after from sector footer g e h q k o f a =
       let s : Sent image n (packetSector image n p) = sent-in image n p q in
       let m : Frame (sectorSize + 7) ≡ packetMade image n p (length before) = made-frame (length before) g e h q in
       let part : List ℕ = take (from + sectorSize - from) (drop from image) in
       let b : part ≡ sectorOf image (packetSector image n p) =
-      part-out image from sectorSize ∙ ap (λ (i : ℕ). take sectorSize (drop i image)) (o ∙ ap sectorOffset k) in
-      let l : length part ≡ sectorSize = ap length b ∙ sector-length image n g e (packetSector image n p) (s .low) (s .high) in
+      lent-out image (packetSector image n p) from (o ∙ ap sectorOffset k ∙ sym (packet-offset image n p g q)) in
+      let l : length part ≡ sectorSize = ap length b ∙ sector-length image n e (packetSector image n p) (s .low) (s .high) in
       record {
         answered = m;
         stands =

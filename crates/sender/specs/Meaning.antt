@@ -8,7 +8,7 @@ use Rattle.buffer.specs.Place.{placeOf}
 use Rattle.frame.specs.Read.{readOf, bytesIn}
 use Rattle.frame.specs.declared.read.Read.{Read}
 use Rattle.frame.specs.declared.read.Read.the-variants.{Fault, Control, Write}
-use Rattle.layout.specs.Layout.{sectorSize, sectorOffset}
+use Rattle.layout.specs.Layout.{sectorSize, sectorStart}
 use Rattle.sender.specs.Packet.{packetFrame}
 
 -- "Sender: 3, 2, 5", and 0 where nothing is refused
@@ -21,7 +21,7 @@ refusal badN badLength past = cond badN 3 (cond badLength 2 (cond past 5 0))
 abbrev pub putBack : List ℕ → List ℕ → Read → List ℕ
 putBack bank d Fault = bank
 putBack bank d (Control code n) = bank
-putBack bank d (Write sector m footer) = placeOf bank (sectorOffset sector) (bytesIn d m)
+putBack bank d (Write sector m footer) = placeOf bank (sectorStart sector) (bytesIn d m)
 
 -- what the first p packets make of a blank bank of n sectors
 unfoldable pub restored : List ℕ → ℕ → ℕ → List ℕ

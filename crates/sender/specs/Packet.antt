@@ -5,22 +5,18 @@ use mathlib.Core.Bool.{Bool, _&&_, cond}
 use mathlib.Core.List.{List, [], _∷_, _++_}
 use Prim.Native.Nat.{ℕ, zero, suc, _+_, _*_}
 use lib.Dec.{eqb, leb, ltb}
-use lib.ListN.{length, getD, take, drop}
+use lib.ListN.{length, getD}
 use Rattle.buffer.specs.Compare.{blankOf}
 use Rattle.frame.specs.Frame.{writeFrame}
 use Rattle.frame.specs.declared.read.Footer.{Footer}
 use Rattle.frame.specs.declared.read.Footer.the-variants.{End, Continued}
-use Rattle.layout.specs.Layout.{sectorSize, goodN, sectorOffset}
+use Rattle.layout.specs.Layout.{sectorSize, goodN, sectorOf}
 use Rattle.sender.specs.declared.made.Made.{Made}
 use Rattle.sender.specs.declared.made.Made.the-variants.{BadN, BadLength, PastLast, Frame}
 use Rattle.sender.specs.declared.packet.Seen.{Seen}
 use Rattle.sender.specs.declared.packet.Tally.{Tally}
 use Rattle.sender.specs.declared.packet.Tally.the-variants.{BadN as NoBank, BadLength as NoImage, Packets}
 use Rattle.sender.specs.Made.{room, standing}
-
--- the bytes of sector k
-unfoldable pub sectorOf : List ℕ → ℕ → List ℕ
-sectorOf image k = take sectorSize (drop (sectorOffset k) image)
 
 -- of the first k sectors those that have "a byte other than 0xFF", lowest first
 unfoldable pub sentOf : List ℕ → ℕ → List ℕ
