@@ -1,6 +1,5 @@
 pub mod Bodies
-pub mod Courses
 pub mod Hosting
-pub mod Leading
 pub mod Performing
+pub mod Promising
 pub mod Stepping

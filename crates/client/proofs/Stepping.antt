@@ -16,7 +16,7 @@ use Rattle.exchange.specs.Answer.{answerBytes, Say·Is}
 use Rattle.client.specs.Perform.{servedOf, Served·Is}
 use Rattle.client.specs.Step.{noticeOf, Carried, carriedOf, Carried·Is, targetOf, zeroOf, oneOf, planned, stepOf, Step·Is}
 use Rattle.client.specs.Record.{standingOf}
-use Rattle.client.proofs.Leading.{plan-is}
+use Rattle.client.proofs.Promising.{plan-is}
 use Rattle.decision.specs.declared.plan.Standing.{Standing}
 use Rattle.decision.specs.Plan.{Plan·Is}
 

@@ -17,7 +17,7 @@ use Rattle.client.specs.declared.record.Client.{Client}
 use Rattle.exchange.specs.Answer.{answerBytes}
 use Rattle.client.specs.Record.{noneReceived}
 use Rattle.client.specs.Step.{targetOf}
-use Rattle.client.proofs.Courses.{Course, still, begins, stores, ends, step-course}
+use Rattle.demands.proofs.Courses.{Course, still, begins, stores, ends, step-course}
 use Rattle.decision.proofs.Planning.{values-low, values-high}
 use Rattle.demands.specs.Board.{Board, Call, Input, Datagram, Outcome, said, after, lentTarget, called, stepMachine}
 use Rattle.demands.specs.Demand1.{isPacket}

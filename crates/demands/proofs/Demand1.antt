@@ -41,9 +41,9 @@ use Rattle.client.specs.Perform.{fitOf, storeResult, storeOf, checkedOf, served
 use Rattle.decision.specs.Plan.{lentGood, isWorn, anyWorn, valuesGood, addressesGood, planStart, planEnd, planPacket, planGood, planCommand, planAsked, planOf}
 use Rattle.client.specs.Record.{standingOf, marked}
 use Rattle.client.specs.Step.{Carried, carriedOf, targetOf, zeroOf, oneOf, stepOf}
-use Rattle.client.proofs.Courses.{fits-stored}
+use Rattle.demands.proofs.Courses.{fits-stored}
 use Rattle.decision.proofs.Planning.{lent}
-use Rattle.client.proofs.Leading.{whole-target}
+use Rattle.client.proofs.Promising.{whole-target}
 use Rattle.demands.specs.Board.{Board, board, Call, Input, Initiate, Terminate, Datagram, Outcome, backIn, answerNumber, lentTarget, callOutcome, stepMachine}
 use Rattle.demands.specs.Demand1.{firstOf, isFault, refused, changed, answered, stored, afterFrame, callRows, tableOf, sweptTarget, Meets1}
 use Rattle.demands.proofs.Sessions.{written-with}

@@ -42,7 +42,7 @@ use Rattle.client.specs.Perform.{Accepted, fitOf, storeResult}
 use Rattle.decision.specs.Plan.{isWorn, anyWorn, valuesGood, addressesGood}
 use Rattle.client.specs.Record.{begun, ended}
 use Rattle.client.specs.Step.{targetOf}
-use Rattle.client.proofs.Courses.{accepted, not-write}
+use Rattle.demands.proofs.Courses.{accepted, not-write}
 use Rattle.exchange.proofs.Saying.{answer-short}
 use Rattle.decision.proofs.Planning.{lent-buffer, values-words}
 use Rattle.demands.specs.Board.{Board, board, Call, Input, Datagram, Outcome, said, after, outcomes, targetBank, sectorsIn, lentTarget, stepMachine}

@@ -14,10 +14,10 @@ use Rattle.exchange.specs.declared.answer.Answer.the-variants.{Written}
 use Rattle.client.specs.declared.record.Client.{Client}
 use Rattle.exchange.specs.Answer.{writtenBytes, answerBytes}
 use Rattle.client.specs.Step.{Carried, stepOf}
-use Rattle.client.proofs.Courses.{Match, same, either, same-length, step-alike, step-told, step-said, step-fits}
+use Rattle.demands.proofs.Courses.{Match, same, either, same-length, step-alike, step-told, step-said, step-fits}
 use Rattle.exchange.proofs.Saying.{written-long}
-use Rattle.client.proofs.Courses.{Alike as AlikeSteps}
-use Rattle.client.proofs.Leading.{Finishing}
+use Rattle.demands.proofs.Courses.{Alike as AlikeSteps}
+use Rattle.demands.proofs.Leading.{Finishing}
 use Rattle.demands.specs.Board.{Board, board, Call, Input, Initiate, Terminate, Datagram, said, after, outcomes, sectorsIn, lentTarget, answerNumber, called, stepMachine}
 use Rattle.demands.specs.Session.{isEnd, allBlank, exchanged, noted, shown}
 use Rattle.demands.specs.Demand3.{AlikeBytes, same as same-bytes, either as either-bytes, Alike, AllAlike, none, more, Meets3}

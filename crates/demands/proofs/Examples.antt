@@ -41,7 +41,7 @@ use Rattle.exchange.specs.State.{isClosed}
 use Rattle.client.specs.Perform.{storeResult}
 use Rattle.decision.specs.Plan.{isWorn, valuesGood}
 use Rattle.client.specs.Step.{targetOf, zeroOf, oneOf}
-use Rattle.client.proofs.Courses.{accepted, fits-stored}
+use Rattle.demands.proofs.Courses.{accepted, fits-stored}
 use Rattle.decision.proofs.Planning.{values-zero, values-above, values-empty, values-long, values-words, values-low, values-high}
 use Rattle.demands.specs.Board.{Board, Call, Datagram, Outcome, said, backIn, lentTarget, stepMachine}
 use Rattle.demands.specs.Demand1.{packetStored}

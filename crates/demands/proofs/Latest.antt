@@ -17,7 +17,7 @@ use Rattle.flash.proofs.Sectors.{Has, has-still, length-with, with-here, with-o
 use Rattle.flash.proofs.Words.{length-padded}
 use Rattle.layout.specs.Layout.{sectorSize, sectorOf}
 use Rattle.exchange.specs.Answer.{answerBytes}
-use Rattle.client.proofs.Courses.{Course, still, begins, stores, ends, fits-stored, step-course}
+use Rattle.demands.proofs.Courses.{Course, still, begins, stores, ends, fits-stored, step-course}
 use Rattle.demands.specs.Board.{Board, Call, Input, Initiate, Terminate, Datagram, said, outcomes, lentTarget, called, stepMachine}
 use Rattle.demands.specs.Session.{allBlank, exchanged, shown, lately, lastAccepted}
 use Rattle.demands.proofs.Bytes.{quiet-begin, quiet-stored, response-begin, ended-begin, response-stored, written-begin, written-stored}

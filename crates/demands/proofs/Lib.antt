@@ -3,6 +3,7 @@ pub mod Asking
 pub mod Banks
 pub mod Bytes
 pub mod Counting
+pub mod Courses
 pub mod Demand1
 pub mod Demand2
 pub mod Demand3
@@ -11,6 +12,7 @@ pub mod Examples
 pub mod FirstOnly
 pub mod Fresh
 pub mod Latest
+pub mod Leading
 pub mod Lending
 pub mod Packets
 pub mod Reading

@@ -40,7 +40,7 @@ use Rattle.exchange.specs.Answer.{versionBytes, writtenBytes, answerBytes}
 use Rattle.exchange.specs.State.{isClosed}
 use Rattle.client.specs.Perform.{Accepted, storeResult}
 use Rattle.decision.specs.Plan.{lentGood}
-use Rattle.client.proofs.Courses.{accepted}
+use Rattle.demands.proofs.Courses.{accepted}
 use Rattle.exchange.proofs.Saying.{answer-short}
 use Rattle.decision.proofs.Planning.{lent, lent-buffer}
 use Rattle.demands.specs.Board.{Board, Call, Datagram, Outcome, said, lentTarget, stepMachine}

@@ -31,8 +31,8 @@ use Rattle.exchange.specs.State.{isClosed}
 use Rattle.client.specs.Host.{initiateOf, terminateOf}
 use Rattle.client.specs.Record.{noneReceived}
 use Rattle.client.specs.Step.{Carried}
-use Rattle.client.proofs.Courses.{Course, still, begins, stores, ends, not-write, fits-stored, step-course, step-stays, step-told, step-said, step-fits}
-use Rattle.client.proofs.Leading.{Finishing}
+use Rattle.demands.proofs.Courses.{Course, still, begins, stores, ends, not-write, fits-stored, step-course, step-stays, step-told, step-said, step-fits}
+use Rattle.demands.proofs.Leading.{Finishing}
 use Rattle.decision.proofs.Planning.{values-low, values-high}
 use Rattle.demands.specs.Board.{Board, board, Call, Input, Initiate, Terminate, Datagram, said, targetBank, sectorsIn, lentTarget, hostOutcome, callOutcome, called, stepMachine}
 use Rattle.demands.specs.Session.{isEnd, allBlank, exchanged, noted}

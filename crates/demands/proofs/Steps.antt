@@ -13,7 +13,7 @@ use Rattle.client.specs.Body.{chosen}
 use Rattle.exchange.specs.State.{isClosed}
 use Rattle.client.specs.Host.{initiateOf, terminateOf}
 use Rattle.client.specs.Record.{Stays}
-use Rattle.client.proofs.Courses.{stays-same, step-stays, step-length}
+use Rattle.demands.proofs.Courses.{stays-same, step-stays, step-length}
 use Rattle.demands.specs.Board.{Board, board, Input, Initiate, Terminate, Datagram, after, runningBank, called, stepMachine}
 use Rattle.demands.proofs.Lending.{running-back, zero-long, one-long}
 

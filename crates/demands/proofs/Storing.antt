@@ -11,7 +11,7 @@ use Rattle.layout.specs.Layout.{sectorSize, goodN}
 use Rattle.client.specs.declared.record.Client.{Client}
 use Rattle.exchange.specs.declared.state.State.the-variants as state
 use Rattle.decision.specs.Plan.{valuesGood}
-use Rattle.client.proofs.Leading.{Storing}
+use Rattle.demands.proofs.Leading.{Storing}
 use Rattle.exchange.proofs.Bearing.{packed}
 
 pub storing : (c : Client) (target : ℕ) (d : List ℕ) (sector m : ℕ) (footer : Footer) → readOf d ≡ Write sector m footer → c .state ≡ state.Write

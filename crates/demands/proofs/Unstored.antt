@@ -19,7 +19,7 @@ use Rattle.client.specs.Notice.{noNotice}
 use Rattle.client.specs.Perform.{fitOf}
 use Rattle.client.specs.Record.{noneReceived, begun}
 use Rattle.client.specs.Step.{targetOf}
-use Rattle.client.proofs.Courses.{not-write}
+use Rattle.demands.proofs.Courses.{not-write}
 use Rattle.demands.specs.Board.{Board, board, Call, Input, Datagram, Outcome, said, after, stepMachine}
 use Rattle.demands.specs.Demand1.{changed, sweptTarget}
 use Rattle.demands.specs.Demand2.{Lends, Ready}

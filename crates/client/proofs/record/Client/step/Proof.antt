@@ -1,7 +1,7 @@
 -- `client::step::Client::step` meets its contract.
 -- Assumes nothing.
 use Rattle.layout.specs.declared.Bank.the-variants.{Zero, One}
-use Rattle.client.proofs.Leading.{addressed, fair}
+use Rattle.client.proofs.Promising.{addressed, fair}
 use Rattle.client.proofs.Stepping.{step-is}
 use borrow.Author.Needs.{needs}
 use Rattle.client.proofs.record.Client.step.Statement.{statement}

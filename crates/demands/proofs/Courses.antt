@@ -22,19 +22,20 @@ use Rattle.exchange.specs.declared.answer.Answer.{Answer}
 use Rattle.exchange.specs.declared.answer.Answer.the-variants.{Response, Written}
 use Rattle.decision.specs.declared.plan.Plan.{Plan}
 use Rattle.decision.specs.declared.plan.Plan.the-variants.{Keep, Open, Close, Begin, Store, Wear, Finish}
 use Rattle.client.specs.declared.record.Client.{Client}
 use Rattle.exchange.specs.declared.state.State.{State}
 use Rattle.exchange.specs.declared.state.State.the-variants as state
 use Rattle.exchange.specs.Answer.{answerBytes}
 use Rattle.decision.specs.Plan.{planOf}
 use Rattle.client.specs.Perform.{fitOf, Accepted, storeResult, sectorCrc, Done, storeOf, checkedOf, servedOf}
 use Rattle.client.specs.Record.{standingOf, Stays, noneReceived, marked}
 use Rattle.client.specs.Step.{noticeOf, Carried, carriedOf, saidOf, targetOf, planned, stepOf}
 use Rattle.decision.proofs.Planning.{values-low, values-high, values-short, values-whole}
 use Rattle.decision.proofs.Leading.{Quiet}
 use Rattle.decision.proofs.Leading.{Leads as Decided}
 use Rattle.exchange.proofs.Saying.{answer-short}
-use Rattle.client.proofs.Leading.{Storing, Beginning, Finishing, Leads, heard, decides, leads}
+use Rattle.client.proofs.Promising.{heard, decides}
+use Rattle.demands.proofs.Leading.{Storing, Beginning, Finishing, Leads, leads}
 
 -- ---- a packet that is stored fits its sector
 

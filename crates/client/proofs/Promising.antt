@@ -1,56 +1,25 @@
 -- What the deciding promises to the doing, of the record and of what is lent.
 -- Assumes nothing.
 use mathlib.Core.Path.{_≡_, subst, ap, _∙_}
-use mathlib.Core.Bool.{true}
 use mathlib.Core.List.{List}
 use Prim.Native.Nat.{ℕ, _*_}
 use native.Mathlib.Omega.{arith}
 use lib.ListN.{length}
 use Rattle.layout.specs.declared.Bank.{Bank}
 use Rattle.layout.specs.declared.Bank.the-variants.{Zero, One}
-use Rattle.layout.specs.Layout.{sectorSize, goodN}
+use Rattle.layout.specs.Layout.{sectorSize}
 use Rattle.layout.proofs.Layouts.{good-high}
-use Rattle.exchange.specs.declared.state.State.the-variants as state
-use Rattle.exchange.proofs.Bearing.{Packed}
 use Rattle.decision.specs.declared.plan.Plan.{Plan}
 use Rattle.decision.specs.declared.plan.Plan.the-variants.{Keep, Open, Close, Begin, Store, Wear, Finish}
 use Rattle.decision.specs.declared.plan.Standing.{Standing}
-use Rattle.decision.specs.Plan.{valuesGood, planOf, Plan·Is}
+use Rattle.decision.specs.Plan.{planOf, Plan·Is}
 use Rattle.decision.proofs.Planning.{Lent, values-low, values-high}
-use Rattle.decision.proofs.Leading.{Heard, Quiet}
+use Rattle.decision.proofs.Leading.{Heard}
 use Rattle.decision.proofs.Leading.{Leads as Decided, leads as decided}
 use Rattle.client.specs.declared.record.Client.{Client}
 use Rattle.client.specs.Record.{standingOf}
 use Rattle.client.specs.Perform.{Fair}
 use Rattle.client.specs.Step.{Addressed, targetOf, planned}
-
--- ---- what a plan may be, on a target of so many bytes
-
--- a packet that is stored
-pub record Storing (c : Client) (target : ℕ) (datagram : List ℕ) (sector m : ℕ) : Type 0 where
-  pub packed : Packed datagram sector m
-  pub writing : c .state ≡ state.Write
-  pub good : goodN (c .n) ≡ true
-  pub whole : target ≡ c .n * sectorSize
-  pub values : valuesGood (c .n) sector m ≡ true
-
-pub record Beginning (c : Client) (target : ℕ) : Type 0 where
-  pub good : goodN (c .n) ≡ true
-  pub whole : target ≡ c .n * sectorSize
-
-pub record Finishing (c : Client) (target : ℕ) : Type 0 where
-  pub writing : c .state ≡ state.Write
-  pub good : goodN (c .n) ≡ true
-  pub whole : target ≡ c .n * sectorSize
-
-abbrev pub Leads : Client → ℕ → List ℕ → Plan → Type 0
-Leads c target datagram (Keep answer) = Quiet answer
-Leads c target datagram Open = Unit {0}
-Leads c target datagram Close = Unit {0}
-Leads c target datagram Begin = Beginning c target
-Leads c target datagram (Store sector m) = Storing c target datagram sector m
-Leads c target datagram Wear = Unit {0}
-Leads c target datagram Finish = Finishing c target
 
 module _ (c : Client) (bank0 bank1 marks address buffer datagram : List ℕ) where
   abbrev pub heard : Type 0
@@ -64,23 +33,8 @@ module _ (c : Client) (bank0 bank1 marks address buffer datagram : List ℕ) whe
       by Zero = l .one-whole
       by One = l .zero-whole
 
-  led : (plan : Plan) → Decided (standingOf c) heard datagram plan → Leads c (length (targetOf (c .running) bank0 bank1)) datagram plan
-  led (Keep answer) h = h .0
-  led Open h = tt
-  led Close h = tt
-  led Begin h = record { good = h .good; whole = whole-target (h .lengths) }
-  led (Store sector m) h =
-      record { packed = h .1 .packed; writing = h .1 .writing; good = h .0 .good; whole = whole-target (h .0 .lengths); values = h .1 .values }
-  led Wear h = tt
-  led Finish h = record { writing = h .1; good = h .0 .good; whole = whole-target (h .0 .lengths) }
-
   pub decides : Decided (standingOf c) heard datagram (planned c bank0 bank1 marks address buffer datagram)
   decides = decided (standingOf c) (length bank0) (length bank1) marks (length address) (length buffer) datagram
-
-  pub leads : Leads c (length (targetOf (c .running) bank0 bank1)) datagram (planned c bank0 bank1 marks address buffer datagram)
-  leads = led (planned c bank0 bank1 marks address buffer datagram) decides
-
-  -- ---- what the doing needs
 
   fair-led : (plan : Plan) → Decided (standingOf c) heard datagram plan → Fair plan (length (targetOf (c .running) bank0 bank1)) (length datagram)
   fair-led (Keep answer) h = tt
