@@ -53,7 +53,7 @@ module _ (whole at : ℕ) (s : Stretch) where
   module _ (ss : List Stretch) where
     pub laid-head : laidOut whole at (s ∷ ss) ≡ true → Fits whole at s
     unfolding laidOut
-    laid-head e = fits (and-left (fitsAt whole at s) (laidOut whole (stopOf s) ss) e)
+    laid-head e = fits (and-left (fitsAt whole at s) _ e)
 
     pub laid-tail : laidOut whole at (s ∷ ss) ≡ true → laidOut whole (stopOf s) ss ≡ true
     unfolding laidOut
