@@ -94,26 +94,17 @@ fn say_bank(bank: Bank) {
     say::decimal(layout::bank_number(bank) as usize);
 }
 
-fn say_version(id: u16, major: u8, minor: u8, revision: u32) {
-    say::text(b"version ");
-    say::pair(id);
+// The word of an answer, and its four fields.
+fn say_fields(word: &[u8], pair: u16, first: u8, second: u8, quad: u32) {
+    say::text(word);
     say::text(b" ");
-    say::byte(major);
+    say::pair(pair);
     say::text(b" ");
-    say::byte(minor);
+    say::byte(first);
     say::text(b" ");
-    say::quad(revision);
-}
-
-fn say_written(sector: u16, response: u8, write: u8, crc: u32) {
-    say::text(b"written ");
-    say::pair(sector);
+    say::byte(second);
     say::text(b" ");
-    say::byte(response);
-    say::text(b" ");
-    say::byte(write);
-    say::text(b" ");
-    say::quad(crc);
+    say::quad(quad);
 }
 
 fn say_response(datagram: &[u8]) {
@@ -126,13 +117,13 @@ fn say_response(datagram: &[u8]) {
             major,
             minor,
             revision,
-        } => say_version(id, major, minor, revision),
+        } => say_fields(b"version", id, major, minor, revision),
         Response::Written {
             sector,
             response,
             write,
             crc,
-        } => say_written(sector, response, write, crc),
+        } => say_fields(b"written", sector, response, write, crc),
     }
     say::end();
 }

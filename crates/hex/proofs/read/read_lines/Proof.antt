@@ -37,7 +37,6 @@ same-length c = search needs
 returns : tie.Need-returns Inv-loop μ-loop
 returns c =
     let a = (c .before .before .before .before .before .before .before .args) in
-    let q = (c .before .before .before .before .before .before .before .pre) in
     let t = a .text .now in
     let l = (c .before .before .before .before .loop) in
     read-finish (a .base) (length (a .image .now)) (l .state) (l .line) (l .image) t (l .at) _ _ (ahead-none t (l .at) (sym (c .before .before .before .ahead-of .ensures) ∙ (c .before .enum-told .given .1))) (l .inv .1 .1 .1 .1) (c .finish .ensures)
@@ -63,7 +62,6 @@ same-length-2 c = search needs
 returns-2 : tie.Need-returns-2 Inv-loop μ-loop
 returns-2 c =
     let a = (c .before .before .before .before .before .before .before .before .before .before .before .before .before .before .args) in
-    let q = (c .before .before .before .before .before .before .before .before .before .before .before .before .before .before .pre) in
     let t = a .text .now in
     let l = (c .before .before .before .before .before .before .before .before .before .before .before .loop) in
     let m = ahead-line t (l .at) _ (sym (c .before .before .before .before .before .before .before .before .before .before .ahead-of .ensures) ∙ (c .before .before .before .before .before .before .before .before .found .given .1)) in
@@ -76,26 +74,19 @@ enum-known-step-2 c = search needs
 
 add-line : tie.Need-add-line Inv-loop μ-loop
 add-line c =
-    let a = (c .before .before .before .before .before .before .before .before .before .before .before .before .before .before .args) in
-    let q = (c .before .before .before .before .before .before .before .before .before .before .before .before .before .before .pre) in
-    let t = a .text .now in
     let l = (c .before .before .before .before .before .before .before .before .before .before .before .loop) in
-    let m = ahead-line t (l .at) _ (sym (c .before .before .before .before .before .before .before .before .before .before .ahead-of .ensures) ∙ (c .before .before .before .before .before .before .before .before .found .given .1)) in
+    let m = ahead-line _ (l .at) _ (sym (c .before .before .before .before .before .before .before .before .before .before .ahead-of .ensures) ∙ (c .before .before .before .before .before .before .before .before .found .given .1)) in
     omega (arith, m .0, m .1)
 
 loop-less : tie.Need-loop-less Inv-loop μ-loop
 loop-less c =
-    let a = (c .before .before .before .before .before .before .before .before .before .before .before .before .before .before .args) in
-    let q = (c .before .before .before .before .before .before .before .before .before .before .before .before .before .before .pre) in
-    let t = a .text .now in
     let l = (c .before .before .before .before .before .before .before .before .before .before .before .loop) in
-    let m = ahead-line t (l .at) _ (sym (c .before .before .before .before .before .before .before .before .before .before .ahead-of .ensures) ∙ (c .before .before .before .before .before .before .before .before .found .given .1)) in
+    let m = ahead-line _ (l .at) _ (sym (c .before .before .before .before .before .before .before .before .before .before .ahead-of .ensures) ∙ (c .before .before .before .before .before .before .before .before .found .given .1)) in
     omega (arith, m .0, m .1)
 
 loop-again : tie.Need-loop-again Inv-loop μ-loop
 loop-again c =
     let a = (c .before .before .before .before .before .before .before .before .before .before .before .before .before .before .args) in
-    let q = (c .before .before .before .before .before .before .before .before .before .before .before .before .before .before .pre) in
     let t = a .text .now in
     let l = (c .before .before .before .before .before .before .before .before .before .before .before .loop) in
     let m = ahead-line t (l .at) _ (sym (c .before .before .before .before .before .before .before .before .before .before .ahead-of .ensures) ∙ (c .before .before .before .before .before .before .before .before .found .given .1)) in

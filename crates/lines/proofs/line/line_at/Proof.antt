@@ -29,21 +29,17 @@ end-at-requires c κs = search needs
 
 add-t7 : tie.Need-add-t7 Inv-loop μ-loop
 add-t7 c =
-    let a = (c .before .before .before .before .before .before .args) in
     let l = (c .before .before .before .loop) in
-    let t = a .text .now in
-    let f = end-fits t (l .i) (omega arith) in
+    let f = end-fits (c .before .before .before .before .before .before .args .text .now) (l .i) (omega arith) in
     let e = (c .before .end-at .ensures) in
     omega arith
 
 returns : tie.Need-returns Inv-loop μ-loop
 returns c =
-    let a = (c .before .before .before .before .before .before .args) in
     let l = (c .before .before .before .loop) in
-    let t = a .text .now in
-    let f = end-fits t (l .i) (omega arith) in
+    let f = end-fits (c .before .before .before .before .before .before .args .text .now) (l .i) (omega arith) in
     let e = (c .before .end-at .ensures) in
-    let s = line-stops t (l .i) (omega arith) (λ z. (c .if1 .taken) (e ∙ z)) in
+    let s = line-stops _ (l .i) (omega arith) (λ z. (c .if1 .taken) (e ∙ z)) in
     record { end-is = omega arith; next-is = omega arith; after = omega arith; before = omega arith; on = omega arith; within = omega arith }
 
 add-i : tie.Need-add-i Inv-loop μ-loop
@@ -54,18 +50,14 @@ loop-less c = search needs
 
 loop-again : tie.Need-loop-again Inv-loop μ-loop
 loop-again c =
-    let a = (c .before .before .before .before .before .before .args) in
     let l = (c .before .before .before .loop) in
-    let t = a .text .now in
-    let g = line-goes t (l .i) (omega arith) (sym (c .before .end-at .ensures) ∙ (c .if1 .left)) in
+    let g = line-goes _ (l .i) (omega arith) (sym (c .before .end-at .ensures) ∙ (c .if1 .left)) in
     (omega arith, (omega arith, (omega arith, omega arith)))
 
 returns-2 : tie.Need-returns-2 Inv-loop μ-loop
 returns-2 c =
-    let a = (c .before .before .before .before .args) in
     let l = (c .before .loop) in
-    let t = a .text .now in
-    let s = line-past t (l .i) (omega arith) in
+    let s = line-past (c .before .before .before .before .args .text .now) (l .i) (omega arith) in
     record { end-is = omega arith; next-is = omega arith; after = omega arith; before = omega arith; on = omega arith; within = omega arith }
 
 pub line-at-spec : {M : Type 1} → statement M
