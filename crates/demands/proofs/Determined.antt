@@ -30,6 +30,7 @@ determined =
       sector-blank = λ bank k. once _;
       sweep = λ before n received. once _;
       good-n = λ n. once _;
+      bank-size = λ n. once _;
       sectors = λ length. once _;
       bank-number = λ bank. once _;
       other = λ bank. once _;

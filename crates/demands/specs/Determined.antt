@@ -27,7 +27,7 @@ use Rattle.frame.specs.Read.{Read·Is as ReadFrame·Is}
 use Rattle.frame.specs.Write.{PutControl·Is, PutWrite·Is, PutError·Is}
 use Rattle.flash.specs.Bank.{WriteAt·Is, SectorBlank·Is, Sweep·Is}
 use Rattle.flash.specs.Sector.{Erase·Is, StoreWord·Is, WriteSector·Is}
-use Rattle.layout.specs.Layout.{GoodN·Is, Sectors·Is, BankNumber·Is, Other·Is, Start·Is, End·Is, SectorOffset·Is}
+use Rattle.layout.specs.Layout.{GoodN·Is, BankSize·Is, Sectors·Is, BankNumber·Is, Other·Is, Start·Is, End·Is, SectorOffset·Is}
 use Rattle.bank.specs.Sound.{Check·Is, Body·Is}
 use Rattle.lines.specs.Places.{Ahead·Is, Reader·Is, Next·Is}
 use Rattle.hex.specs.Read.{KindNumber·Is}
@@ -87,6 +87,7 @@ pub record Determined : Type 0 where
   pub sweep : (before : List ℕ) (n : ℕ) (received : List Bool) → Once (Sweep·Is before n received)
   -- banks
   pub good-n : (n : ℕ) → Once (GoodN·Is n)
+  pub bank-size : (n : ℕ) → Once (BankSize·Is n)
   pub sectors : (length : ℕ) → Once (Sectors·Is length)
   pub bank-number : (bank : Bank) → Once (BankNumber·Is bank)
   pub other : (bank : Bank) → Once (Other·Is bank)

@@ -4,7 +4,6 @@ use mathlib.Core.Path.{_≡_, refl, ap, _∙_}
 use mathlib.Core.Bool.{Bool, true, false, cond}
 use mathlib.Core.List.{List}
 use Prim.Native.Nat.{ℕ, _+_, _-_, _*_, _/_, _%_, _≤_, _<_}
-use native.Mathlib.Nat.{mul-comm}
 use native.Mathlib.Omega.{arith}
 use lib.Dec.{eqb, leb}
 use lib.ListN.{take, drop}
@@ -15,7 +14,7 @@ use Rattle.layout.specs.declared.Bank.{Bank}
 use Rattle.layout.specs.declared.Bank.the-variants.{Zero, One}
 use Rattle.layout.specs.declared.Counted.the-variants.{Refused, Sectors}
 use Rattle.layout.specs.Said.{number, value, countedSaid}
-use Rattle.layout.specs.Layout.{sectorSize, mostSectors, goodN, wholeLength, sectorsOf, startOf, endOf, sectorStart, sectorOffset, sectorOf}
+use Rattle.layout.specs.Layout.{sectorSize, mostSectors, goodN, bankSize, goodSize, wholeLength, sectorsOf, startOf, endOf, sectorStart, sectorOffset, sectorOf}
 
 pub start-small : (bank : Bank) → startOf bank ≤ 0x14000A00
 start-small Zero = omega arith
@@ -46,6 +45,14 @@ module _ (n : ℕ) where
   -- so is every N below it
   pub good-below : goodN n ≡ true → (k : ℕ) → 1 ≤ k → k ≤ n → goodN k ≡ true
   good-below e k l h = good-told k l (omega (arith, good-high e))
+
+  pub size-bad : goodN n ≡ false → goodSize n ≡ 0
+  unfolding goodSize
+  size-bad g = simp g
+
+  pub size-good : goodN n ≡ true → goodSize n ≡ bankSize n
+  unfolding goodSize
+  size-good g = simp g
 
   pub whole-good : wholeLength n ≡ true → goodN (n / sectorSize) ≡ true
   unfolding wholeLength
@@ -85,9 +92,9 @@ module _ (n : ℕ) where
   unfolding endOf
   end-bad bank g = simp g
 
-  pub end-good : (bank : Bank) (s : ℕ) → goodN n ≡ true → s ≡ startOf bank → s + n * sectorSize - 1 ≡ endOf bank n
+  pub end-good : (bank : Bank) (s : ℕ) → goodN n ≡ true → s ≡ startOf bank → s + bankSize n - 1 ≡ endOf bank n
   unfolding endOf
-  end-good bank s g e = simp g (ap (λ (x : ℕ). x + n * sectorSize - 1) e ∙ ap (λ (x : ℕ). startOf bank + x - 1) (mul-comm n sectorSize))
+  end-good bank s g e = simp g (ap (λ (x : ℕ). x + bankSize n - 1) e)
 
   pub offset-bad : goodN n ≡ false → 0 ≡ sectorOffset n
   unfolding sectorOffset

@@ -22,6 +22,14 @@ mostSectors = 491
 unfoldable pub goodN : ℕ → Bool
 goodN n = leb 1 n && leb n mostSectors
 
+-- the bytes of a bank of n sectors ("512·N bytes each")
+abbrev pub bankSize : ℕ → ℕ
+bankSize n = n * sectorSize
+
+-- the same, and 0 for a number of sectors that no bank has
+unfoldable pub goodSize : ℕ → ℕ
+goodSize n = cond (goodN n) (bankSize n) 0
+
 -- "a whole number from 1 to 491"
 unfoldable pub wholeLength : ℕ → Bool
 wholeLength length = eqb (length % sectorSize) 0 && goodN (length / sectorSize)
@@ -44,7 +52,7 @@ startOf One = 0x14000A00
 
 -- "start + 512·N - 1"
 unfoldable pub endOf : Bank → ℕ → ℕ
-endOf bank n = cond (goodN n) (startOf bank + sectorSize * n - 1) 0
+endOf bank n = cond (goodN n) (startOf bank + bankSize n - 1) 0
 
 -- the index of the first byte of sector k ("sector k starts at start + (k - 1)·512")
 abbrev pub sectorStart : ℕ → ℕ
@@ -60,6 +68,9 @@ sectorOf bank k = take sectorSize (drop (sectorStart k) bank)
 
 abbrev pub GoodN·Is : ℕ → Bool → Type 0
 GoodN·Is n r = r ≡ goodN n
+
+abbrev pub BankSize·Is : ℕ → ℕ → Type 0
+BankSize·Is n r = r ≡ goodSize n
 
 abbrev pub Sectors·Is : ℕ → Counted → Type 0
 Sectors·Is length r = r ≡ sectorsOf length
