@@ -5,42 +5,44 @@ use mathlib.Core.Bool.{true, false}
 use Prim.Native.Nat.{ℕ}
 use Rattle.layout.specs.declared.Bank.{Bank}
 use Rattle.layout.specs.Layout.{goodN}
+use Rattle.exchange.specs.State.{isClosed}
+use Rattle.client.specs.declared.host.Hosted.{Hosted}
 use Rattle.client.specs.declared.host.Told.the-variants.{Done, BadN, InVain}
 use Rattle.client.specs.declared.record.Client.{Client}
-use Rattle.client.specs.Record.{newClient, initiated, terminated}
-use Rattle.exchange.specs.State.{isClosed}
-use Rattle.client.specs.Host.{hosted, newOf, initiateOf, terminateOf}
+use Rattle.client.specs.Record.{closedClient, initiated, terminated}
+use Rattle.client.specs.Host.{hosted, fixedOf, newOf, initiateOf, terminateOf, New·Is, Initiate·Is, Terminate·Is}
 
-module _ (n : ℕ) (running : Bank) (major minor revision : ℕ) where
-  pub new-good : goodN n ≡ true → hosted (newClient n running major minor revision) Done ≡ newOf n running major minor revision
+module _ {n : ℕ} {running : Bank} {major minor revision : ℕ} {c : Client} {r : Hosted}
+    (is : c ≡ closedClient (fixedOf n running major minor revision) running) where
+  pub new-good : r ≡ hosted c Done → goodN n ≡ true → New·Is n running major minor revision r
   unfolding newOf
-  new-good g = simp g
+  new-good h g = record { is = rw (h, is) (simp g); says = rw h (simp g) }
 
-  pub new-bad : goodN n ≡ false → hosted (newClient n running major minor revision) BadN ≡ newOf n running major minor revision
+  pub new-bad : r ≡ hosted c BadN → goodN n ≡ false → New·Is n running major minor revision r
   unfolding newOf
-  new-bad g = simp g
+  new-bad h g = record { is = rw (h, is) (simp g); says = rw h (simp g) }
 
-module _ (c : Client) where
-  pub initiate-bad : goodN (c .n) ≡ false → hosted c BadN ≡ initiateOf c
+module _ (c : Client) {d : Client} {r : Hosted} where
+  pub initiate-bad : r ≡ hosted c BadN → goodN (c .fixed .n) ≡ false → Initiate·Is c r
   unfolding initiateOf
-  initiate-bad g = simp g
+  initiate-bad h g = record { is = rw h (simp g); says = rw h (simp g) }
 
-  pub initiate-vain : goodN (c .n) ≡ true → isClosed (c .state) ≡ false → hosted c InVain ≡ initiateOf c
+  pub initiate-vain : r ≡ hosted c InVain → goodN (c .fixed .n) ≡ true → isClosed (c .state) ≡ false → Initiate·Is c r
   unfolding initiateOf
-  initiate-vain g s = simp (g, s)
+  initiate-vain h g s = record { is = rw h (simp (g, s)); says = rw h (simp (g, s)) }
 
-  pub initiate-done : goodN (c .n) ≡ true → isClosed (c .state) ≡ true → hosted (initiated c) Done ≡ initiateOf c
+  pub initiate-done : d ≡ initiated c → r ≡ hosted d Done → goodN (c .fixed .n) ≡ true → isClosed (c .state) ≡ true → Initiate·Is c r
   unfolding initiateOf
-  initiate-done g s = simp (g, s)
+  initiate-done e h g s = record { is = rw (h, e) (simp (g, s)); says = rw h (simp (g, s)) }
 
-  pub terminate-bad : goodN (c .n) ≡ false → hosted c BadN ≡ terminateOf c
+  pub terminate-bad : r ≡ hosted c BadN → goodN (c .fixed .n) ≡ false → Terminate·Is c r
   unfolding terminateOf
-  terminate-bad g = simp g
+  terminate-bad h g = record { is = rw h (simp g); says = rw h (simp g) }
 
-  pub terminate-vain : goodN (c .n) ≡ true → isClosed (c .state) ≡ true → hosted c InVain ≡ terminateOf c
+  pub terminate-vain : r ≡ hosted c InVain → goodN (c .fixed .n) ≡ true → isClosed (c .state) ≡ true → Terminate·Is c r
   unfolding terminateOf
-  terminate-vain g s = simp (g, s)
+  terminate-vain h g s = record { is = rw h (simp (g, s)); says = rw h (simp (g, s)) }
 
-  pub terminate-done : goodN (c .n) ≡ true → isClosed (c .state) ≡ false → hosted (terminated c) Done ≡ terminateOf c
+  pub terminate-done : d ≡ terminated c → r ≡ hosted d Done → goodN (c .fixed .n) ≡ true → isClosed (c .state) ≡ false → Terminate·Is c r
   unfolding terminateOf
-  terminate-done g s = simp (g, s)
+  terminate-done e h g s = record { is = rw (h, e) (simp (g, s)); says = rw h (simp (g, s)) }

@@ -4,23 +4,24 @@ use mathlib.Core.Path.{_≡_}
 use mathlib.Core.Logic.{_⊎_}
 use mathlib.Core.Bool.{Bool, true, false, _||_, cond}
 use mathlib.Core.List.{List}
-use Prim.Native.Nat.{ℕ, _+_, _*_, _≤_}
+use Prim.Native.Nat.{ℕ, _≤_}
 use Rattle.buffer.specs.Compare.{blankOf}
 use Rattle.crc.specs.Crc.{crcOf}
-use Rattle.frame.specs.Read.{bytesIn}
 use Rattle.flash.specs.Bank.{writtenAt, alreadyAt, sweptOf}
 use Rattle.bank.specs.declared.check.Verdict.{Verdict}
 use Rattle.bank.specs.declared.check.Verdict.the-variants as verdict
-use Rattle.layout.specs.Layout.{sectorSize, mostSectors, otherOf, sectorOf}
 use Rattle.bank.specs.Sound.{verdictOf}
+use Rattle.layout.specs.Layout.{bankSize, mostSectors, otherOf, sectorOf}
+use Rattle.commands.specs.declared.Command.the-variants.{ModeStart, WriteStart, WriteEnd, ModeEnd}
 use Rattle.exchange.specs.declared.answer.Answer.{Answer}
 use Rattle.exchange.specs.declared.answer.Answer.the-variants.{Response, Written}
-use Rattle.client.specs.declared.perform.Served.{Served}
+use Rattle.decision.specs.declared.plan.Fixed.{Fixed}
 use Rattle.decision.specs.declared.plan.Plan.{Plan}
-use Rattle.decision.specs.declared.plan.Plan.the-variants.{Keep, Open, Close, Begin, Store, Wear, Finish}
+use Rattle.decision.specs.declared.plan.Plan.the-variants.{Keep, Open, Leave, Begin, Store, Wear, Finish}
+use Rattle.client.specs.declared.perform.Served.{Served}
 use Rattle.client.specs.declared.record.Client.{Client}
 use Rattle.client.specs.declared.record.Latest.the-variants.{Good, Otherwise}
-use Rattle.client.specs.Record.{opened, modeEnded, begun, marked, ended}
+use Rattle.client.specs.Record.{starting, opened, modeEnded, begun, marked, ended}
 
 -- a sound bank may start next, an unsound one may not ("unsound gives 1E")
 abbrev pub fitBy : Verdict → Bool
@@ -28,8 +29,9 @@ fitBy verdict.Refused = false
 fitBy verdict.Sound = true
 fitBy verdict.Unsound = false
 
-abbrev pub fitOf : List ℕ → Bool
-fitOf bank = fitBy (verdictOf bank)
+-- whether a client may start a bank: by the bank, and by what was fixed when the client was made
+abbrev pub fitOf : Fixed → List ℕ → Bool
+fitOf fixed bank = fitBy (verdictOf bank)
 
 -- "1D if the data are all 0xFF", or if the sector already was what it should become
 abbrev pub storeResult : Bool → Bool → ℕ
@@ -52,32 +54,33 @@ pub record Done : Type 0 where
 abbrev pub done : Client → Answer → List ℕ → Done
 done c answer target = record { client = c; answer = answer; target = target }
 
--- "Write packet in write state"
+-- "Write packet in write state": its data to their sector
 unfoldable pub storeOf : Client → ℕ → List ℕ → List ℕ → Done
 storeOf c sector bytes target =
-    done (marked c sector)
+    done (marked sector c)
     (Written sector 0x06 (storeResult (blankOf bytes) (alreadyAt target sector bytes)) (sectorCrc (writtenAt target sector bytes) sector))
     (writtenAt target sector bytes)
 
--- the bank check of what the sweep left
+-- the bank check of what the sweep left; the next-start bank is set last, and only by 06
 unfoldable pub checkedOf : Client → List ℕ → Done
 checkedOf c target =
-    cond (fitOf target)
-    (done (ended c Good (otherOf (c .running))) (Response 0x75 0x06) target)
-    (done (ended c Otherwise (c .next)) (Response 0x75 0x1E) target)
+    cond (fitOf (c .fixed) target)
+    (done (starting (otherOf (c .fixed .running)) (ended Good c)) (Response WriteEnd 0x06) target)
+    (done (ended Otherwise c) (Response WriteEnd 0x1E) target)
 
 -- the sweep, "then the bank check runs"
 abbrev pub finishOf : Client → List ℕ → Done
-finishOf c target = checkedOf c (sweptOf target (c .n) (c .received))
+finishOf c target = checkedOf c (sweptOf target (c .fixed .n) (c .received))
 
+-- a plan, the target bank, the data of the datagram; at a write start the next-start bank is set first
 unfoldable pub servedOf : Client → Plan → List ℕ → List ℕ → Done
-servedOf c (Keep answer) target datagram = done c answer target
-servedOf c Open target datagram = done (opened c) (Response 0x71 0x06) target
-servedOf c Close target datagram = done (modeEnded c) (Response 0x74 0x06) target
-servedOf c Begin target datagram = done (begun c) (Response 0x70 0x06) target
-servedOf c (Store sector length) target datagram = storeOf c sector (bytesIn datagram length) target
-servedOf c Wear target datagram = done (ended c Otherwise (c .next)) (Response 0x75 0x1C) target
-servedOf c Finish target datagram = finishOf c target
+servedOf c (Keep answer) target bytes = done c answer target
+servedOf c Open target bytes = done (opened c) (Response ModeStart 0x06) target
+servedOf c Leave target bytes = done (modeEnded c) (Response ModeEnd 0x06) target
+servedOf c Begin target bytes = done (begun (starting (c .fixed .running) c)) (Response WriteStart 0x06) target
+servedOf c (Store sector) target bytes = storeOf c sector bytes target
+servedOf c Wear target bytes = done (ended Otherwise c) (Response WriteEnd 0x1C) target
+servedOf c Finish target bytes = finishOf c target
 
 abbrev pub served : Client → Answer → Served
 served c answer = record { client = c; answer = answer }
@@ -87,18 +90,17 @@ pub record Served·Is (d : Done) (r : Served) (after : List ℕ) : Type 0 where
   pub answer : r .answer ≡ d .answer
   pub target : after ≡ d .target
 
--- what a plan needs of the lengths of target and datagram: that its sector is there, and the bytes for it
-pub record Storable (sector m target datagram : ℕ) : Type 0 where
+-- what a plan needs of the target's length: that its sector is there
+pub record Storable (sector target : ℕ) : Type 0 where
   pub first : 1 ≤ sector
   pub last : sector ≤ mostSectors
-  pub inside : sector * sectorSize ≤ target
-  pub sent : m + 5 ≤ datagram
+  pub inside : bankSize sector ≤ target
 
-abbrev pub Fair : Plan → ℕ → ℕ → Type 0
-Fair (Keep answer) target datagram = Unit {0}
-Fair Open target datagram = Unit {0}
-Fair Close target datagram = Unit {0}
-Fair Begin target datagram = Unit {0}
-Fair (Store sector m) target datagram = Storable sector m target datagram
-Fair Wear target datagram = Unit {0}
-Fair Finish target datagram = Unit {0}
+abbrev pub Fair : Plan → ℕ → Type 0
+Fair (Keep answer) target = Unit {0}
+Fair Open target = Unit {0}
+Fair Leave target = Unit {0}
+Fair Begin target = Unit {0}
+Fair (Store sector) target = Storable sector target
+Fair Wear target = Unit {0}
+Fair Finish target = Unit {0}

@@ -1,23 +1,31 @@
 -- One datagram: decided upon, carried out on the target bank, answered (01, 'The client, step by step').
 -- Assumes nothing.
 use mathlib.Core.Path.{_≡_}
-use mathlib.Core.List.{List}
+use mathlib.Core.Bool.{not, cond}
+use mathlib.Core.List.{List, []}
 use Prim.Native.Nat.{ℕ}
+use lib.Dec.{eqb}
 use lib.ListN.{length}
 use Rattle.buffer.specs.Place.{frontOf}
+use Rattle.frame.specs.Read.{dataIn}
 use Rattle.layout.specs.declared.Bank.{Bank}
-use Rattle.layout.specs.declared.Bank.the-variants.{Zero, One}
+use Rattle.layout.specs.Layout.{goodN, bankSize, otherOf}
+use Rattle.layout.specs.Pair.{Banks, banks, bankIn, withBank}
 use Rattle.exchange.specs.declared.answer.Answer.{Answer}
+use Rattle.exchange.specs.declared.answer.Answer.the-variants.{Refused}
+use Rattle.exchange.specs.declared.answer.Refusal.the-variants.{BadN, BadLength}
+use Rattle.exchange.specs.Answer.{answerBytes, answerNumber, toldLength}
+use Rattle.exchange.specs.Request.{askedOf}
+use Rattle.exchange.specs.State.{isClosed}
+use Rattle.decision.specs.declared.plan.Plan.{Plan}
+use Rattle.decision.specs.declared.plan.Plan.the-variants.{Keep, Open, Leave, Begin, Store, Wear, Finish}
+use Rattle.decision.specs.Plan.{lentGood, planOf}
 use Rattle.client.specs.declared.notice.Kind.the-variants.{Started, Ended}
 use Rattle.client.specs.declared.notice.Notice.{Notice}
-use Rattle.decision.specs.declared.plan.Plan.{Plan}
-use Rattle.decision.specs.declared.plan.Plan.the-variants.{Keep, Open, Close, Begin, Store, Wear, Finish}
 use Rattle.client.specs.declared.record.Client.{Client}
 use Rattle.client.specs.declared.record.Latest.{Latest}
 use Rattle.client.specs.declared.step.Stepped.{Stepped}
-use Rattle.exchange.specs.Answer.{answerBytes}
 use Rattle.client.specs.Notice.{noNotice, noticeWith, latestNumber}
-use Rattle.decision.specs.Plan.{planOf}
 use Rattle.client.specs.Perform.{Done, servedOf}
 use Rattle.client.specs.Record.{standingOf}
 
@@ -25,9 +33,9 @@ use Rattle.client.specs.Record.{standingOf}
 abbrev pub noticeOf : Plan → Latest → List ℕ → Notice
 noticeOf (Keep answer) latest address = noNotice
 noticeOf Open latest address = noticeWith Started 0 address
-noticeOf Close latest address = noticeWith Ended (latestNumber latest) address
+noticeOf Leave latest address = noticeWith Ended (latestNumber latest) address
 noticeOf Begin latest address = noNotice
-noticeOf (Store sector m) latest address = noNotice
+noticeOf (Store sector) latest address = noNotice
 noticeOf Wear latest address = noNotice
 noticeOf Finish latest address = noNotice
 
@@ -35,9 +43,9 @@ noticeOf Finish latest address = noNotice
 abbrev pub Addressed : Plan → ℕ → Type 0
 Addressed (Keep answer) address = Unit {0}
 Addressed Open address = address ≡ 16
-Addressed Close address = address ≡ 16
+Addressed Leave address = address ≡ 16
 Addressed Begin address = Unit {0}
-Addressed (Store sector m) address = Unit {0}
+Addressed (Store sector) address = Unit {0}
 Addressed Wear address = Unit {0}
 Addressed Finish address = Unit {0}
 
@@ -56,15 +64,15 @@ saidOf d notice buffer =
     record {
       client = d .client;
       answer = d .answer;
-      told = length (answerBytes (d .answer));
+      told = toldLength (answerBytes (d .answer)) (length buffer);
       notice = notice;
       target = d .target;
       buffer = frontOf buffer (answerBytes (d .answer));
     }
 
+-- a plan carried out on a target, with the data that the datagram has
 unfoldable pub carriedOf : Client → Plan → List ℕ → List ℕ → List ℕ → List ℕ → Carried
-carriedOf c plan target address buffer datagram =
-    saidOf (servedOf c plan target datagram) (noticeOf plan (c .latest) address) buffer
+carriedOf c plan target address buffer bytes = saidOf (servedOf c plan target bytes) (noticeOf plan (c .latest) address) buffer
 
 pub record Carried·Is (d : Carried) (r : Stepped) (after answered : List ℕ) : Type 0 where
   pub client : r .client ≡ d .client
@@ -74,33 +82,65 @@ pub record Carried·Is (d : Carried) (r : Stepped) (after answered : List ℕ) :
   pub target : after ≡ d .target
   pub buffer : answered ≡ d .buffer
 
--- the bank that does not run is the target: the target of the two, and the two with another target
-abbrev pub targetOf : Bank → List ℕ → List ℕ → List ℕ
-targetOf Zero bank0 bank1 = bank1
-targetOf One bank0 bank1 = bank0
+-- ---- on the target alone
 
-abbrev pub zeroOf : Bank → List ℕ → List ℕ → List ℕ
-zeroOf Zero bank0 target = bank0
-zeroOf One bank0 target = target
+-- what a datagram leads to, by what is lent with it
+abbrev pub planned : Client → List ℕ → List ℕ → List ℕ → List ℕ → List ℕ → Plan
+planned c target marks address buffer datagram =
+    planOf (standingOf c) (length target) marks address (length buffer) (askedOf datagram)
 
-abbrev pub oneOf : Bank → List ℕ → List ℕ → List ℕ
-oneOf Zero bank1 target = target
-oneOf One bank1 target = bank1
+unfoldable pub takeOf : Client → List ℕ → List ℕ → List ℕ → List ℕ → List ℕ → Carried
+takeOf c target marks address buffer datagram =
+    carriedOf c (planned c target marks address buffer datagram) target address buffer (dataIn datagram)
 
--- what a datagram leads to, by the lengths of what is lent
-abbrev pub planned : Client → List ℕ → List ℕ → List ℕ → List ℕ → List ℕ → List ℕ → Plan
-planned c bank0 bank1 marks address buffer datagram =
-    planOf (standingOf c) (length bank0) (length bank1) marks (length address) (length buffer) datagram
+-- the paper's number where there is no answer: "3, 2, 1"
+abbrev pub takeSays : Client → ℕ → ℕ → ℕ → ℕ → ℕ
+takeSays c target marks address buffer =
+    cond (not (goodN (c .fixed .n))) 3
+    (cond (not (lentGood (c .fixed .n) target marks address buffer)) 2 (cond (isClosed (c .state)) 1 0))
 
-unfoldable pub stepOf : Client → List ℕ → List ℕ → List ℕ → List ℕ → List ℕ → List ℕ → Carried
-stepOf c bank0 bank1 marks address buffer datagram =
-    carriedOf c (planned c bank0 bank1 marks address buffer datagram) (targetOf (c .running) bank0 bank1) address buffer datagram
+pub record Take·Is (c : Client) (target marks address buffer datagram : List ℕ) (r : Stepped) (after answered : List ℕ) : Type 0 where
+  pub client : r .client ≡ takeOf c target marks address buffer datagram .client
+  pub answer : r .answer ≡ takeOf c target marks address buffer datagram .answer
+  pub says : answerNumber (r .answer) ≡ takeSays c (length target) (length marks) (length address) (length buffer)
+  pub told : r .length ≡ takeOf c target marks address buffer datagram .told
+  pub notice : r .notice ≡ takeOf c target marks address buffer datagram .notice
+  pub target-left : after ≡ takeOf c target marks address buffer datagram .target
+  pub said : answered ≡ takeOf c target marks address buffer datagram .buffer
 
-pub record Step·Is (c : Client) (bank0 bank1 marks address buffer datagram : List ℕ) (r : Stepped) (zero one answer : List ℕ) : Type 0 where
-  pub client : r .client ≡ stepOf c bank0 bank1 marks address buffer datagram .client
-  pub answered : r .answer ≡ stepOf c bank0 bank1 marks address buffer datagram .answer
-  pub told : r .length ≡ stepOf c bank0 bank1 marks address buffer datagram .told
-  pub notice : r .notice ≡ stepOf c bank0 bank1 marks address buffer datagram .notice
-  pub bank-zero : zero ≡ zeroOf (c .running) bank0 (stepOf c bank0 bank1 marks address buffer datagram .target)
-  pub bank-one : one ≡ oneOf (c .running) bank1 (stepOf c bank0 bank1 marks address buffer datagram .target)
-  pub said : answer ≡ stepOf c bank0 bank1 marks address buffer datagram .buffer
+-- ---- with the running bank beside it
+
+-- 3 and 2 are asked of the running bank's length before all else
+unfoldable pub besideOf : Client → ℕ → List ℕ → List ℕ → List ℕ → List ℕ → List ℕ → Carried
+besideOf c running target marks address buffer datagram =
+    cond (goodN (c .fixed .n))
+    (cond (eqb running (bankSize (c .fixed .n)))
+    (takeOf c target marks address buffer datagram)
+    (carriedOf c (Keep (Refused BadLength)) target address buffer []))
+    (carriedOf c (Keep (Refused BadN)) target address buffer [])
+
+-- "One bank runs, the other is the target"
+abbrev pub stepOf : Client → Banks → List ℕ → List ℕ → List ℕ → List ℕ → Carried
+stepOf c pair marks address buffer datagram =
+    besideOf c (length (bankIn (c .fixed .running) pair)) (bankIn (otherOf (c .fixed .running)) pair) marks address buffer datagram
+
+-- the two banks then
+abbrev pub banksAfter : Client → Banks → Carried → Banks
+banksAfter c pair r = withBank (otherOf (c .fixed .running)) (r .target) pair
+
+abbrev pub stepSays : Client → ℕ → ℕ → ℕ → ℕ → ℕ → ℕ
+stepSays c running target marks address buffer =
+    cond (not (goodN (c .fixed .n))) 3
+    (cond (not (eqb running (bankSize (c .fixed .n)))) 2 (takeSays c target marks address buffer))
+
+pub record Step·Is (c : Client) (bank0 bank1 marks address buffer datagram : List ℕ) (r : Stepped) (zero one answered : List ℕ) : Type 0 where
+  pub client : r .client ≡ stepOf c (banks bank0 bank1) marks address buffer datagram .client
+  pub answer : r .answer ≡ stepOf c (banks bank0 bank1) marks address buffer datagram .answer
+  pub says : answerNumber (r .answer)
+      ≡ stepSays c (length (bankIn (c .fixed .running) (banks bank0 bank1))) (length (bankIn (otherOf (c .fixed .running)) (banks bank0 bank1)))
+          (length marks) (length address) (length buffer)
+  pub told : r .length ≡ stepOf c (banks bank0 bank1) marks address buffer datagram .told
+  pub notice : r .notice ≡ stepOf c (banks bank0 bank1) marks address buffer datagram .notice
+  pub bank-zero : zero ≡ banksAfter c (banks bank0 bank1) (stepOf c (banks bank0 bank1) marks address buffer datagram) .zero
+  pub bank-one : one ≡ banksAfter c (banks bank0 bank1) (stepOf c (banks bank0 bank1) marks address buffer datagram) .one
+  pub said : answered ≡ stepOf c (banks bank0 bank1) marks address buffer datagram .buffer

@@ -2,13 +2,16 @@
 use crate::record::Client;
 use crate::record::Latest;
 use bank::check::Verdict;
+use commands::Command;
+use decision::plan::Fixed;
 use decision::plan::Plan;
 use exchange::answer::Answer;
 use exchange::state::State;
 ghost use mathlib.Core.Path.{_≡_};
-ghost use Prim.Native.Nat.{_*_, _≤_};
+ghost use Prim.Native.Nat.{_≤_};
 ghost use lib.ListN.{length};
-ghost use Rattle.layout.specs.Layout.{sectorSize, mostSectors};
+ghost use Rattle.layout.specs.Layout.{bankSize, mostSectors};
+ghost use Rattle.client.specs.Record.{starting, begun};
 ghost use Rattle.client.specs.Perform.{fitOf, storeResult, sectorCrc, storeOf, checkedOf, finishOf, servedOf, served, Served·Is, Fair};
 ghost use Rattle.exchange.specs.declared.answer.Answer.the-variants.{Response};
 
@@ -17,9 +20,9 @@ pub(crate) struct Served {
     pub answer: Answer,
 }
 
-// Whether a bank may become the next-start bank.
-fn fit(bank: &[u8]) -> bool
-    ensures { λ r. ⌜ r ≡ fitOf (now (bank .entry)) ⌝ }
+// Whether a client may start a bank.
+fn fit(fixed: Fixed, bank: &[u8]) -> bool
+    ensures { λ r. ⌜ r ≡ fitOf fixed (now (bank .entry)) ⌝ }
 {
     match bank::check::check(bank) {
         Verdict::Refused => false,
@@ -44,7 +47,7 @@ fn store_result(blank: bool, already: bool) -> u8
 // The CRC-32 of sector k as it stands.
 fn sector_crc(bank: &[u8], k: usize) -> u32
     requires { ⌜ (1 ≤ k) × (k ≤ mostSectors) ⌝ }
-    requires { ⌜ k * sectorSize ≤ length (now bank) ⌝ }
+    requires { ⌜ bankSize k ≤ length (now bank) ⌝ }
     ensures { λ r. ⌜ r ≡ sectorCrc (now (bank .entry)) k ⌝ }
 {
     let from = layout::sector_offset(k);
@@ -53,19 +56,19 @@ fn sector_crc(bank: &[u8], k: usize) -> u32
 
 impl Client {
     // A response with nothing behind its result.
-    fn responds(self, code: u8, result: u8) -> Served
-        ensures { λ r. ⌜ r ≡ served self (Response code result) ⌝ }
+    fn responds(self, command: Command, result: u8) -> Served
+        ensures { λ r. ⌜ r ≡ served self (Response command result) ⌝ }
     {
         Served {
             client: self,
-            answer: Answer::Response { code, result },
+            answer: Answer::Response { command, result },
         }
     }
 
     // A write packet: the bytes to their sector, which counts as received.
     fn store(self, target: &mut [u8], sector: u16, bytes: &[u8]) -> Served
         requires { ⌜ (1 ≤ sector) × (sector ≤ mostSectors) ⌝ }
-        requires { ⌜ sector * sectorSize ≤ length (now target) ⌝ }
+        requires { ⌜ bankSize sector ≤ length (now target) ⌝ }
         ensures { λ r. ⌜ Served·Is (storeOf self sector (now (bytes .entry)) (now (target .entry))) r (now (target .exit)) ⌝ }
     {
         let k = sector as usize;
@@ -85,17 +88,19 @@ impl Client {
         }
     }
 
-    // The bank check, of what the sweep left. The next-start bank is set last.
+    // The bank check, of what the sweep left. The next-start bank is set last, and only where the bank is fit.
     fn checked(self, target: &[u8]) -> Served
         ensures { λ r. ⌜ Served·Is (checkedOf self (now (target .entry))) r (now (target .entry)) ⌝ }
     {
-        let running = self.running;
-        let next = self.next;
-        if fit(target) {
-            return self.ended(Latest::Good, layout::other(running))
-                .responds(0x75, 0x06);
+        let fixed = self.fixed;
+        let running = fixed.running;
+        if fit(fixed, target) {
+            return self.ended(Latest::Good)
+                .starting(layout::other(running))
+                .responds(Command::WriteEnd, 0x06);
         }
-        self.ended(Latest::Otherwise, next).responds(0x75, 0x1E)
+        self.ended(Latest::Otherwise)
+            .responds(Command::WriteEnd, 0x1E)
     }
 
     // End OTA Write.
@@ -103,25 +108,34 @@ impl Client {
         ensures { λ r. ⌜ Served·Is (finishOf self (now (target .entry))) r (now (target .exit)) ⌝ }
     {
         let received = self.received;
-        flash::bank::sweep(target, self.n, &received);
+        flash::bank::sweep(target, self.fixed.n, &received);
         self.checked(target)
     }
 
-    pub(crate) fn serve(self, plan: Plan, target: &mut [u8], datagram: &[u8]) -> Served
-        requires { ⌜ Fair plan (length (now target)) (length (now datagram)) ⌝ }
-        ensures { λ r. ⌜ Served·Is (servedOf self plan (now (target .entry)) (now (datagram .entry))) r (now (target .exit)) ⌝ }
+    // Start OTA Write: the next-start bank is set first.
+    fn begin(self) -> Client
+        ensures { λ r. ⌜ r ≡ begun (starting (self .fixed .running) self) ⌝ }
     {
-        let next = self.next;
+        let fixed = self.fixed;
+        let running = fixed.running;
+        self.starting(running).begun()
+    }
+
+    pub(crate) fn serve(self, plan: Plan, target: &mut [u8], bytes: &[u8]) -> Served
+        requires { ⌜ Fair plan (length (now target)) ⌝ }
+        ensures { λ r. ⌜ Served·Is (servedOf self plan (now (target .entry)) (now (bytes .entry))) r (now (target .exit)) ⌝ }
+    {
         match plan {
             Plan::Keep(answer) => Served {
                 client: self,
                 answer,
             },
-            Plan::Open => self.opened().responds(0x71, 0x06),
-            Plan::Close => self.left(State::Idle).responds(0x74, 0x06),
-            Plan::Begin => self.begun().responds(0x70, 0x06),
-            Plan::Store { sector, length } => self.store(target, sector, &datagram[5..5 + length]),
-            Plan::Wear => self.ended(Latest::Otherwise, next).responds(0x75, 0x1C),
+            Plan::Open => self.opened().responds(Command::ModeStart, 0x06),
+            Plan::Leave => self.left(State::Idle).responds(Command::ModeEnd, 0x06),
+            Plan::Begin => self.begin().responds(Command::WriteStart, 0x06),
+            Plan::Store { sector } => self.store(target, sector, bytes),
+            Plan::Wear => self.ended(Latest::Otherwise)
+                .responds(Command::WriteEnd, 0x1C),
             Plan::Finish => self.finish(target),
         }
     }

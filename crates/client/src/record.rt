@@ -1,4 +1,5 @@
 // The client's record, what of it a datagram is decided by, and every way in which it changes.
+use decision::plan::Fixed;
 use decision::plan::Standing;
 use exchange::state::State;
 use layout::Bank;
@@ -6,7 +7,7 @@ use layout::MOST;
 ghost use mathlib.Core.Path.{_≡_};
 ghost use Prim.Native.Nat.{_≤_};
 ghost use Rattle.layout.specs.Layout.{mostSectors};
-ghost use Rattle.client.specs.Record.{standingOf, noneReceived, initiated, opened, left, begun, marked, ended};
+ghost use Rattle.client.specs.Record.{standingOf, noneReceived, closedClient, initiated, opened, left, begun, marked, ended, starting};
 
 // How the latest write session since Start OTA Mode ended.
 pub enum Latest {
@@ -16,21 +17,31 @@ pub enum Latest {
 }
 
 pub struct Client {
-    pub n: usize,
-    pub running: Bank,
+    pub fixed: Fixed,
+    // The bank that starts next.
     pub next: Bank,
     pub state: State,
     pub latest: Latest,
-    pub major: u8,
-    pub minor: u8,
-    pub revision: u32,
     pub received: [bool; MOST],
 }
 
-pub(crate) fn none_received() -> [bool; MOST]
+fn none_received() -> [bool; MOST]
     ensures { λ r. ⌜ r ≡ noneReceived ⌝ }
 {
     [false; MOST]
+}
+
+// A closed client, and the bank that it would start.
+pub(crate) fn closed_client(fixed: Fixed, next: Bank) -> Client
+    ensures { λ r. ⌜ r ≡ closedClient fixed next ⌝ }
+{
+    Client {
+        fixed,
+        next,
+        state: State::Closed,
+        latest: Latest::Nothing,
+        received: none_received(),
+    }
 }
 
 impl Client {
@@ -38,16 +49,16 @@ impl Client {
     pub(crate) fn standing(self) -> Standing
         ensures { λ r. ⌜ r ≡ standingOf self ⌝ }
     {
-        let running = self.running;
+        let fixed = self.fixed;
         let state = self.state;
-        Standing {
-            n: self.n,
-            running,
-            state,
-            major: self.major,
-            minor: self.minor,
-            revision: self.revision,
-        }
+        Standing { fixed, state }
+    }
+
+    // The bank that starts next is set here alone.
+    pub(crate) fn starting(self, next: Bank) -> Client
+        ensures { λ r. ⌜ r ≡ starting next self ⌝ }
+    {
+        Client { next, ..self }
     }
 
     pub(crate) fn initiated(self) -> Client
@@ -72,7 +83,7 @@ impl Client {
 
     // OTA mode is left, by End OTA Mode or by the host, and what it held is lost.
     pub(crate) fn left(self, state: State) -> Client
-        ensures { λ r. ⌜ r ≡ left self state ⌝ }
+        ensures { λ r. ⌜ r ≡ left state self ⌝ }
     {
         Client {
             state,
@@ -86,9 +97,7 @@ impl Client {
     pub(crate) fn begun(self) -> Client
         ensures { λ r. ⌜ r ≡ begun self ⌝ }
     {
-        let running = self.running;
         Client {
-            next: running,
             state: State::Write,
             received: none_received(),
             ..self
@@ -98,7 +107,7 @@ impl Client {
     // Sector k was received.
     pub(crate) fn marked(self, k: usize) -> Client
         requires { ⌜ (1 ≤ k) × (k ≤ mostSectors) ⌝ }
-        ensures { λ r. ⌜ r ≡ marked self k ⌝ }
+        ensures { λ r. ⌜ r ≡ marked k self ⌝ }
     {
         let at = k - 1;
         let mut c = self;
@@ -106,12 +115,11 @@ impl Client {
         c
     }
 
-    // A write session ended so, and this bank starts next.
-    pub(crate) fn ended(self, latest: Latest, next: Bank) -> Client
-        ensures { λ r. ⌜ r ≡ ended self latest next ⌝ }
+    // A write session ended so.
+    pub(crate) fn ended(self, latest: Latest) -> Client
+        ensures { λ r. ⌜ r ≡ ended latest self ⌝ }
     {
         Client {
-            next,
             state: State::Control,
             latest,
             received: none_received(),

@@ -5,11 +5,13 @@ use crate::record::Client;
 use crate::record::Latest;
 use decision::plan::Plan;
 use exchange::answer::Answer;
+use exchange::answer::Refusal;
 use layout::Bank;
 ghost use mathlib.Core.Path.{_≡_};
 ghost use lib.ListN.{length};
+ghost use Rattle.frame.specs.Read.{dataIn};
 ghost use Rattle.client.specs.Perform.{Fair};
-ghost use Rattle.client.specs.Step.{noticeOf, Addressed, carriedOf, Carried·Is, Step·Is};
+ghost use Rattle.client.specs.Step.{noticeOf, Addressed, carriedOf, besideOf, Carried·Is, Take·Is, Step·Is};
 
 pub struct Stepped {
     pub client: Client,
@@ -27,38 +29,35 @@ fn notice_for(plan: Plan, latest: Latest, address: &[u8]) -> Notice
     match plan {
         Plan::Keep(_) => crate::notice::no_notice(),
         Plan::Open => crate::notice::notice_with(Kind::Started, 0, address),
-        Plan::Close => crate::notice::notice_with(
+        Plan::Leave => crate::notice::notice_with(
             Kind::Ended,
             crate::notice::latest_number(latest),
             address,
         ),
         Plan::Begin => crate::notice::no_notice(),
-        Plan::Store {
-            sector: _,
-            length: _,
-        } => crate::notice::no_notice(),
+        Plan::Store { sector: _ } => crate::notice::no_notice(),
         Plan::Wear => crate::notice::no_notice(),
         Plan::Finish => crate::notice::no_notice(),
     }
 }
 
 impl Client {
-    // Do and say, on the target bank alone.
+    // Do and say.
     fn carry(
         self,
         plan: Plan,
         target: &mut [u8],
         address: &[u8],
         buffer: &mut [u8],
-        datagram: &[u8],
+        bytes: &[u8],
     ) -> Stepped
-        requires { ⌜ Fair plan (length (now target)) (length (now datagram)) ⌝ }
+        requires { ⌜ Fair plan (length (now target)) ⌝ }
         requires { ⌜ Addressed plan (length (now address)) ⌝ }
-        ensures { λ r. ⌜ Carried·Is (carriedOf self plan (now (target .entry)) (now (address .entry)) (now (buffer .entry)) (now (datagram .entry))) r (now (target .exit)) (now (buffer .exit)) ⌝ }
+        ensures { λ r. ⌜ Carried·Is (carriedOf self plan (now (target .entry)) (now (address .entry)) (now (buffer .entry)) (now (bytes .entry))) r (now (target .exit)) (now (buffer .exit)) ⌝ }
     {
         let latest = self.latest;
         let notice = notice_for(plan, latest, address);
-        let served = self.serve(plan, target, datagram);
+        let served = self.serve(plan, target, bytes);
         let client = served.client;
         let answer = served.answer;
         let length = exchange::answer::say(answer, buffer);
@@ -68,6 +67,53 @@ impl Client {
             length,
             notice,
         }
+    }
+
+    // A datagram with the target bank alone.
+    pub fn take(
+        self,
+        target: &mut [u8],
+        marks: &[u8],
+        address: &[u8],
+        buffer: &mut [u8],
+        datagram: &[u8],
+    ) -> Stepped
+        ensures { λ r. ⌜ Take·Is self (now (target .entry)) (now (marks .entry)) (now (address .entry)) (now (buffer .entry)) (now (datagram .entry)) r (now (target .exit)) (now (buffer .exit)) ⌝ }
+    {
+        let standing = self.standing();
+        let asked = exchange::request::read_request(datagram);
+        let plan = standing.plan(target.len(), marks, address, buffer.len(), asked);
+        self.carry(
+            plan,
+            target,
+            address,
+            buffer,
+            frame::read::data(datagram),
+        )
+    }
+
+    // N and the length of the running bank first; of that bank nothing else is seen.
+    fn beside(
+        self,
+        running: usize,
+        target: &mut [u8],
+        marks: &[u8],
+        address: &[u8],
+        buffer: &mut [u8],
+        datagram: &[u8],
+    ) -> Stepped
+        ensures { λ r. ⌜ Carried·Is (besideOf self running (now (target .entry)) (now (marks .entry)) (now (address .entry)) (now (buffer .entry)) (now (datagram .entry))) r (now (target .exit)) (now (buffer .exit)) ⌝ }
+    {
+        let n = self.fixed.n;
+        if !layout::good_n(n) {
+            let plan = Plan::Keep(Answer::Refused(Refusal::BadN));
+            return self.carry(plan, target, address, buffer, b"");
+        }
+        if running != layout::bank_size(n) {
+            let plan = Plan::Keep(Answer::Refused(Refusal::BadLength));
+            return self.carry(plan, target, address, buffer, b"");
+        }
+        self.take(target, marks, address, buffer, datagram)
     }
 
     // The banks come by their numbers, so that a caller cannot take one for the other; only the target is lent on.
@@ -82,19 +128,11 @@ impl Client {
     ) -> Stepped
         ensures { λ r. ⌜ Step·Is self (now (bank0 .entry)) (now (bank1 .entry)) (now (marks .entry)) (now (address .entry)) (now (buffer .entry)) (now (datagram .entry)) r (now (bank0 .exit)) (now (bank1 .exit)) (now (buffer .exit)) ⌝ }
     {
-        let running = self.running;
-        let standing = self.standing();
-        let plan = standing.plan(
-            bank0.len(),
-            bank1.len(),
-            marks,
-            address.len(),
-            buffer.len(),
-            datagram,
-        );
+        let fixed = self.fixed;
+        let running = fixed.running;
         match running {
-            Bank::Zero => self.carry(plan, bank1, address, buffer, datagram),
-            Bank::One => self.carry(plan, bank0, address, buffer, datagram),
+            Bank::Zero => self.beside(bank0.len(), bank1, marks, address, buffer, datagram),
+            Bank::One => self.beside(bank1.len(), bank0, marks, address, buffer, datagram),
         }
     }
 }

@@ -1,82 +1,85 @@
 -- Each way out of the deciding.
 -- Assumes nothing.
-use mathlib.Core.Path.{_≡_, ap}
+use mathlib.Core.Path.{_≡_, sym, _∙_}
 use mathlib.Core.Bool.{Bool, true, false, not, _&&_}
 use mathlib.Core.List.{List}
-use Prim.Native.Nat.{ℕ, suc, _+_, _-_, _*_, _%_, _≤_, _<_}
+use Prim.Native.Nat.{ℕ, suc, _+_, _-_, _%_, _≤_, _<_}
 use native.Mathlib.Omega.{arith}
 use lib.Dec.{eqb, leb}
 use lib.ListN.{length, getD, drop, drop-of-length-le}
 use lib.Seq.{drop-cons}
 use borrow.Author.Tests.{eq-eqb, ne-eqb, le-leb, lt-leb, leb-true, eqb-true, not-true, not-false}
-use Rattle.buffer.specs.Number.{numberAt}
 use Rattle.buffer.proofs.Bools.{and-left, and-right}
 use Rattle.layout.specs.declared.Bank.{Bank}
-use Rattle.layout.specs.Layout.{sectorSize, goodN, otherOf, startOf, endOf}
+use Rattle.layout.specs.Layout.{sectorSize, goodN, bankSize, goodSize, otherOf, startOf, endOf}
+use Rattle.layout.proofs.Layouts.{size-good}
+use Rattle.commands.specs.declared.Command.the-variants.{WriteStart}
 use Rattle.exchange.specs.declared.answer.Answer.{Answer}
 use Rattle.exchange.specs.declared.answer.Answer.the-variants.{Refused, Written}
 use Rattle.exchange.specs.declared.answer.Refusal.the-variants.{BadN, BadLength, Closed}
-use Rattle.exchange.specs.declared.command.Asked.{Asked}
-use Rattle.exchange.specs.declared.command.Command.{Command}
-use Rattle.exchange.specs.declared.command.Command.the-variants.{WriteStart, Packet}
+use Rattle.exchange.specs.declared.request.Asked.{Asked}
+use Rattle.exchange.specs.declared.request.Request.{Request}
+use Rattle.exchange.specs.declared.request.Request.the-variants.{Control, Packet}
+use Rattle.exchange.specs.State.{isClosed}
+use Rattle.exchange.specs.Request.{fitsState, declinedOf}
 use Rattle.decision.specs.declared.plan.Plan.{Plan}
 use Rattle.decision.specs.declared.plan.Plan.the-variants.{Keep, Begin, Store, Wear, Finish}
 use Rattle.decision.specs.declared.plan.Standing.{Standing}
-use Rattle.exchange.specs.State.{isClosed}
-use Rattle.exchange.specs.Command.{askedOf, fitsState, declinedOf}
-use Rattle.decision.specs.Plan.{lentGood, anyWorn, parameterFault, valuesGood, addressesGood, planStart, planEnd, planPacket, planGood, planCommand, planAsked, planOf}
+use Rattle.decision.specs.Plan.{
+  lentGood, anyWorn, parameterFault, valuesGood, addressesGood, planStart, planEnd, planPacket, planGood, planRequest, planAsked, planOf}
 
 -- ---- the lent lengths
 
-module _ (n bank0 bank1 marks address buffer : ℕ) where
-  pub lent-bank0 : (bank0 ≡ n * sectorSize → ⊥) → false ≡ lentGood n bank0 bank1 marks address buffer
-  unfolding lentGood
-  lent-bank0 a = simp (ne-eqb _ _ a)
-
-  module _ (a : bank0 ≡ n * sectorSize) where
-    pub lent-bank1 : (bank1 ≡ n * sectorSize → ⊥) → false ≡ lentGood n bank0 bank1 marks address buffer
+module _ (n target marks address buffer : ℕ) where
+  module _ (size : ℕ) (is : size ≡ goodSize n) (g : goodN n ≡ true) where
+    pub lent-target : (target ≡ size → ⊥) → false ≡ lentGood n target marks address buffer
     unfolding lentGood
-    lent-bank1 b = simp (eq-eqb _ _ a, ne-eqb _ _ b)
+    lent-target a = let e = is ∙ size-good n g in simp (ne-eqb _ _ (λ t. a (t ∙ sym e)))
 
-    module _ (b : bank1 ≡ n * sectorSize) where
-      pub lent-marks : (marks ≡ n → ⊥) → false ≡ lentGood n bank0 bank1 marks address buffer
-      unfolding lentGood
-      lent-marks m = simp (eq-eqb _ _ a, eq-eqb _ _ b, ne-eqb _ _ m)
+    module _ (a : target ≡ size) where
+      whole : target ≡ bankSize n
+      whole = a ∙ is ∙ size-good n g
 
-      pub lent-address : marks ≡ n → (address ≡ 16 → ⊥) → false ≡ lentGood n bank0 bank1 marks address buffer
+      pub lent-marks : (marks ≡ n → ⊥) → false ≡ lentGood n target marks address buffer
       unfolding lentGood
-      lent-address m d = simp (eq-eqb _ _ a, eq-eqb _ _ b, eq-eqb _ _ m, ne-eqb _ _ d)
+      lent-marks m = simp (eq-eqb _ _ whole, ne-eqb _ _ m)
 
-      pub lent-buffer : marks ≡ n → address ≡ 16 → leb 14 buffer ≡ lentGood n bank0 bank1 marks address buffer
+      pub lent-address : marks ≡ n → (address ≡ 16 → ⊥) → false ≡ lentGood n target marks address buffer
       unfolding lentGood
-      lent-buffer m d = simp (eq-eqb _ _ a, eq-eqb _ _ b, eq-eqb _ _ m, eq-eqb _ _ d)
+      lent-address m d = simp (eq-eqb _ _ whole, eq-eqb _ _ m, ne-eqb _ _ d)
+
+      pub lent-buffer : marks ≡ n → address ≡ 16 → leb 14 buffer ≡ lentGood n target marks address buffer
+      unfolding lentGood
+      lent-buffer m d = simp (eq-eqb _ _ whole, eq-eqb _ _ m, eq-eqb _ _ d)
 
 -- what good lengths tell
-pub record Lent (n bank0 bank1 marks address buffer : ℕ) : Type 0 where
-  pub zero-whole : bank0 ≡ n * sectorSize
-  pub one-whole : bank1 ≡ n * sectorSize
+pub record Lent (n target marks address buffer : ℕ) : Type 0 where
+  pub whole-target : target ≡ bankSize n
   pub marked : marks ≡ n
   pub addressed : address ≡ 16
   pub roomy : 14 ≤ buffer
 
-pub lent : (n bank0 bank1 marks address buffer : ℕ) → lentGood n bank0 bank1 marks address buffer ≡ true → Lent n bank0 bank1 marks address buffer
+pub lent : (n target marks address buffer : ℕ) → lentGood n target marks address buffer ≡ true → Lent n target marks address buffer
 unfolding lentGood
-lent n bank0 bank1 marks address buffer e =
-    let p : Bool = eqb bank0 (n * sectorSize) in
-    let q : Bool = eqb bank1 (n * sectorSize) in
-    let r : Bool = eqb marks n in
-    let s : Bool = eqb address 16 in
-    let t : Bool = leb 14 buffer in
-    let f = and-right p (q && (r && (s && t))) e in
-    let g = and-right q (r && (s && t)) f in
-    let h = and-right r (s && t) g in
+lent n target marks address buffer e =
+    let p : Bool = eqb target (bankSize n) in
+    let q : Bool = eqb marks n in
+    let r : Bool = eqb address 16 in
+    let s : Bool = leb 14 buffer in
+    let f = and-right p (q && (r && s)) e in
+    let g = and-right q (r && s) f in
     record {
-      zero-whole = eqb-true bank0 (n * sectorSize) (and-left p (q && (r && (s && t))) e);
-      one-whole = eqb-true bank1 (n * sectorSize) (and-left q (r && (s && t)) f);
-      marked = eqb-true marks n (and-left r (s && t) g);
-      addressed = eqb-true address 16 (and-left s t h);
-      roomy = leb-true 14 buffer (and-right s t h);
+      whole-target = eqb-true target (bankSize n) (and-left p (q && (r && s)) e);
+      marked = eqb-true marks n (and-left q (r && s) f);
+      addressed = eqb-true address 16 (and-left r s g);
+      roomy = leb-true 14 buffer (and-right r s g);
     }
+
+-- and lengths that are good
+pub lent-good : (n target marks address buffer : ℕ) → Lent n target marks address buffer → lentGood n target marks address buffer ≡ true
+unfolding lentGood
+lent-good n target marks address buffer l =
+    simp (eq-eqb _ _ (l .whole-target), eq-eqb _ _ (l .marked), eq-eqb _ _ (l .addressed), le-leb _ _ (l .roomy))
 
 -- ---- worn sectors
 
@@ -157,54 +160,55 @@ module _ (n sector m : ℕ) where
     unfolding planPacket
     packet-worn g w = simp (g, ne-eqb _ _ w)
 
-    pub packet-good : valuesGood n sector m ≡ true → getD marks (sector - 1) 0 ≡ 0 → Store sector m ≡ planPacket n marks sector m
+    pub packet-good : valuesGood n sector m ≡ true → getD marks (sector - 1) 0 ≡ 0 → Store sector ≡ planPacket n marks sector m
     unfolding planPacket
     packet-good g w = simp (g, eq-eqb _ _ w)
 
 -- ---- the addresses
 
-module _ (n : ℕ) (running : Bank) (datagram : List ℕ) (target : Bank) (is : target ≡ otherOf running) (a s : ℕ) (first : a ≡ numberAt 4 datagram 3) (begin : s ≡ startOf target) where
-  pub start-first : (w : Plan) → w ≡ Keep (parameterFault WriteStart) → (a ≡ s → ⊥) → w ≡ planStart n running datagram
+module _ (n : ℕ) (running : Bank) (start end : ℕ) (target : Bank) (is : target ≡ otherOf running) (s : ℕ) (begin : s ≡ startOf target) where
+  pub start-first : (w : Plan) → w ≡ Keep (parameterFault (Control WriteStart start end)) → (start ≡ s → ⊥) → w ≡ planStart n running start end
   unfolding planStart addressesGood
-  start-first w v e = rw (v, ← is, ← first, ← begin) (simp (ne-eqb _ _ e))
+  start-first w v e = rw (v, ← is, ← begin) (simp (ne-eqb _ _ e))
 
-  module _ (b e : ℕ) (second : b ≡ numberAt 4 datagram 7) (end : e ≡ endOf target n) (p : a ≡ s) where
-    pub start-second : (w : Plan) → w ≡ Keep (parameterFault WriteStart) → (b ≡ e → ⊥) → w ≡ planStart n running datagram
+  module _ (e : ℕ) (last : e ≡ endOf target n) (p : start ≡ s) where
+    pub start-second : (w : Plan) → w ≡ Keep (parameterFault (Control WriteStart start end)) → (end ≡ e → ⊥) → w ≡ planStart n running start end
     unfolding planStart addressesGood
-    start-second w v q = rw (v, ← is, ← first, ← begin, ← second, ← end) (simp (eq-eqb _ _ p, ne-eqb _ _ q))
+    start-second w v q = rw (v, ← is, ← begin, ← last) (simp (eq-eqb _ _ p, ne-eqb _ _ q))
 
-    pub start-good : b ≡ e → Begin ≡ planStart n running datagram
+    pub start-good : end ≡ e → Begin ≡ planStart n running start end
     unfolding planStart addressesGood
-    start-good q = rw (← is, ← first, ← begin, ← second, ← end) (simp (eq-eqb _ _ p, eq-eqb _ _ q))
+    start-good q = rw (← is, ← begin, ← last) (simp (eq-eqb _ _ p, eq-eqb _ _ q))
 
--- ---- a command
+-- ---- a request
 
-module _ (s : Standing) (command : Command) (marks datagram : List ℕ) (r : Bool) (is : r ≡ fitsState (s .state) command) where
-  pub command-unfit : (a : Answer) → a ≡ declinedOf command 0x15 → not r ≡ true → Keep a ≡ planCommand s command marks datagram
-  unfolding planCommand
-  command-unfit a v e = rw (v, ← is, not-true r e)
+module _ (s : Standing) (request : Request) (marks : List ℕ) (r : Bool) (is : r ≡ fitsState (s .state) request) where
+  pub request-unfit : (a : Answer) → a ≡ declinedOf request 0x15 → not r ≡ true → Keep a ≡ planRequest s request marks
+  unfolding planRequest
+  request-unfit a v e = rw (v, ← is, not-true r e)
 
-  pub command-fit : (p : Plan) → not r ≡ false → p ≡ planGood s command marks datagram → p ≡ planCommand s command marks datagram
-  unfolding planCommand
-  command-fit p e q = rw (← is, not-false r e) q
+  pub request-fit : (p : Plan) → not r ≡ false → p ≡ planGood (s .fixed) request marks → p ≡ planRequest s request marks
+  unfolding planRequest
+  request-fit p e q = rw (← is, not-false r e) q
 
 -- ---- all of it
 
-module _ (s : Standing) (bank0 bank1 : ℕ) (marks : List ℕ) (address buffer : ℕ) (datagram : List ℕ) where
-  pub plan-3 : goodN (s .n) ≡ false → Keep (Refused BadN) ≡ planOf s bank0 bank1 marks address buffer datagram
+module _ (s : Standing) (target : ℕ) (marks address : List ℕ) (buffer : ℕ) (asked : Asked) where
+  pub plan-3 : goodN (s .fixed .n) ≡ false → Keep (Refused BadN) ≡ planOf s target marks address buffer asked
   unfolding planOf
   plan-3 g = simp g
 
-  module _ (g : goodN (s .n) ≡ true) where
-    pub plan-2 : lentGood (s .n) bank0 bank1 (length marks) address buffer ≡ false → Keep (Refused BadLength) ≡ planOf s bank0 bank1 marks address buffer datagram
+  module _ (g : goodN (s .fixed .n) ≡ true) where
+    pub plan-2 : lentGood (s .fixed .n) target (length marks) (length address) buffer ≡ false
+        → Keep (Refused BadLength) ≡ planOf s target marks address buffer asked
     unfolding planOf
     plan-2 l = simp (g, l)
 
-    pub plan-1 : lentGood (s .n) bank0 bank1 (length marks) address buffer ≡ true → isClosed (s .state) ≡ true → Keep (Refused Closed) ≡ planOf s bank0 bank1 marks address buffer datagram
-    unfolding planOf
-    plan-1 l e = simp (g, l, e)
+    module _ (l : lentGood (s .fixed .n) target (length marks) (length address) buffer ≡ true) where
+      pub plan-1 : isClosed (s .state) ≡ true → Keep (Refused Closed) ≡ planOf s target marks address buffer asked
+      unfolding planOf
+      plan-1 e = simp (g, l, e)
 
-    pub plan-rest : lentGood (s .n) bank0 bank1 (length marks) address buffer ≡ true → isClosed (s .state) ≡ false
-        → (asked : Asked) → asked ≡ askedOf datagram → planAsked s asked marks datagram ≡ planOf s bank0 bank1 marks address buffer datagram
-    unfolding planOf
-    plan-rest l e asked is = simp (g, l, e) (ap (λ (x : Asked). planAsked s x marks datagram) is)
+      pub plan-rest : isClosed (s .state) ≡ false → planAsked s asked marks ≡ planOf s target marks address buffer asked
+      unfolding planOf
+      plan-rest e = simp (g, l, e)

@@ -1,25 +1,31 @@
 // Decide: what a datagram leads to. The bytes of a bank are never looked at here, only its length.
+use commands::Command;
 use exchange::answer::Answer;
 use exchange::answer::Refusal;
-use exchange::command::Asked;
-use exchange::command::Command;
+use exchange::request::Asked;
+use exchange::request::Request;
 use exchange::state::State;
 use layout::Bank;
 ghost use mathlib.Core.Path.{_≡_};
-ghost use Prim.Native.Nat.{_≤_};
+ghost use mathlib.Core.Bool.{true};
 ghost use lib.ListN.{length};
-ghost use Rattle.layout.specs.Layout.{mostSectors};
+ghost use Rattle.layout.specs.Layout.{goodN};
 ghost use Rattle.decision.specs.declared.plan.Plan.the-variants.{Keep};
-ghost use Rattle.decision.specs.Plan.{lentGood, anyWorn, parameterFault, valuesGood, planStart, planEnd, planPacket, planCommand, planAsked, Plan·Is};
+ghost use Rattle.decision.specs.Plan.{lentGood, anyWorn, parameterFault, valuesGood, planStart, planEnd, planPacket, planControl, planRequest, planAsked, Plan·Is};
 
-// What of a client's record the deciding looks at.
-pub struct Standing {
+// What is fixed when a client is made.
+pub struct Fixed {
     pub n: usize,
     pub running: Bank,
-    pub state: State,
     pub major: u8,
     pub minor: u8,
     pub revision: u32,
+}
+
+// What of a client's record the deciding looks at.
+pub struct Standing {
+    pub fixed: Fixed,
+    pub state: State,
 }
 
 pub enum Plan {
@@ -28,11 +34,11 @@ pub enum Plan {
     // Start OTA Mode.
     Open,
     // End OTA Mode.
-    Close,
+    Leave,
     // Start OTA Write.
     Begin,
-    // A write packet.
-    Store { sector: u16, length: usize },
+    // A write packet for this sector.
+    Store { sector: u16 },
     // End OTA Write with a worn sector.
     Wear,
     // End OTA Write.
@@ -44,21 +50,11 @@ const BUFFER: usize = 14;
 
 const ADDRESS: usize = 16;
 
-fn lent_good(
-    n: usize,
-    bank0: usize,
-    bank1: usize,
-    marks: usize,
-    address: usize,
-    buffer: usize,
-) -> bool
-    requires { ⌜ n ≤ mostSectors ⌝ }
-    ensures { λ r. ⌜ r ≡ lentGood n bank0 bank1 marks address buffer ⌝ }
+fn lent_good(n: usize, target: usize, marks: usize, address: usize, buffer: usize) -> bool
+    requires { ⌜ goodN n ≡ true ⌝ }
+    ensures { λ r. ⌜ r ≡ lentGood n target marks address buffer ⌝ }
 {
-    if bank0 != n * layout::SECTOR {
-        return false;
-    }
-    if bank1 != n * layout::SECTOR {
+    if target != layout::bank_size(n) {
         return false;
     }
     if marks != n {
@@ -105,10 +101,10 @@ fn values_good(n: usize, sector: u16, m: usize) -> bool
 }
 
 // Parameters that are wrong.
-fn parameter_fault(command: Command) -> Plan
-    ensures { λ r. ⌜ r ≡ Keep (parameterFault command) ⌝ }
+fn parameter_fault(request: Request) -> Plan
+    ensures { λ r. ⌜ r ≡ Keep (parameterFault request) ⌝ }
 {
-    Plan::Keep(exchange::command::declined(command, 0x05))
+    Plan::Keep(exchange::request::declined(request, 0x05))
 }
 
 fn plan_packet(n: usize, marks: &[u8], sector: u16, m: usize) -> Plan
@@ -116,7 +112,7 @@ fn plan_packet(n: usize, marks: &[u8], sector: u16, m: usize) -> Plan
     ensures { λ r. ⌜ r ≡ planPacket n (now (marks .entry)) sector m ⌝ }
 {
     if !values_good(n, sector, m) {
-        return parameter_fault(Command::Packet { sector, length: m });
+        return parameter_fault(Request::Packet { sector, length: m });
     }
     let k = sector as usize;
     if marks[k - 1] != 0 {
@@ -127,7 +123,7 @@ fn plan_packet(n: usize, marks: &[u8], sector: u16, m: usize) -> Plan
             crc: 0,
         });
     }
-    Plan::Store { sector, length: m }
+    Plan::Store { sector }
 }
 
 fn plan_end(marks: &[u8]) -> Plan
@@ -141,82 +137,112 @@ fn plan_end(marks: &[u8]) -> Plan
 }
 
 // The target's address pair leads to a write session.
-fn plan_start(n: usize, running: Bank, datagram: &[u8]) -> Plan
-    ensures { λ r. ⌜ r ≡ planStart n running (now (datagram .entry)) ⌝ }
+fn plan_start(n: usize, running: Bank, start: u32, end: u32) -> Plan
+    ensures { λ r. ⌜ r ≡ planStart n running start end ⌝ }
 {
     let target = layout::other(running);
-    if buffer::number::number4(datagram, 3) != layout::start_address(target) {
-        return parameter_fault(Command::WriteStart);
+    if start != layout::start_address(target) {
+        return parameter_fault(Request::Control {
+            command: Command::WriteStart,
+            start,
+            end,
+        });
     }
-    if buffer::number::number4(datagram, 7) != layout::end_address(target, n) {
-        return parameter_fault(Command::WriteStart);
+    if end != layout::end_address(target, n) {
+        return parameter_fault(Request::Control {
+            command: Command::WriteStart,
+            start,
+            end,
+        });
     }
     Plan::Begin
 }
 
 impl Standing {
-    // A command whose parameters have the right length: state, values, worn.
-    fn plan_command(self, command: Command, marks: &[u8], datagram: &[u8]) -> Plan
-        requires { ⌜ length (now marks) ≡ self .n ⌝ }
-        ensures { λ r. ⌜ r ≡ planCommand self command (now (marks .entry)) (now (datagram .entry)) ⌝ }
+    // A command in its state.
+    fn plan_control(self, command: Command, start: u32, end: u32, marks: &[u8]) -> Plan
+        ensures { λ r. ⌜ r ≡ planControl (self .fixed) command start end (now (marks .entry)) ⌝ }
     {
-        let state = self.state;
-        let running = self.running;
-        if !exchange::command::fits_state(state, command) {
-            return Plan::Keep(exchange::command::declined(command, 0x15));
-        }
+        let fixed = self.fixed;
+        let running = fixed.running;
         match command {
             Command::ModeStart => Plan::Open,
             Command::BankInfo => Plan::Keep(Answer::BankIs(layout::other(running))),
             Command::VersionInfo => Plan::Keep(Answer::VersionIs {
-                major: self.major,
-                minor: self.minor,
-                revision: self.revision,
+                major: fixed.major,
+                minor: fixed.minor,
+                revision: fixed.revision,
             }),
-            Command::WriteStart => plan_start(self.n, running, datagram),
+            Command::WriteStart => plan_start(fixed.n, running, start, end),
             Command::WriteEnd => plan_end(marks),
-            Command::ModeEnd => Plan::Close,
-            Command::Packet { sector, length } => plan_packet(self.n, marks, sector, length),
+            Command::ModeEnd => Plan::Leave,
         }
     }
 
-    fn plan_asked(self, asked: Asked, marks: &[u8], datagram: &[u8]) -> Plan
-        requires { ⌜ length (now marks) ≡ self .n ⌝ }
-        ensures { λ r. ⌜ r ≡ planAsked self asked (now (marks .entry)) (now (datagram .entry)) ⌝ }
+    // A request whose parameters have the right length: state, values, worn.
+    fn plan_request(self, request: Request, marks: &[u8]) -> Plan
+        requires { ⌜ length (now marks) ≡ self .fixed .n ⌝ }
+        ensures { λ r. ⌜ r ≡ planRequest self request (now (marks .entry)) ⌝ }
+    {
+        let state = self.state;
+        if !exchange::request::fits_state(state, request) {
+            return Plan::Keep(exchange::request::declined(request, 0x15));
+        }
+        match request {
+            Request::Control {
+                command,
+                start,
+                end,
+            } => self.plan_control(command, start, end, marks),
+            Request::Packet { sector, length } => {
+                plan_packet(self.fixed.n, marks, sector, length)
+            }
+        }
+    }
+
+    fn plan_asked(self, asked: Asked, marks: &[u8]) -> Plan
+        requires { ⌜ length (now marks) ≡ self .fixed .n ⌝ }
+        ensures { λ r. ⌜ r ≡ planAsked self asked (now (marks .entry)) ⌝ }
     {
         match asked {
             Asked::Fault => Plan::Keep(Answer::FrameError),
-            Asked::NoRequest => Plan::Keep(Answer::Response {
-                code: 0xE0,
-                result: 0x05,
+            Asked::NoRequest => Plan::Keep(Answer::Error { result: 0x05 }),
+            Asked::WrongLength(command) => parameter_fault(Request::Control {
+                command,
+                start: 0,
+                end: 0,
             }),
-            Asked::WrongLength(command) => parameter_fault(command),
-            Asked::Right(command) => self.plan_command(command, marks, datagram),
+            Asked::Right(request) => self.plan_request(request, marks),
         }
     }
 
     // Order: 3, 2, 1, frame, code, parameter length, state, values, worn.
     pub fn plan(
         self,
-        bank0: usize,
-        bank1: usize,
+        target: usize,
         marks: &[u8],
-        address: usize,
+        address: &[u8],
         buffer: usize,
-        datagram: &[u8],
+        asked: Asked,
     ) -> Plan
-        ensures { λ r. ⌜ Plan·Is self bank0 bank1 (now (marks .entry)) address buffer (now (datagram .entry)) r ⌝ }
+        ensures { λ r. ⌜ Plan·Is self target (now (marks .entry)) (now (address .entry)) buffer asked r ⌝ }
     {
         let state = self.state;
-        if !layout::good_n(self.n) {
+        if !layout::good_n(self.fixed.n) {
             return Plan::Keep(Answer::Refused(Refusal::BadN));
         }
-        if !lent_good(self.n, bank0, bank1, marks.len(), address, buffer) {
+        if !lent_good(
+            self.fixed.n,
+            target,
+            marks.len(),
+            address.len(),
+            buffer,
+        ) {
             return Plan::Keep(Answer::Refused(Refusal::BadLength));
         }
         if exchange::state::is_closed(state) {
             return Plan::Keep(Answer::Refused(Refusal::Closed));
         }
-        self.plan_asked(exchange::command::read_command(datagram), marks, datagram)
+        self.plan_asked(asked, marks)
     }
 }

@@ -6,9 +6,12 @@ use mathlib.Core.Bool.{Bool, true, false, _&&_, _||_}
 use Prim.Native.Nat.{ℕ}
 use lib.Dec.{eqb}
 use Rattle.buffer.specs.Number.{bytesOf}
-use Rattle.frame.specs.Frame.{framed, controlFrame, writeFrame}
+use Rattle.frame.specs.Frame.{framed, controlFrame, writeFrame, frameError}
+use Rattle.commands.specs.declared.Command.{Command}
+use Rattle.commands.specs.declared.Command.the-variants.{WriteStart, WriteEnd}
+use Rattle.commands.specs.Command.{responseCode}
 use Rattle.exchange.specs.declared.answer.Answer.{Answer}
-use Rattle.exchange.specs.declared.answer.Answer.the-variants.{Refused, FrameError, Response, BankIs, VersionIs, Written}
+use Rattle.exchange.specs.declared.answer.Answer.the-variants.{Refused, FrameError, Error, Response, BankIs, VersionIs, Written}
 use Rattle.exchange.specs.Answer.{answerBytes}
 use Rattle.client.specs.Perform.{Accepted}
 use Rattle.decision.proofs.Leading.{Quiet}
@@ -21,49 +24,52 @@ either false b c e = refl
 -- ---- an answer that tells of no session begun or ended, and of no sector stored
 
 pub quiet-begin : (answer : Answer) → Quiet answer → isBegin (answerBytes answer) ≡ false
-unfolding answerBytes controlFrame writeFrame framed
+unfolding answerBytes controlFrame writeFrame framed frameError
 quiet-begin (Refused why) q = refl
 quiet-begin FrameError q = refl
-quiet-begin (Response code result) q = q .0
+quiet-begin (Error result) q = refl
+quiet-begin (Response command result) q = q .0
 quiet-begin (BankIs bank) q = refl
 quiet-begin (VersionIs major minor revision) q = refl
 quiet-begin (Written sector result write crc) q = refl
 
 pub quiet-end : (answer : Answer) → Quiet answer → isEnd (answerBytes answer) ≡ false
-unfolding answerBytes controlFrame writeFrame framed
+unfolding answerBytes controlFrame writeFrame framed frameError
 quiet-end (Refused why) q = refl
 quiet-end FrameError q = refl
-quiet-end (Response code result) q = either (eqb code 0x75) (eqb result 0x06) (eqb result 0x1E) (q .1)
+quiet-end (Error result) q = refl
+quiet-end (Response command result) q = either (eqb (responseCode command) 0x75) (eqb result 0x06) (eqb result 0x1E) (q .1)
 quiet-end (BankIs bank) q = refl
 quiet-end (VersionIs major minor revision) q = refl
 quiet-end (Written sector result write crc) q = refl
 
 pub quiet-stored : (answer : Answer) → Quiet answer → isStored (answerBytes answer) ≡ false
-unfolding answerBytes controlFrame writeFrame framed bytesOf
+unfolding answerBytes controlFrame writeFrame framed frameError bytesOf
 quiet-stored (Refused why) q = refl
 quiet-stored FrameError q = refl
-quiet-stored (Response code result) q = refl
+quiet-stored (Error result) q = refl
+quiet-stored (Response command result) q = refl
 quiet-stored (BankIs bank) q = refl
 quiet-stored (VersionIs major minor revision) q = refl
 quiet-stored (Written sector result write crc) q = q
 
 -- ---- the others
 
-pub response-begin : isBegin (answerBytes (Response 0x70 0x06)) ≡ true
+pub response-begin : isBegin (answerBytes (Response WriteStart 0x06)) ≡ true
 unfolding answerBytes controlFrame framed
 response-begin = refl
 
-pub response-start-end : isEnd (answerBytes (Response 0x70 0x06)) ≡ false
+pub response-start-end : isEnd (answerBytes (Response WriteStart 0x06)) ≡ false
 unfolding answerBytes controlFrame framed
 response-start-end = refl
 
-pub ended-begin : (result : ℕ) → isBegin (answerBytes (Response 0x75 result)) ≡ false
+pub ended-begin : (result : ℕ) → isBegin (answerBytes (Response WriteEnd result)) ≡ false
 unfolding answerBytes controlFrame framed
 ended-begin result = refl
 
-pub response-stored : (code result : ℕ) → isStored (answerBytes (Response code result)) ≡ false
+pub response-stored : (command : Command) (result : ℕ) → isStored (answerBytes (Response command result)) ≡ false
 unfolding answerBytes controlFrame framed
-response-stored code result = refl
+response-stored command result = refl
 
 pub written-begin : (sector result write crc : ℕ) → isBegin (answerBytes (Written sector result write crc)) ≡ false
 unfolding answerBytes writeFrame framed

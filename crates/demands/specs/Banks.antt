@@ -12,7 +12,8 @@ use Rattle.bank.specs.Meaning.{Kept}
 use Rattle.bank.specs.Sound.{stretchBytes}
 use Rattle.bank.specs.Table.{countOf, entryAt}
 use Rattle.client.specs.declared.record.Client.{Client}
-use Rattle.client.specs.Body.{banksGood, chosen}
+use Rattle.layout.specs.Pair.{Banks, banks, bankIn}
+use Rattle.client.specs.Body.{banksGood}
 
 -- 2 unless the length is 1 to 491 sectors; then sound if each rule is kept, and unsound if not
 pub record MeetsCheck (check : List ℕ → Verdict) : Type 0 where
@@ -26,9 +27,9 @@ View = Client → List ℕ → List ℕ → ℕ → List ℕ
 
 -- that stretch of the next-start bank, or an empty one: for banks of a wrong length, a bad N, an unsound bank, or no body of that number
 pub record MeetsBody (view : View) : Type 0 where
-  pub there : (c : Client) (bank0 bank1 : List ℕ) (i : ℕ) → banksGood (c .n) (length bank0) (length bank1) ≡ true → Kept (chosen (c .next) bank0 bank1)
-      → i < countOf (chosen (c .next) bank0 bank1)
-      → view c bank0 bank1 i ≡ stretchBytes (chosen (c .next) bank0 bank1) (entryAt (chosen (c .next) bank0 bank1) i)
-  pub wrong : (c : Client) (bank0 bank1 : List ℕ) (i : ℕ) → banksGood (c .n) (length bank0) (length bank1) ≡ false → view c bank0 bank1 i ≡ []
-  pub unsound : (c : Client) (bank0 bank1 : List ℕ) (i : ℕ) → (Kept (chosen (c .next) bank0 bank1) → ⊥) → view c bank0 bank1 i ≡ []
-  pub past : (c : Client) (bank0 bank1 : List ℕ) (i : ℕ) → countOf (chosen (c .next) bank0 bank1) ≤ i → view c bank0 bank1 i ≡ []
+  pub there : (c : Client) (bank0 bank1 : List ℕ) (i : ℕ) → banksGood (c .fixed .n) (length bank0) (length bank1) ≡ true → Kept (bankIn (c .next) (banks bank0 bank1))
+      → i < countOf (bankIn (c .next) (banks bank0 bank1))
+      → view c bank0 bank1 i ≡ stretchBytes (bankIn (c .next) (banks bank0 bank1)) (entryAt (bankIn (c .next) (banks bank0 bank1)) i)
+  pub wrong : (c : Client) (bank0 bank1 : List ℕ) (i : ℕ) → banksGood (c .fixed .n) (length bank0) (length bank1) ≡ false → view c bank0 bank1 i ≡ []
+  pub unsound : (c : Client) (bank0 bank1 : List ℕ) (i : ℕ) → (Kept (bankIn (c .next) (banks bank0 bank1)) → ⊥) → view c bank0 bank1 i ≡ []
+  pub past : (c : Client) (bank0 bank1 : List ℕ) (i : ℕ) → countOf (bankIn (c .next) (banks bank0 bank1)) ≤ i → view c bank0 bank1 i ≡ []

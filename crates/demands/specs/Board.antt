@@ -3,39 +3,38 @@
 -- consists of the very definitions that the contracts of the client cite, so what holds of it holds of the code.
 -- Assumes nothing.
 use mathlib.Core.List.{List, [], _∷_, _++_}
-use Prim.Native.Nat.{ℕ, _*_}
+use Prim.Native.Nat.{ℕ}
 use lib.ListN.{take, drop}
-use Rattle.layout.specs.Layout.{sectorSize}
-use Rattle.exchange.specs.declared.answer.Answer.{Answer}
-use Rattle.exchange.specs.declared.answer.Answer.the-variants.{Refused, FrameError, Response, BankIs, VersionIs, Written}
+use Rattle.layout.specs.declared.Bank.{Bank}
+use Rattle.layout.specs.declared.Bank.the-variants.{Zero, One}
+use Rattle.layout.specs.Layout.{bankSize, otherOf}
+use Rattle.layout.specs.Pair.{Banks, banks, bankIn}
+use Rattle.exchange.specs.Answer.{answerNumber}
 use Rattle.client.specs.declared.notice.Notice.{Notice}
 use Rattle.client.specs.declared.host.Hosted.{Hosted}
 use Rattle.client.specs.declared.record.Client.{Client}
-use Rattle.exchange.specs.Answer.{refusalNumber}
-use Rattle.client.specs.Body.{chosen}
 use Rattle.client.specs.Host.{toldNumber, initiateOf, terminateOf}
 use Rattle.client.specs.Notice.{noNotice}
-use Rattle.client.specs.Step.{Carried, targetOf, zeroOf, oneOf, stepOf}
+use Rattle.client.specs.Step.{Carried, stepOf, banksAfter}
 
 -- the client's record and the two banks, by number: the record says which one runs
 pub record Board : Type 0 where
   pub client : Client
-  pub bank0 : List ℕ
-  pub bank1 : List ℕ
+  pub pair : Banks
 
-abbrev pub board : Client → List ℕ → List ℕ → Board
-board c bank0 bank1 = record { client = c; bank0 = bank0; bank1 = bank1 }
+abbrev pub board : Client → Banks → Board
+board c pair = record { client = c; pair = pair }
 
 -- the bank that runs, and the other, "the target"
 abbrev pub runningBank : Board → List ℕ
-runningBank b = chosen (b .client .running) (b .bank0) (b .bank1)
+runningBank b = bankIn (b .client .fixed .running) (b .pair)
 
 abbrev pub targetBank : Board → List ℕ
-targetBank b = targetOf (b .client .running) (b .bank0) (b .bank1)
+targetBank b = bankIn (otherOf (b .client .fixed .running)) (b .pair)
 
 -- the target's n sectors; a bank that is longer has more behind them
 abbrev pub sectorsIn : ℕ → Board → List ℕ
-sectorsIn n b = take (n * sectorSize) (targetBank b)
+sectorsIn n b = take (bankSize n) (targetBank b)
 
 -- a datagram and what is lent with it, right or wrong: the sender's address, the worn marks, the answer buffer, and how many bytes of each bank
 pub record Call : Type 0 where
@@ -43,8 +42,7 @@ pub record Call : Type 0 where
   pub address : List ℕ
   pub marks : List ℕ
   pub buffer : List ℕ
-  pub lent0 : ℕ
-  pub lent1 : ℕ
+  pub lent : Bank → ℕ
 
 -- what is put to a board: a host command or a datagram
 pub data Input : Type 0 where
@@ -80,32 +78,24 @@ outcomes m b (i ∷ is) = m b i ∷ outcomes m (m b i .board) is
 
 -- ---- the machine of the contracts
 
--- a bank, of which the front was lent and came back as this
-abbrev pub backIn : ℕ → List ℕ → List ℕ → List ℕ
-backIn lent bank back = back ++ drop lent bank
+-- the fronts of two banks that are lent, and the banks of which these fronts came back so
+abbrev pub lentOf : (Bank → ℕ) → Banks → Banks
+lentOf lent pair = banks (take (lent Zero) (pair .zero)) (take (lent One) (pair .one))
 
-abbrev pub answerNumber : Answer → ℕ
-answerNumber (Refused why) = refusalNumber why
-answerNumber FrameError = 0
-answerNumber (Response code result) = 0
-answerNumber (BankIs bank) = 0
-answerNumber (VersionIs major minor revision) = 0
-answerNumber (Written sector result write crc) = 0
+abbrev pub backIn : (Bank → ℕ) → Banks → Banks → Banks
+backIn lent pair back = banks (back .zero ++ drop (lent Zero) (pair .zero)) (back .one ++ drop (lent One) (pair .one))
 
 abbrev pub hostOutcome : Board → Hosted → Outcome
-hostOutcome b h =
-    record { board = board (h .client) (b .bank0) (b .bank1); number = toldNumber (h .told); told = 0; buffer = []; notice = noNotice }
+hostOutcome b h = record { board = board (h .client) (b .pair); number = toldNumber (h .told); told = 0; buffer = []; notice = noNotice }
 
 -- what is lent of the target
 abbrev pub lentTarget : Board → Call → List ℕ
-lentTarget b call = targetOf (b .client .running) (take (call .lent0) (b .bank0)) (take (call .lent1) (b .bank1))
+lentTarget b call = bankIn (otherOf (b .client .fixed .running)) (lentOf (call .lent) (b .pair))
 
 abbrev pub callOutcome : Board → Call → Carried → Outcome
 callOutcome b call r =
     record {
-      board = board (r .client)
-          (backIn (call .lent0) (b .bank0) (zeroOf (b .client .running) (take (call .lent0) (b .bank0)) (r .target)))
-          (backIn (call .lent1) (b .bank1) (oneOf (b .client .running) (take (call .lent1) (b .bank1)) (r .target)));
+      board = board (r .client) (backIn (call .lent) (b .pair) (banksAfter (b .client) (lentOf (call .lent) (b .pair)) r));
       number = answerNumber (r .answer);
       told = r .told;
       buffer = r .buffer;
@@ -113,8 +103,7 @@ callOutcome b call r =
     }
 
 abbrev pub called : Board → Call → Carried
-called b call =
-    stepOf (b .client) (take (call .lent0) (b .bank0)) (take (call .lent1) (b .bank1)) (call .marks) (call .address) (call .buffer) (call .datagram)
+called b call = stepOf (b .client) (lentOf (call .lent) (b .pair)) (call .marks) (call .address) (call .buffer) (call .datagram)
 
 abbrev pub stepMachine : Machine
 stepMachine b Initiate = hostOutcome b (initiateOf (b .client))

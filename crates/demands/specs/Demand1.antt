@@ -4,22 +4,25 @@
 -- Assumes nothing.
 use mathlib.Core.Path.{_≡_}
 use mathlib.Core.Bool.{Bool, true, false, not, _&&_, _||_, cond}
-use mathlib.Core.List.{List, [], _∷_}
+use mathlib.Core.List.{List, [], _∷_, _++_}
 use mathlib.Core.Option.{Option, none, some}
 use Prim.Native.Nat.{ℕ, _-_}
 use lib.Dec.{eqb}
-use lib.ListN.{length, getD, take}
+use lib.ListN.{length, getD, drop}
 use Rattle.buffer.specs.Compare.{sameOf, blankOf}
+use Rattle.buffer.specs.Number.{numberAt}
 use Rattle.buffer.specs.Place.{frontOf}
 use Rattle.crc.specs.Crc.{crcOf}
 use Rattle.frame.specs.Frame.{controlFrame, writeFrame, frameError}
-use Rattle.frame.specs.Read.{readOf, bytesIn}
+use Rattle.frame.specs.Read.{readOf, parametersIn, dataIn}
 use Rattle.frame.specs.declared.read.Footer.the-variants.{End}
 use Rattle.frame.specs.declared.read.Read.{Read}
 use Rattle.frame.specs.declared.read.Read.the-variants.{Fault, Control, Write}
 use Rattle.flash.specs.Bank.{withSector, sweptOf}
 use Rattle.flash.specs.Sector.{paddedOf}
-use Rattle.layout.specs.Layout.{goodN, bankNumber, otherOf, sectorOf}
+use Rattle.layout.specs.declared.Bank.{Bank}
+use Rattle.layout.specs.Layout.{goodN, bankSize, bankNumber, otherOf, sectorOf}
+use Rattle.layout.specs.Pair.{Banks, bankIn, withBank}
 use Rattle.client.specs.declared.notice.Kind.the-variants.{Started, Ended}
 use Rattle.client.specs.declared.notice.Notice.{Notice}
 use Rattle.client.specs.declared.record.Client.{Client}
@@ -31,9 +34,8 @@ use Rattle.exchange.specs.State.{isClosed}
 use Rattle.client.specs.Notice.{noNotice, noticeWith, latestNumber}
 use Rattle.client.specs.Perform.{fitOf, storeResult}
 use Rattle.decision.specs.Plan.{lentGood, isWorn, anyWorn, valuesGood, addressesGood}
-use Rattle.client.specs.Record.{Stays, initiated, terminated, opened, modeEnded, begun, marked, ended}
-use Rattle.client.specs.Step.{zeroOf, oneOf}
-use Rattle.demands.specs.Board.{Board, board, Call, Input, Initiate, Terminate, Datagram, Outcome, Machine, after, runningBank, backIn, lentTarget}
+use Rattle.client.specs.Record.{Stays, starting, initiated, terminated, opened, modeEnded, begun, marked, ended}
+use Rattle.demands.specs.Board.{Board, board, Call, Input, Initiate, Terminate, Datagram, Outcome, Machine, after, runningBank, lentOf, lentTarget}
 
 -- ---- rows
 
@@ -115,8 +117,10 @@ wrongState s (Write sector m footer) = not (takesPackets s)
 -- value faults: addresses that are not the target's, a packet's sector, the number of its bytes
 abbrev pub wrongValues : Client → List ℕ → Read → Bool
 wrongValues c datagram Fault = false
-wrongValues c datagram (Control code n) = eqb code 0x40 && not (addressesGood (c .n) (c .running) datagram)
-wrongValues c datagram (Write sector m footer) = not (valuesGood (c .n) sector m)
+wrongValues c datagram (Control code n) =
+    eqb code 0x40
+    && not (addressesGood (c .fixed .n) (c .fixed .running) (numberAt 4 (parametersIn datagram) 0) (numberAt 4 (parametersIn datagram) 4))
+wrongValues c datagram (Write sector m footer) = not (valuesGood (c .fixed .n) sector m)
 
 -- of a packet its own sector, of a write end any
 abbrev pub wornSector : List ℕ → Read → Bool
@@ -139,19 +143,19 @@ refused b buffer number = record { board = b; number = number; told = 0; buffer 
 -- an answer at the front of the buffer, the record and the notice; the banks stay
 abbrev pub changed : Board → Call → Client → Notice → List ℕ → Outcome
 changed b call c notice answer =
-    record { board = board c (b .bank0) (b .bank1); number = 0; told = length answer; buffer = frontOf (call .buffer) answer; notice = notice }
+    record { board = board c (b .pair); number = 0; told = length answer; buffer = frontOf (call .buffer) answer; notice = notice }
 
 -- nothing changes but the buffer
 abbrev pub answered : Board → Call → List ℕ → Outcome
 answered b call answer = changed b call (b .client) noNotice answer
 
--- the same with another target
+-- the same with another target: the front that was lent, and what lies behind it
 abbrev pub stored : Board → Call → Client → List ℕ → List ℕ → Outcome
 stored b call c target answer =
     record {
-      board = board c
-          (zeroOf (b .client .running) (b .bank0) (backIn (call .lent0) (b .bank0) target))
-          (oneOf (b .client .running) (b .bank1) (backIn (call .lent1) (b .bank1) target));
+      board =
+          (let other : Bank = otherOf (b .client .fixed .running) in
+          board c (withBank other (target ++ drop (call .lent other) (bankIn other (b .pair))) (b .pair)));
       number = 0;
       told = length answer;
       buffer = frontOf (call .buffer) answer;
@@ -163,9 +167,9 @@ abbrev pub packetStored : Board → Call → Read → Outcome
 packetStored b call Fault = answered b call []
 packetStored b call (Control code n) = answered b call []
 packetStored b call (Write sector m footer) =
-    let bytes : List ℕ = bytesIn (call .datagram) m in
+    let bytes : List ℕ = dataIn (call .datagram) in
     let result : ℕ = storeResult (blankOf bytes) (sameOf (sectorOf (lentTarget b call) sector) (paddedOf bytes)) in
-    stored b call (marked (b .client) sector) (withSector (lentTarget b call) sector (paddedOf bytes))
+    stored b call (marked sector (b .client)) (withSector (lentTarget b call) sector (paddedOf bytes))
     (writeFrame sector (writtenBytes 0x06 result (crcOf (paddedOf bytes))) End)
 
 -- "response result 06 and write result 1C"
@@ -176,7 +180,7 @@ packetWorn b call (Write sector m footer) = answered b call (writeFrame sector (
 
 -- what was not received since the write start is 0xFF
 abbrev pub sweptTarget : Board → Call → List ℕ
-sweptTarget b call = sweptOf (lentTarget b call) (b .client .n) (b .client .received)
+sweptTarget b call = sweptOf (lentTarget b call) (b .client .fixed .n) (b .client .received)
 
 -- ---- the rows of a datagram, as it is read
 
@@ -189,43 +193,44 @@ afterFrame b call r =
     ∷ row (wrongState (c .state) r) (answered b call (ownResponse r 0x15))
     ∷ row (wrongValues c (call .datagram) r) (answered b call (ownResponse r 0x05))
     ∷ row (wornSector (call .marks) r) (packetWorn b call r)
-    ∷ row (isCode 0x45 r && anyWorn (call .marks)) (changed b call (ended c Otherwise (c .next)) noNotice (controlFrame 0x75 (0x1C ∷ [])))
+    ∷ row (isCode 0x45 r && anyWorn (call .marks)) (changed b call (ended Otherwise c) noNotice (controlFrame 0x75 (0x1C ∷ [])))
     -- what is left is answered 06, but for an unsound bank
     ∷ row (isPacket r) (packetStored b call r)
     ∷ row (isCode 0x61 r) (changed b call (opened c) (noticeWith Started 0 (call .address)) (controlFrame 0x71 (0x06 ∷ [])))
-    ∷ row (isCode 0x62 r) (answered b call (controlFrame 0x72 (0x06 ∷ bankNumber (otherOf (c .running)) ∷ [])))
-    ∷ row (isCode 0x68 r) (answered b call (controlFrame 0x78 (versionBytes (c .major) (c .minor) (c .revision))))
-    ∷ row (isCode 0x40 r) (changed b call (begun c) noNotice (controlFrame 0x70 (0x06 ∷ [])))
+    ∷ row (isCode 0x62 r) (answered b call (controlFrame 0x72 (0x06 ∷ bankNumber (otherOf (c .fixed .running)) ∷ [])))
+    ∷ row (isCode 0x68 r) (answered b call (controlFrame 0x78 (versionBytes (c .fixed .major) (c .fixed .minor) (c .fixed .revision))))
+    ∷ row (isCode 0x40 r) (changed b call (begun (starting (c .fixed .running) c)) noNotice (controlFrame 0x70 (0x06 ∷ [])))
     ∷ row (isCode 0x64 r) (changed b call (modeEnded c) (noticeWith Ended (latestNumber (c .latest)) (call .address)) (controlFrame 0x74 (0x06 ∷ [])))
-    ∷ row (isCode 0x45 r && fitOf (sweptTarget b call)) (stored b call (ended c Good (otherOf (c .running))) (sweptTarget b call) (controlFrame 0x75 (0x06 ∷ [])))
-    ∷ row (isCode 0x45 r) (stored b call (ended c Otherwise (c .next)) (sweptTarget b call) (controlFrame 0x75 (0x1E ∷ [])))
+    ∷ row (isCode 0x45 r && fitOf (c .fixed) (sweptTarget b call)) (stored b call (starting (otherOf (c .fixed .running)) (ended Good c)) (sweptTarget b call) (controlFrame 0x75 (0x06 ∷ [])))
+    ∷ row (isCode 0x45 r) (stored b call (ended Otherwise c) (sweptTarget b call) (controlFrame 0x75 (0x1E ∷ [])))
     ∷ []
 
 -- 3, 2, 1, frame, and then the others
 abbrev pub callRows : Board → Call → List Row
 callRows b call =
     let c : Client = b .client in
-    let zero : ℕ = length (take (call .lent0) (b .bank0)) in
-    let one : ℕ = length (take (call .lent1) (b .bank1)) in
-    row (not (goodN (c .n))) (refused b (call .buffer) 3)
-    ∷ row (not (lentGood (c .n) zero one (length (call .marks)) (length (call .address)) (length (call .buffer)))) (refused b (call .buffer) 2)
+    let lent : Banks = lentOf (call .lent) (b .pair) in
+    row (not (goodN (c .fixed .n))) (refused b (call .buffer) 3)
+    ∷ row (not (eqb (length (bankIn (c .fixed .running) lent)) (bankSize (c .fixed .n)))) (refused b (call .buffer) 2)
+    ∷ row (not (lentGood (c .fixed .n) (length (lentTarget b call)) (length (call .marks)) (length (call .address)) (length (call .buffer))))
+        (refused b (call .buffer) 2)
     ∷ row (isClosed (c .state)) (refused b (call .buffer) 1)
     ∷ row (isFault (readOf (call .datagram))) (answered b call frameError)
     ∷ afterFrame b call (readOf (call .datagram))
 
 -- a host command that is done has no number, no answer and no notice
 abbrev pub hostDone : Board → Client → Outcome
-hostDone b c = record { board = board c (b .bank0) (b .bank1); number = 0; told = 0; buffer = []; notice = noNotice }
+hostDone b c = record { board = board c (b .pair); number = 0; told = 0; buffer = []; notice = noNotice }
 
 -- "Host commands: 3, 4"
 abbrev pub tableOf : Board → Input → List Row
 tableOf b Initiate =
-    row (not (goodN (b .client .n))) (refused b [] 3)
+    row (not (goodN (b .client .fixed .n))) (refused b [] 3)
     ∷ row (not (isClosed (b .client .state))) (refused b [] 4)
     ∷ row true (hostDone b (initiated (b .client)))
     ∷ []
 tableOf b Terminate =
-    row (not (goodN (b .client .n))) (refused b [] 3)
+    row (not (goodN (b .client .fixed .n))) (refused b [] 3)
     ∷ row (isClosed (b .client .state)) (refused b [] 4)
     ∷ row true (hostDone b (terminated (b .client)))
     ∷ []

@@ -6,19 +6,21 @@
 use mathlib.Core.Path.{_≡_}
 use mathlib.Core.Bool.{true}
 use mathlib.Core.List.{List, [], _∷_, List·Memᴰ}
-use Prim.Native.Nat.{ℕ, _*_, _≤_, _<_}
+use Prim.Native.Nat.{ℕ, _≤_, _<_}
 use lib.ListN.{length, replicate}
 use Rattle.crc.specs.Crc.{crcOf}
 use Rattle.frame.specs.Frame.{writeFrame}
 use Rattle.frame.specs.declared.read.Footer.the-variants.{End}
-use Rattle.layout.specs.Layout.{sectorSize, goodN, otherOf, sectorOf}
+use Rattle.layout.specs.declared.Bank.{Bank}
+use Rattle.layout.specs.Layout.{goodN, bankSize, otherOf, sectorOf}
+use Rattle.layout.specs.Pair.{bankIn}
 use Rattle.sender.specs.declared.request.Request.the-variants.{WriteStart, WriteEnd}
 use Rattle.sender.specs.Packet.{packetCount, packetSector, packetFrame}
 use Rattle.sender.specs.Request.{requestFrame}
 use Rattle.exchange.specs.declared.state.State.the-variants.{Control}
 use Rattle.exchange.specs.Answer.{writtenBytes}
+use Rattle.decision.specs.declared.plan.Fixed.{Fixed}
 use Rattle.client.specs.Perform.{Accepted, fitOf}
-use Rattle.client.specs.Step.{targetOf}
 use Rattle.demands.specs.Board.{Board, Call, Input, Datagram, Outcome, said, Machine, after, outcomes}
 
 -- what a call lends: a 16-byte address, n marks that are zero ("non-zero means worn"), room for an answer, all of both banks
@@ -26,8 +28,7 @@ pub record Lends (n : ℕ) (call : Call) : Type 0 where
   pub address : length (call .address) ≡ 16
   pub marks : call .marks ≡ replicate n 0
   pub room : 14 ≤ length (call .buffer)
-  pub zero : call .lent0 ≡ n * sectorSize
-  pub one : call .lent1 ≡ n * sectorSize
+  pub banks : (x : Bank) → call .lent x ≡ bankSize n
 
 -- calls that bring the packets with these numbers, in this order, as the sender makes them
 pub data Packets (image : List ℕ) (n : ℕ) : List ℕ → List Input → Type 0 where
@@ -37,24 +38,23 @@ pub data Packets (image : List ℕ) (n : ℕ) : List ℕ → List Input → Type
 
 -- a board that takes a write start
 pub record Ready (b : Board) : Type 0 where
-  pub good : goodN (b .client .n) ≡ true
+  pub good : goodN (b .client .fixed .n) ≡ true
   pub control : b .client .state ≡ Control
-  pub zero : length (b .bank0) ≡ b .client .n * sectorSize
-  pub one : length (b .bank1) ≡ b .client .n * sectorSize
+  pub whole : (x : Bank) → length (bankIn x (b .pair)) ≡ bankSize (b .client .fixed .n)
 
--- an image of that size that may start next
-pub record Fit (image : List ℕ) (n : ℕ) : Type 0 where
-  pub size : length image ≡ n * sectorSize
-  pub sound : fitOf image ≡ true
+-- an image of that size that this client may start
+pub record Fit (image : List ℕ) (fixed : Fixed) : Type 0 where
+  pub size : length image ≡ bankSize (fixed .n)
+  pub sound : fitOf fixed image ≡ true
 
 -- the whole delivery: start, packets of which none is missing, end
 pub record Delivery (b : Board) (image : List ℕ) (start : Call) (ps : List ℕ) (is : List Input) (end : Call) : Type 0 where
-  pub start-sent : start .datagram ≡ requestFrame (WriteStart (otherOf (b .client .running)) (b .client .n))
-  pub start-lends : Lends (b .client .n) start
-  pub packets : Packets image (b .client .n) ps is
-  pub each : (p : ℕ) → p < packetCount image (b .client .n) → List·Memᴰ p ps
+  pub start-sent : start .datagram ≡ requestFrame (WriteStart (otherOf (b .client .fixed .running)) (b .client .fixed .n))
+  pub start-lends : Lends (b .client .fixed .n) start
+  pub packets : Packets image (b .client .fixed .n) ps is
+  pub each : (p : ℕ) → p < packetCount image (b .client .fixed .n) → List·Memᴰ p ps
   pub end-sent : end .datagram ≡ requestFrame WriteEnd
-  pub end-lends : Lends (b .client .n) end
+  pub end-lends : Lends (b .client .fixed .n) end
 
 -- a packet's answer: its sector, 06, then 06 or 1D, and the CRC of the sector as the image has it
 pub record Taken (image : List ℕ) (n p : ℕ) (o : Outcome) : Type 0 where
@@ -69,12 +69,12 @@ pub data AllTaken (image : List ℕ) (n : ℕ) : List ℕ → List Outcome → T
 -- what comes of it
 pub record Delivered (m : Machine) (b : Board) (image : List ℕ) (start : Call) (ps : List ℕ) (is : List Input) (end : Call) : Type 0 where
   pub started : said (m b (Datagram start)) ≡ 0x01 ∷ 0x02 ∷ 0x70 ∷ 0x06 ∷ 0x88 ∷ 0x03 ∷ []
-  pub taken : AllTaken image (b .client .n) ps (outcomes m (m b (Datagram start) .board) is)
+  pub taken : AllTaken image (b .client .fixed .n) ps (outcomes m (m b (Datagram start) .board) is)
   pub ended : said (m (after m b (Datagram start ∷ is)) (Datagram end)) ≡ 0x01 ∷ 0x02 ∷ 0x75 ∷ 0x06 ∷ 0x83 ∷ 0x03 ∷ []
-  pub bank : (let last : Board = m (after m b (Datagram start ∷ is)) (Datagram end) .board in targetOf (b .client .running) (last .bank0) (last .bank1)) ≡ image
-  pub next : m (after m b (Datagram start ∷ is)) (Datagram end) .board .client .next ≡ otherOf (b .client .running)
+  pub bank : bankIn (otherOf (b .client .fixed .running)) (m (after m b (Datagram start ∷ is)) (Datagram end) .board .pair) ≡ image
+  pub next : m (after m b (Datagram start ∷ is)) (Datagram end) .board .client .next ≡ otherOf (b .client .fixed .running)
 
 abbrev pub Meets2 : Machine → Type 0
 Meets2 m =
-    (b : Board) (image : List ℕ) → Ready b → Fit image (b .client .n)
+    (b : Board) (image : List ℕ) → Ready b → Fit image (b .client .fixed)
     → (start : Call) (ps : List ℕ) (is : List Input) (end : Call) → Delivery b image start ps is end → Delivered m b image start ps is end

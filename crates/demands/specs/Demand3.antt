@@ -10,6 +10,8 @@ use Prim.Native.Nat.{ℕ}
 use lib.ListN.{length}
 use Rattle.frame.specs.Frame.{writeFrame}
 use Rattle.frame.specs.declared.read.Footer.the-variants.{End}
+use Rattle.layout.specs.declared.Bank.{Bank}
+use Rattle.layout.specs.Pair.{bankIn}
 use Rattle.exchange.specs.declared.state.State.the-variants as state
 use Rattle.exchange.specs.Answer.{writtenBytes}
 use Rattle.client.specs.Perform.{Accepted}
@@ -36,13 +38,13 @@ pub data AllAlike : List Outcome → List Outcome → Type 0 where
 
 -- the session's image: told by one board's exchanges, and meant for both
 abbrev pub imageOf : Machine → Board → List Input → List ℕ
-imageOf m a is = shown (a .client .n) (allBlank (a .client .n)) is (outcomes m a is)
+imageOf m a is = shown (a .client .fixed .n) (allBlank (a .client .fixed .n)) is (outcomes m a is)
 
 -- a session that ended after the sweep on either board, and what the two targets are then
 pub record Ended (m : Machine) (a b : Board) (is : List Input) (i : Input) : Type 0 where
   pub other : isEnd (said (m (after m b is) i)) ≡ true
-  pub first : sectorsIn (a .client .n) (m (after m a is) i .board) ≡ imageOf m a is
-  pub second : sectorsIn (a .client .n) (m (after m b is) i .board) ≡ imageOf m a is
+  pub first : sectorsIn (a .client .fixed .n) (m (after m a is) i .board) ≡ imageOf m a is
+  pub second : sectorsIn (a .client .fixed .n) (m (after m b is) i .board) ≡ imageOf m a is
 
 pub record Same (m : Machine) (a b : Board) (is : List Input) : Type 0 where
   pub alike : AllAlike (outcomes m a is) (outcomes m b is)
@@ -53,8 +55,7 @@ pub record Same (m : Machine) (a b : Board) (is : List Input) : Type 0 where
 -- the premises: the same record ("two boards"), banks of the same lengths, no session under way. Nothing is asked of N or of what the banks hold
 pub record Pair (a b : Board) : Type 0 where
   pub client : a .client ≡ b .client
-  pub zero : length (a .bank0) ≡ length (b .bank0)
-  pub one : length (a .bank1) ≡ length (b .bank1)
+  pub lengths : (x : Bank) → length (bankIn x (a .pair)) ≡ length (bankIn x (b .pair))
   pub resting : a .client .state ≡ state.Write → ⊥
 
 abbrev pub Meets3 : Machine → Type 0

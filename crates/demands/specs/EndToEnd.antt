@@ -11,6 +11,7 @@ use lib.ListN.{length, getD, drop}
 use Rattle.buffer.specs.Number.{byteAt}
 use Rattle.layout.specs.declared.Bank.{Bank}
 use Rattle.layout.specs.Layout.{sectorSize, otherOf, startOf}
+use Rattle.layout.specs.Pair.{bankIn}
 use Rattle.lines.specs.Line.{lines}
 use Rattle.hex.specs.declared.read.Answer.the-variants.{Accepted}
 use Rattle.hex.specs.declared.record.Found.the-variants.{Data}
@@ -20,7 +21,6 @@ use Rattle.hex.specs.Read.{fresh, readOf}
 use Rattle.hex.specs.Record.{dataOf}
 use Rattle.response.specs.Response.{responseOf}
 use Rattle.client.specs.Perform.{fitOf}
-use Rattle.client.specs.Step.{targetOf}
 use Rattle.demands.specs.Board.{Board, Call, Input, Datagram, said, Machine, after}
 use Rattle.demands.specs.Demand2.{Ready, Delivery}
 use Rattle.demands.specs.Responses.{ReadBack}
@@ -44,13 +44,13 @@ pub record Holds (text : List ℕ) (bank : Bank) (n : ℕ) (bytes : List ℕ) : 
 abbrev pub MeetsText : Machine → Type 0
 MeetsText m =
     (b : Board) (text before : List ℕ) → Ready b
-    → (let target : Bank = otherOf (b .client .running) in
-    let n : ℕ = b .client .n in
+    → (let target : Bank = otherOf (b .client .fixed .running) in
+    let n : ℕ = b .client .fixed .n in
     let image : List ℕ = readOf text target n before .image in
-    readOf text target n before .answer ≡ Accepted → fitOf image ≡ true
+    readOf text target n before .answer ≡ Accepted → fitOf (b .client .fixed) image ≡ true
     → (start : Call) (ps : List ℕ) (is : List Input) (end : Call) → Delivery b image start ps is end
     → (let last : Board = m (after m b (Datagram start ∷ is)) (Datagram end) .board in
-    Holds text target n (targetOf (b .client .running) (last .bank0) (last .bank1))))
+    Holds text target n (bankIn target (last .pair))))
 
 -- ---- answers, read
 
@@ -60,5 +60,5 @@ Readable answer = ReadBack answer (responseOf answer)
 -- what the machine's types say: a datagram's bytes are bytes, the record's revision has 32 bits
 abbrev pub MeetsRead : Machine → Type 0
 MeetsRead m =
-    (b : Board) (call : Call) → ((i : ℕ) → byteAt (call .datagram) i < 256) → b .client .revision < 2 ^ 32
+    (b : Board) (call : Call) → ((i : ℕ) → byteAt (call .datagram) i < 256) → b .client .fixed .revision < 2 ^ 32
     → m b (Datagram call) .number ≡ 0 → Readable (said (m b (Datagram call)))

@@ -4,22 +4,22 @@
 use mathlib.Core.Path.{_≡_}
 use mathlib.Core.Bool.{true}
 use mathlib.Core.List.{List, [], _∷_}
-use Prim.Native.Nat.{ℕ, _*_}
+use Prim.Native.Nat.{ℕ}
 use lib.ListN.{length}
 use Rattle.layout.specs.declared.Bank.{Bank}
-use Rattle.layout.specs.Layout.{sectorSize, goodN}
+use Rattle.layout.specs.Layout.{goodN, bankSize}
+use Rattle.layout.specs.Pair.{Banks, bankIn}
 use Rattle.sender.specs.declared.request.Request.the-variants.{ModeStart, ModeEnd}
 use Rattle.sender.specs.Request.{requestFrame}
-use Rattle.client.specs.Host.{newOf}
+use Rattle.client.specs.Host.{fixedOf, newOf}
 use Rattle.client.specs.Notice.{noticeBytes}
 use Rattle.demands.specs.Board.{Board, board, Call, Input, Initiate, Datagram, said, Machine, after}
 use Rattle.demands.specs.Demand2.{Lends, Fit, Delivery, Delivered}
 
 -- a new client between two whole banks
-pub record Fresh (n : ℕ) (bank0 bank1 : List ℕ) : Type 0 where
+pub record Fresh (n : ℕ) (pair : Banks) : Type 0 where
   pub good : goodN n ≡ true
-  pub zero : length bank0 ≡ n * sectorSize
-  pub one : length bank1 ≡ n * sectorSize
+  pub whole : (x : Bank) → length (bankIn x pair) ≡ bankSize n
 
 -- the board when the mode was started, and when the image was delivered
 abbrev pub inMode : Machine → Board → Call → Board
@@ -38,9 +38,9 @@ pub record Told (m : Machine) (b : Board) (image : List ℕ) (mode start : Call)
 
 abbrev pub MeetsFresh : Machine → Type 0
 MeetsFresh m =
-    (n : ℕ) (running : Bank) (major minor revision : ℕ) (bank0 bank1 : List ℕ) → Fresh n bank0 bank1
-    → (let b : Board = board (newOf n running major minor revision .client) bank0 bank1 in
-    (image : List ℕ) → Fit image n
+    (n : ℕ) (running : Bank) (major minor revision : ℕ) (pair : Banks) → Fresh n pair
+    → (let b : Board = board (newOf n running major minor revision .client) pair in
+    (image : List ℕ) → Fit image (fixedOf n running major minor revision)
     → (mode start : Call) (ps : List ℕ) (is : List Input) (end over : Call)
     → mode .datagram ≡ requestFrame ModeStart → Lends n mode
     → Delivery (inMode m b mode) image start ps is end

@@ -3,15 +3,15 @@
 -- Assumes nothing.
 use mathlib.Core.Bool.{Bool, _&&_, _||_, cond}
 use mathlib.Core.List.{List, [], _∷_}
-use Prim.Native.Nat.{ℕ, _*_}
+use Prim.Native.Nat.{ℕ}
 use lib.Dec.{eqb}
 use Rattle.buffer.specs.Number.{byteAt}
-use Rattle.frame.specs.Read.{readOf, bytesIn}
+use Rattle.frame.specs.Read.{readOf, dataIn}
 use Rattle.frame.specs.declared.read.Read.{Read}
 use Rattle.frame.specs.declared.read.Read.the-variants.{Fault, Control, Write}
 use Rattle.flash.specs.Bank.{withSector, blankSector}
 use Rattle.flash.specs.Sector.{blanks, paddedOf}
-use Rattle.layout.specs.Layout.{sectorSize}
+use Rattle.layout.specs.Layout.{bankSize}
 use Rattle.demands.specs.Board.{Input, Initiate, Terminate, Datagram, Outcome, said}
 
 -- a control response with this code and result
@@ -33,10 +33,10 @@ isEnd answer = isResponse 0x75 0x06 answer || isResponse 0x75 0x1E answer
 abbrev pub packetIn : List ℕ → List ℕ → Read → List ℕ
 packetIn image datagram Fault = image
 packetIn image datagram (Control code n) = image
-packetIn image datagram (Write sector m footer) = withSector image sector (paddedOf (bytesIn datagram m))
+packetIn image datagram (Write sector m footer) = withSector image sector (paddedOf (dataIn datagram))
 
 abbrev pub allBlank : ℕ → List ℕ
-allBlank n = blanks (n * sectorSize)
+allBlank n = blanks (bankSize n)
 
 -- one exchange more: an accepted start shows 0xFF alone, an accepted packet its sector
 abbrev pub exchanged : ℕ → List ℕ → List ℕ → List ℕ → List ℕ
@@ -58,7 +58,7 @@ shown n image (i ∷ is) (o ∷ os) = shown n (noted n image i o) is os
 abbrev pub packetFor : ℕ → List ℕ → List ℕ → Read → List ℕ
 packetFor k sector datagram Fault = sector
 packetFor k sector datagram (Control code n) = sector
-packetFor k sector datagram (Write number m footer) = cond (eqb number k) (paddedOf (bytesIn datagram m)) sector
+packetFor k sector datagram (Write number m footer) = cond (eqb number k) (paddedOf (dataIn datagram)) sector
 
 abbrev pub lately : ℕ → List ℕ → List ℕ → List ℕ → List ℕ
 lately k sector datagram answer =

@@ -10,7 +10,8 @@ use Rattle.frame.specs.declared.read.Footer.{Footer}
 use Rattle.frame.specs.declared.read.Read.the-variants.{Write}
 use Rattle.sender.specs.declared.request.Request.the-variants.{WriteEnd}
 use Rattle.sender.specs.Request.{requestFrame}
-use Rattle.client.specs.Step.{targetOf}
+use Rattle.layout.specs.Layout.{otherOf}
+use Rattle.layout.specs.Pair.{bankIn}
 use Rattle.demands.specs.Board.{Board, board, Call, Input, Initiate, Terminate, Datagram, Outcome, said, Machine, after, stepMachine}
 use Rattle.demands.specs.Demand1.{isPacket}
 use Rattle.demands.specs.Session.{isBegin, isStored}
@@ -25,14 +26,13 @@ pub record Fixed (m : Machine) : Type 0 where
   pub always : (b : Board) (call : Call) → said (m b (Datagram call)) ≡ answer
 
 -- one that never changes a bank
-pub record NeverStores (m : Machine) : Type 0 where
-  pub zero : (b : Board) (i : Input) → m b i .board .bank0 ≡ b .bank0
-  pub one : (b : Board) (i : Input) → m b i .board .bank1 ≡ b .bank1
+abbrev pub NeverStores : Machine → Type 0
+NeverStores m = (b : Board) (i : Input) → m b i .board .pair ≡ b .pair
 
 -- the same outcome, but the banks stay
 abbrev pub unstored : Board → Outcome → Outcome
 unstored b o =
-    record { board = board (o .board .client) (b .bank0) (b .bank1); number = o .number; told = o .told; buffer = o .buffer; notice = o .notice }
+    record { board = board (o .board .client) (b .pair); number = o .number; told = o .told; buffer = o .buffer; notice = o .notice }
 
 -- one that answers as the client does and stores nothing
 abbrev pub storesNothing : Machine
@@ -43,7 +43,7 @@ storesNothing b i = unstored b (stepMachine b i)
 -- the same call with another datagram
 abbrev pub bringing : List ℕ → Call → Call
 bringing datagram call =
-    record { datagram = datagram; address = call .address; marks = call .marks; buffer = call .buffer; lent0 = call .lent0; lent1 = call .lent1 }
+    record { datagram = datagram; address = call .address; marks = call .marks; buffer = call .buffer; lent = call .lent }
 
 -- packets that differ in their bytes alone: each goes to the same sector, is as long, has the same footer and comes with the same things lent
 pub data SameButBytes : List Input → List Input → Type 0 where
@@ -61,8 +61,7 @@ pub record FirstHandled (m : Machine) (b : Board) (start first : Call) : Type 0 
 -- the target when the session is over
 abbrev pub targetAfter : Machine → Board → Call → Call → List Input → Call → List ℕ
 targetAfter m b start first rest end =
-    let last : Board = m (after m b (Datagram start ∷ Datagram first ∷ rest)) (Datagram end) .board in
-    targetOf (b .client .running) (last .bank0) (last .bank1)
+    bankIn (otherOf (b .client .fixed .running)) (m (after m b (Datagram start ∷ Datagram first ∷ rest)) (Datagram end) .board .pair)
 
 -- Who only acknowledges a packet makes nothing of its bytes: they may be others, and the bank is the same at the write end. The class asks no
 -- more than that. What such a machine makes of the first packet, how it answers the rest, and what it notes of their sectors and their number

@@ -3,6 +3,7 @@
 use mathlib.Core.Path.{_≡_, refl, ap₂}
 use mathlib.Core.List.{List}
 use Prim.Native.Nat.{ℕ}
+use lib.ListN.{length}
 use Rattle.layout.specs.declared.Bank.{Bank}
 use Rattle.layout.specs.declared.Bank.the-variants.{Zero, One}
 use Rattle.layout.specs.Layout.{otherOf}
@@ -16,6 +17,11 @@ bank-there One p = refl
 pub bank-other : (b : Bank) (x : List ℕ) (p : Banks) → bankIn (otherOf b) (withBank b x p) ≡ bankIn (otherOf b) p
 bank-other Zero x p = refl
 bank-other One x p = refl
+
+-- a bank, the other one changed
+pub bank-beside : (b : Bank) (x : List ℕ) (p : Banks) → bankIn b (withBank (otherOf b) x p) ≡ bankIn b p
+bank-beside Zero x p = refl
+bank-beside One x p = refl
 
 -- a bank put back where it was
 pub pair-same : (b : Bank) {p : Banks} → withBank b (bankIn b p) p ≡ p
@@ -31,3 +37,10 @@ pair-last One x y p = refl
 pub pair-ext : (b : Bank) {p q : Banks} → bankIn b p ≡ bankIn b q → bankIn (otherOf b) p ≡ bankIn (otherOf b) q → p ≡ q
 pair-ext Zero e o = ap₂ banks e o
 pair-ext One e o = ap₂ banks o e
+
+-- a bank of the same length in its place leaves each length
+pub pair-length : (b x : Bank) {bank : List ℕ} (p : Banks) → length bank ≡ length (bankIn b p) → length (bankIn x (withBank b bank p)) ≡ length (bankIn x p)
+pair-length Zero Zero p e = e
+pair-length Zero One p e = refl
+pair-length One Zero p e = refl
+pair-length One One p e = e

@@ -1,0 +1,4 @@
+pub mod Beside
+pub mod Courses
+pub mod Keeping
+pub mod Leading

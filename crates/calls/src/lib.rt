@@ -1,0 +1,1 @@
+// Calls one after another: definitions and laws, and no code.

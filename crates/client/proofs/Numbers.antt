@@ -1,0 +1,59 @@
+-- The paper's number where there is no answer, and none where there is one: what a step answers, and what its definition says in numbers.
+-- Assumes nothing.
+use mathlib.Core.Path.{_≡_, refl, sym, _∙_}
+use mathlib.Core.Bool.{Bool, true, false, not}
+use mathlib.Core.List.{List}
+use Prim.Native.Nat.{ℕ}
+use lib.Dec.{eqb}
+use lib.ListN.{length}
+use Rattle.buffer.proofs.Bools.{split}
+use Rattle.frame.specs.Read.{dataIn}
+use Rattle.layout.specs.Layout.{goodN, bankSize}
+use Rattle.exchange.specs.Answer.{answerNumber}
+use Rattle.exchange.specs.Request.{askedOf}
+use Rattle.decision.specs.declared.plan.Plan.{Plan}
+use Rattle.decision.specs.declared.plan.Plan.the-variants.{Keep, Open, Leave, Begin, Store, Wear, Finish}
+use Rattle.decision.proofs.Numbers.{planNumber, plan-number}
+use Rattle.client.specs.declared.record.Client.{Client}
+use Rattle.client.specs.Record.{standingOf}
+use Rattle.client.specs.Perform.{fitOf, Done, storeOf, checkedOf, servedOf}
+use Rattle.client.specs.Step.{Carried, carriedOf, planned, takeOf, takeSays, besideOf, stepSays}
+use Rattle.flash.specs.Bank.{sweptOf}
+
+-- what a plan leads to has the plan's number
+pub carried-number : (c : Client) (plan : Plan) (target address buffer bytes : List ℕ)
+    → answerNumber (carriedOf c plan target address buffer bytes .answer) ≡ planNumber plan
+unfolding carriedOf servedOf storeOf checkedOf
+carried-number c (Keep answer) target address buffer bytes = refl
+carried-number c Open target address buffer bytes = refl
+carried-number c Leave target address buffer bytes = refl
+carried-number c Begin target address buffer bytes = refl
+carried-number c (Store sector) target address buffer bytes = refl
+carried-number c Wear target address buffer bytes = refl
+carried-number c Finish target address buffer bytes =
+    split (λ (d : Done). answerNumber (d .answer) ≡ 0) (fitOf (c .fixed) (sweptOf target (c .fixed .n) (c .received))) (λ _. refl) (λ _. refl)
+
+module _ (c : Client) where
+  pub take-says : (target marks address buffer datagram : List ℕ)
+      → answerNumber (takeOf c target marks address buffer datagram .answer) ≡ takeSays c (length target) (length marks) (length address) (length buffer)
+  unfolding takeOf
+  take-says target marks address buffer datagram =
+      carried-number c (planned c target marks address buffer datagram) target address buffer (dataIn datagram)
+      ∙ plan-number (standingOf c) (length target) marks address (length buffer) (askedOf datagram)
+
+  pub beside-says : (running : ℕ) (target marks address buffer datagram : List ℕ)
+      → answerNumber (besideOf c running target marks address buffer datagram .answer)
+      ≡ stepSays c running (length target) (length marks) (length address) (length buffer)
+  unfolding besideOf
+  beside-says running target marks address buffer datagram = by _ refl
+    where
+      by : (g : Bool) → goodN (c .fixed .n) ≡ g → answerNumber (besideOf c running target marks address buffer datagram .answer)
+          ≡ stepSays c running (length target) (length marks) (length address) (length buffer)
+      unfolding besideOf
+      by false g = rw g (carried-number c _ target address buffer _)
+      by true g =
+          rw g
+          (split (λ (d : Carried). answerNumber (d .answer) ≡ stepSays c running (length target) (length marks) (length address) (length buffer))
+          (eqb running (bankSize (c .fixed .n)))
+          (λ e. rw (g, e) (take-says target marks address buffer datagram ∙ rw g refl))
+          (λ e. rw (g, e) (carried-number c _ target address buffer _)))
