@@ -1,16 +1,20 @@
 -- What a client answers, as bytes (01, 'Frames', 'The client, step by step', 'What comes back when it is no').
 -- Assumes nothing.
 use mathlib.Core.Path.{_≡_}
+use mathlib.Core.Bool.{cond}
 use mathlib.Core.List.{List, [], _∷_}
 use Prim.Native.Nat.{ℕ}
+use lib.Dec.{leb}
 use lib.ListN.{length}
 use Rattle.buffer.specs.Number.{bytesOf}
 use Rattle.buffer.specs.Place.{frontOf}
+use Rattle.commands.specs.Command.{responseCode, errorCode}
+use Rattle.commands.specs.declared.Command.the-variants.{BankInfo, VersionInfo}
 use Rattle.frame.specs.Frame.{controlFrame, writeFrame, frameError}
 use Rattle.frame.specs.declared.read.Footer.the-variants.{End}
 use Rattle.layout.specs.Layout.{bankNumber}
 use Rattle.exchange.specs.declared.answer.Answer.{Answer}
-use Rattle.exchange.specs.declared.answer.Answer.the-variants.{Refused, FrameError, Response, BankIs, VersionIs, Written}
+use Rattle.exchange.specs.declared.answer.Answer.the-variants.{Refused, FrameError, Error, Response, BankIs, VersionIs, Written}
 use Rattle.exchange.specs.declared.answer.Refusal.{Refusal}
 use Rattle.exchange.specs.declared.answer.Refusal.the-variants.{BadN, BadLength, Closed}
 
@@ -32,12 +36,24 @@ writtenBytes result write crc = result ∷ write ∷ bytesOf 4 crc
 unfoldable pub answerBytes : Answer → List ℕ
 answerBytes (Refused why) = []
 answerBytes FrameError = frameError
-answerBytes (Response code result) = controlFrame code (result ∷ [])
-answerBytes (BankIs bank) = controlFrame 0x72 (0x06 ∷ bankNumber bank ∷ [])
-answerBytes (VersionIs major minor revision) = controlFrame 0x78 (versionBytes major minor revision)
+answerBytes (Error result) = controlFrame errorCode (result ∷ [])
+answerBytes (Response command result) = controlFrame (responseCode command) (result ∷ [])
+answerBytes (BankIs bank) = controlFrame (responseCode BankInfo) (0x06 ∷ bankNumber bank ∷ [])
+answerBytes (VersionIs major minor revision) = controlFrame (responseCode VersionInfo) (versionBytes major minor revision)
 answerBytes (Written sector result write crc) = writeFrame sector (writtenBytes result write crc) End
 
--- the answer at the front ("fills the front"), the bytes behind it as they were; it tells its length
+-- bytes at the front of a buffer ("fills the front"), those behind them as they were, and how many they are
+pub record Put·Is (bytes before after : List ℕ) (n : ℕ) : Type 0 where
+  pub said : after ≡ frontOf before bytes
+  pub counted : n ≡ length bytes
+
+-- how many bytes are told to be said: none where they do not fit the buffer
+unfoldable pub toldLength : List ℕ → ℕ → ℕ
+toldLength bytes room = cond (leb (length bytes) room) (length bytes) 0
+
 pub record Say·Is (answer : Answer) (before after : List ℕ) (n : ℕ) : Type 0 where
   pub said : after ≡ frontOf before (answerBytes answer)
-  pub told : n ≡ length (answerBytes answer)
+  pub told : n ≡ toldLength (answerBytes answer) (length before)
+
+abbrev pub RefusalNumber·Is : Refusal → ℕ → Type 0
+RefusalNumber·Is why r = r ≡ refusalNumber why

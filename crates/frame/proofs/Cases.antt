@@ -59,6 +59,7 @@ module _ (d : List ℕ) (m : ℕ) (e : m ≡ numberAt 2 d 3) where
 
   -- either footer
   pub write-good : (footer : Footer) → eqb (length d) (m + 7) ≡ true → checkedAt d (m + 5) ≡ true → byteAt d (m + 6) ≡ footerByte footer → Write (numberAt 2 d 1) m footer ≡ readWrite d
+  unfolding footerByte
   write-good End n s f = write-end n s (eq-eqb (byteAt d (m + 6)) 0x03 f)
   write-good Continued n s f = write-continued n s (ne-eqb (byteAt d (m + 6)) 0x03 (λ q. omega arith)) (eq-eqb (byteAt d (m + 6)) 0x17 f)
 

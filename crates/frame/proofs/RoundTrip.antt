@@ -2,23 +2,24 @@
 -- Assumes nothing.
 use mathlib.Core.Path.{_≡_, refl, sym, ap, ap₂, _∙_}
 use mathlib.Core.Bool.{true}
-use mathlib.Core.List.{List, [], _∷_, _++_}
+use mathlib.Core.List.{List, [], _∷_, _++_, append-assoc}
 use Prim.Native.Nat.{ℕ, suc, _+_, _-_, _*_, _/_, _%_, _<_}
 use native.Mathlib.Omega.{arith}
 use native.Mathlib.Numerals.{add-one}
-use lib.ListN.{length, take, drop, drop-of-length-le}
-use lib.Seq.{take-at, getD-at, getD-append-add, drop-cons}
+use lib.ListN.{length, take, drop, drop-of-length-le, length-append}
+use lib.Seq.{take-at, drop-at, getD-at, getD-append-add, drop-cons}
 use borrow.Author.Tests.{eq-eqb, ne-eqb}
 use Rattle.buffer.specs.Number.{bytesOf, byteAt}
 use Rattle.buffer.proofs.Bools.{no-way}
 use Rattle.buffer.proofs.Numbers.{number-two, bytes-two}
 use Rattle.buffer.proofs.Parts.{part-next, part-rest, part-length}
-use Rattle.frame.specs.Checksum.{checksumOf}
+use Rattle.frame.specs.Checksum.{takenAway, checksumOf}
 use Rattle.frame.specs.Frame.{footerByte, framed, controlFrame, writeFrame, frameError}
-use Rattle.frame.specs.Read.{checkedAt, parametersOf, bytesIn, readOf}
+use Rattle.frame.specs.Read.{checkedAt, partFrom, parametersIn, dataIn, readOf}
 use Rattle.frame.specs.declared.read.Footer.{Footer}
 use Rattle.frame.specs.declared.read.Read.the-variants.{Fault, Control, Write}
 use Rattle.frame.proofs.Cases.{control-good, write-good, read-control, read-write}
+use Rattle.frame.proofs.Parts.{part-lies, parameters-lie, data-lie}
 use Rattle.frame.proofs.Told.{ControlIn, WriteIn}
 use Rattle.frame.proofs.Writing.{length-framed, length-control}
 
@@ -26,7 +27,7 @@ use Rattle.frame.proofs.Writing.{length-framed, length-control}
 
 module _ (first : ℕ) (covered : List ℕ) (footer i : ℕ) (e : i ≡ suc (length covered)) where
   framed-checked : checkedAt (framed first covered footer) i ≡ true
-  unfolding framed
+  unfolding framed checkedAt
   framed-checked =
       let less : i - 1 ≡ length covered = omega arith in
       eq-eqb _ _
@@ -75,24 +76,42 @@ control-back code parameters =
     (eq-eqb (byteAt d (suc n + 3)) 0x03 (ap (byteAt d) foot ∙ framed-footer 0x01 covered 0x03 (suc n + 2) (omega arith)))
     ∙ read-control d refl
 
-pub control-parameters : (code : ℕ) (parameters : List ℕ) → parametersOf (controlFrame code parameters) (length parameters) ≡ parameters
-unfolding controlFrame framed
-control-parameters code parameters = take-at parameters (checksumOf (length (code ∷ parameters) ∷ code ∷ parameters) ∷ 0x03 ∷ []) (length parameters) refl
+-- of a frame, what stands from index i on, behind its head
+framed-part : (first : ℕ) (head bytes : List ℕ) (footer i : ℕ) → suc (length head) ≡ i → partFrom i first (framed first (head ++ bytes) footer) ≡ bytes
+unfolding framed
+framed-part first head bytes footer i e =
+    let covered : List ℕ = head ++ bytes in
+    let last : List ℕ = checksumOf covered ∷ footer ∷ [] in
+    let d : List ℕ = framed first covered footer in
+    let n : length covered ≡ length head + length bytes = length-append head bytes in
+    let w : length d ≡ length covered + 3 = length-framed first covered footer in
+    let left : length d - 2 - i ≡ length bytes = omega arith in
+    let behind : drop i d ≡ bytes ++ last =
+    ap (λ (l : List ℕ). drop i (first ∷ l)) (append-assoc head bytes last) ∙ drop-at (first ∷ head) (bytes ++ last) i e in
+    sym (part-lies i first d refl)
+    ∙ ap₂ (λ (k : ℕ) (l : List ℕ). take k l) left behind
+    ∙ take-at bytes last (length bytes) refl
 
-pub control-only : (d : List ℕ) (code n : ℕ) → ControlIn d code n → d ≡ controlFrame code (parametersOf d n)
+pub control-parameters : (code : ℕ) (parameters : List ℕ) → parametersIn (controlFrame code parameters) ≡ parameters
+unfolding parametersIn controlFrame
+control-parameters code parameters = framed-part 0x01 (length (code ∷ parameters) ∷ code ∷ []) parameters 0x03 3 refl
+
+pub control-only : (d : List ℕ) (code n : ℕ) → ControlIn d code n → d ≡ controlFrame code (parametersIn d)
 unfolding controlFrame
 control-only d code n t =
     let w : length d ≡ n + 5 = t .whole in
+    let ps : List ℕ = take n (drop 3 d) in
     let two : n + 2 ≡ suc (suc n) = omega arith in
     let sum : n + 2 + 1 ≡ n + 3 = omega arith in
     let foot : n + 2 + 2 ≡ n + 4 = omega arith in
-    let l : suc n ≡ suc (length (parametersOf d n)) = ap suc (sym (part-length d 3 n (omega arith))) in
-    let covered : take (n + 2) (drop 1 d) ≡ suc (length (parametersOf d n)) ∷ code ∷ parametersOf d n =
+    let l : suc n ≡ suc (length ps) = ap suc (sym (part-length d 3 n (omega arith))) in
+    let covered : take (n + 2) (drop 1 d) ≡ suc (length ps) ∷ code ∷ ps =
     ap (λ (k : ℕ). take k (drop 1 d)) two ∙ part-next d 1 (suc n) (omega arith)
-    ∙ ap₂ (λ (x : ℕ) (r : List ℕ). x ∷ r) (t .counted ∙ l) (part-next d 2 n (omega arith) ∙ ap (λ (x : ℕ). x ∷ parametersOf d n) (t .coded)) in
+    ∙ ap₂ (λ (x : ℕ) (r : List ℕ). x ∷ r) (t .counted ∙ l) (part-next d 2 n (omega arith) ∙ ap (λ (x : ℕ). x ∷ ps) (t .coded)) in
     framed-only d (n + 2) (omega arith) (ap (byteAt d) sum ∙ t .summed)
     ∙ ap (framed (byteAt d 0) (take (n + 2) (drop 1 d))) (ap (byteAt d) foot ∙ t .footed)
     ∙ ap₂ (λ (x : ℕ) (r : List ℕ). framed x r 0x03) (t .first) covered
+    ∙ ap (controlFrame code) (parameters-lie d code n t)
 
 -- ---- write frames
 
@@ -129,15 +148,19 @@ write-back sector bytes footer h k =
     rw (bytes-two sector, bytes-two (length bytes))
     (ap₂ (λ (x y : ℕ). Write x y footer) s l ∙ spelt (sector / 256 % 256) (sector % 256) (m / 256 % 256) (m % 256) bytes footer l)
 
-pub write-bytes : (sector : ℕ) (bytes : List ℕ) (footer : Footer) → bytesIn (writeFrame sector bytes footer) (length bytes) ≡ bytes
-unfolding writeFrame framed
-write-bytes sector bytes footer = rw (bytes-two sector, bytes-two (length bytes)) (take-at bytes _ (length bytes) refl)
+pub write-data : (sector : ℕ) (bytes : List ℕ) (footer : Footer) → dataIn (writeFrame sector bytes footer) ≡ bytes
+unfolding dataIn writeFrame
+write-data sector bytes footer =
+    framed-part 0x02 (bytesOf 2 sector ++ bytesOf 2 (length bytes)) bytes (footerByte footer) 5
+    (rw (bytes-two sector, bytes-two (length bytes)))
 
-pub write-only : (d : List ℕ) (sector m : ℕ) (footer : Footer) → ((i : ℕ) → byteAt d i < 256) → WriteIn d sector m footer → d ≡ writeFrame sector (bytesIn d m) footer
+pub write-only :
+    (d : List ℕ) (sector m : ℕ) (footer : Footer) → ((i : ℕ) → byteAt d i < 256) → WriteIn d sector m footer
+    → d ≡ writeFrame sector (dataIn d) footer
 unfolding writeFrame
 write-only d sector m footer b t =
     let w : length d ≡ m + 7 = t .whole in
-    let u : List ℕ = bytesIn d m in
+    let u : List ℕ = take m (drop 5 d) in
     let s : sector ≡ byteAt d 1 * 256 + byteAt d 2 = sym (t .addressed) ∙ number-two d 1 (omega arith) in
     let l : m ≡ byteAt d 3 * 256 + byteAt d 4 = sym (t .counted) ∙ number-two d 3 (omega arith) in
     let four : m + 4 ≡ suc (suc (suc (suc m))) = omega arith in
@@ -153,26 +176,25 @@ write-only d sector m footer b t =
     ∙ ap (framed (byteAt d 0) (take (m + 4) (drop 1 d))) (ap (byteAt d) foot ∙ t .footed)
     ∙ ap₂ (λ (x : ℕ) (r : List ℕ). framed x r (footerByte footer)) (t .first)
     (lies ∙ ap₂ (λ (x y : List ℕ). x ++ y ++ u) a c)
+    ∙ ap (λ (l : List ℕ). writeFrame sector l footer) (data-lie d sector m footer t)
 
 -- ---- exactly the frames are read
 
 pub control-read : (d : List ℕ) (code n : ℕ) → ControlIn d code n → Control code n ≡ readOf d
 control-read d code n t =
     let w : length d ≡ n + 5 = t .whole in
-    sym
-    (ap readOf (control-only d code n t)
-    ∙ sym (control-back code (parametersOf d n))
-    ∙ ap (Control code) (part-length d 3 n (omega arith)))
+    let l : length (parametersIn d) ≡ n = rw (← parameters-lie d code n t) (part-length d 3 n (omega arith)) in
+    sym (ap readOf (control-only d code n t) ∙ sym (control-back code (parametersIn d)) ∙ ap (Control code) l)
 
 pub write-read : (d : List ℕ) (sector m : ℕ) (footer : Footer) → ((i : ℕ) → byteAt d i < 256) → WriteIn d sector m footer → Write sector m footer ≡ readOf d
 write-read d sector m footer b t =
     let w : length d ≡ m + 7 = t .whole in
-    let l : length (bytesIn d m) ≡ m = part-length d 5 m (omega arith) in
+    let l : length (dataIn d) ≡ m = rw (← data-lie d sector m footer t) (part-length d 5 m (omega arith)) in
     let s : sector ≡ byteAt d 1 * 256 + byteAt d 2 = sym (t .addressed) ∙ number-two d 1 (omega arith) in
     let k : m ≡ byteAt d 3 * 256 + byteAt d 4 = sym (t .counted) ∙ number-two d 3 (omega arith) in
     sym
     (ap readOf (write-only d sector m footer b t)
-    ∙ sym (write-back sector (bytesIn d m) footer (omega (arith, b 1, b 2)) (omega (arith, b 3, b 4)))
+    ∙ sym (write-back sector (dataIn d) footer (omega (arith, b 1, b 2)) (omega (arith, b 3, b 4)))
     ∙ ap (λ (x : ℕ). Write sector x footer) l)
 
 -- so a fault is neither kind of frame
@@ -184,5 +206,5 @@ fault-write d sector m footer b e t = let r = write-read d sector m footer b t i
 
 -- the frame error is the control frame of E0 and 07
 pub error-frame : frameError ≡ controlFrame 0xE0 (0x07 ∷ [])
-unfolding controlFrame framed checksumOf
+unfolding frameError controlFrame framed checksumOf takenAway
 error-frame = refl

@@ -1,5 +1,5 @@
--- What a datagram holds, told by how it is read: where the code, the parameters and the written bytes lie, and that they lie
--- within it. Whoever reads a datagram goes by this and never opens the definition.
+-- What a datagram holds, told by how it is read: where the code, the parameters and the data lie, and how many these are. Whoever reads a
+-- datagram goes by this and never opens the definition.
 -- Assumes nothing.
 use mathlib.Core.Path.{_≡_, refl, sym, ap, subst, _∙_}
 use mathlib.Core.Bool.{Bool, true, not, _&&_}
@@ -61,7 +61,7 @@ control-in d (suc k) f c n w s e =
     })
 
 told-control : (d : List ℕ) → byteAt d 0 ≡ 0x01 → Told d (readControl d)
-unfolding readControl
+unfolding readControl checkedAt
 told-control d f =
     let l : ℕ = byteAt d 1 in
     let z : Bool = not (eqb l 0) in
@@ -93,7 +93,7 @@ write-in d m footer f c w s e =
     }
 
 told-write : (d : List ℕ) → byteAt d 0 ≡ 0x02 → Told d (readWrite d)
-unfolding readWrite
+unfolding readWrite checkedAt footerByte
 told-write d f =
     let m : ℕ = numberAt 2 d 3 in
     let n : Bool = eqb (length d) (m + 7) in

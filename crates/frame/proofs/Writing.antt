@@ -12,7 +12,7 @@ use Rattle.buffer.specs.Place.{placeOf, frontOf}
 use Rattle.buffer.proofs.Numbers.{length-bytes, bytes-two}
 use Rattle.buffer.proofs.Places.{front-fits, front-short, place-next}
 use Rattle.frame.specs.Checksum.{checksumOf}
-use Rattle.frame.specs.Frame.{footerByte, framed, controlFrame, writeFrame}
+use Rattle.frame.specs.Frame.{footerByte, framed, controlFrame, writeFrame, frameError}
 use Rattle.frame.specs.Write.{closedAt, putControl, putWrite}
 use Rattle.frame.specs.declared.read.Footer.{Footer}
 
@@ -32,6 +32,10 @@ length-write sector bytes footer =
     length-framed 0x02 (bytesOf 2 sector ++ bytesOf 2 (length bytes) ++ bytes) (footerByte footer)
     ∙ (rw (length-append (bytesOf 2 sector ++ bytesOf 2 (length bytes)) bytes, length-append (bytesOf 2 sector) (bytesOf 2 (length bytes)), length-bytes 2 sector, length-bytes 2 (length bytes)) (omega arith))
 
+pub length-error : length frameError ≡ 6
+unfolding frameError
+length-error = refl
+
 -- ---- what the length field can count stands at the front
 
 pub control-fits : (buffer : List ℕ) (code : ℕ) (parameters : List ℕ) → length parameters ≤ 254 → putControl buffer code parameters ≡ frontOf buffer (controlFrame code parameters)
@@ -45,7 +49,7 @@ write-fits buffer sector bytes footer h = rw (le-leb (length bytes) 65535 h)
 -- ---- the pieces: a beginning, the bytes behind it, checksum and footer behind these
 
 close-next : (first : ℕ) (covered left : List ℕ) (footer : ℕ) → 2 ≤ length left → closedAt (first ∷ covered ++ left) (suc (length covered)) footer ≡ framed first covered footer ++ drop 2 left
-unfolding framed
+unfolding framed closedAt
 close-next first covered left footer h =
     let one : suc (length covered) - 1 ≡ length covered = omega arith in
     let sum : take (suc (length covered) - 1) (covered ++ left) ≡ covered = ap (λ (n : ℕ). take n (covered ++ left)) one ∙ take-at covered left (length covered) refl in
@@ -92,14 +96,18 @@ module _ (buffer : List ℕ) (code : ℕ) (parameters : List ℕ) where
   control-no-room h k =
       rw (le-leb (length parameters) 254 h) (sym (front-short buffer (controlFrame code parameters) (omega (arith, length-control code parameters))))
 
-  pub control-put : length parameters ≤ 254 → length parameters + 5 ≤ length buffer
-      → closedAt (placeOf (frontOf buffer (0x01 ∷ (length parameters + 1) % 256 ∷ code ∷ [])) 3 parameters) (length parameters + 3) 0x03 ≡ putControl buffer code parameters
+  pub control-put :
+      length parameters ≤ 254 → length parameters + 5 ≤ length buffer → {begun borne after : List ℕ}
+      → begun ≡ frontOf buffer (0x01 ∷ (length parameters + 1) % 256 ∷ code ∷ []) → borne ≡ placeOf begun 3 parameters
+      → after ≡ closedAt borne (length parameters + 3) 0x03 → after ≡ putControl buffer code parameters
   unfolding putControl controlFrame
-  control-put h k =
+  control-put h k {begun} {borne} {after} e f g =
       let l : (length parameters + 1) % 256 ≡ suc (length parameters) = omega arith in
       let at : length parameters + 3 ≡ 3 + length parameters = omega arith in
       rw (le-leb (length parameters) 254 h)
-      (ap₂ (λ (n i : ℕ). closedAt (placeOf (frontOf buffer (0x01 ∷ n ∷ code ∷ [])) 3 parameters) i 0x03) l at
+      (g
+      ∙ ap₂ (λ (b : List ℕ) (i : ℕ). closedAt b i 0x03)
+      (f ∙ ap (λ (b : List ℕ). placeOf b 3 parameters) (e ∙ ap (λ (n : ℕ). frontOf buffer (0x01 ∷ n ∷ code ∷ [])) l)) at
       ∙ pieces buffer 0x01 (suc (length parameters) ∷ code ∷ []) parameters 0x03 (omega arith))
 
 module _ (buffer : List ℕ) (sector : ℕ) (bytes : List ℕ) (footer : Footer) where
@@ -112,15 +120,26 @@ module _ (buffer : List ℕ) (sector : ℕ) (bytes : List ℕ) (footer : Footer)
   write-no-room h k =
       rw (le-leb (length bytes) 65535 h) (sym (front-short buffer (writeFrame sector bytes footer) (omega (arith, length-write sector bytes footer))))
 
-  pub write-put : length bytes ≤ 65535 → length bytes + 7 ≤ length buffer
-      → closedAt
-      (placeOf (frontOf buffer (0x02 ∷ sector / 256 % 256 ∷ sector % 256 ∷ length bytes / 256 % 256 ∷ length bytes % 256 ∷ [])) 5 bytes)
-      (length bytes + 5)
-      (footerByte footer)
-      ≡ putWrite buffer sector bytes footer
+  -- 02, and the two numbers put behind it
+  head-put : {one two : List ℕ} → one ≡ placeOf (0x02 ∷ 0 ∷ 0 ∷ 0 ∷ 0 ∷ []) 1 (bytesOf 2 sector) → two ≡ placeOf one 3 (bytesOf 2 (length bytes))
+      → two ≡ 0x02 ∷ bytesOf 2 sector ++ bytesOf 2 (length bytes)
+  unfolding placeOf
+  head-put e f = f ∙ ap (λ (l : List ℕ). placeOf l 3 (bytesOf 2 (length bytes))) e ∙ rw (bytes-two sector, bytes-two (length bytes))
+
+  pub write-put :
+      length bytes ≤ 65535 → length bytes + 7 ≤ length buffer → {one two begun borne after : List ℕ} {last : ℕ}
+      → one ≡ placeOf (0x02 ∷ 0 ∷ 0 ∷ 0 ∷ 0 ∷ []) 1 (bytesOf 2 sector) → two ≡ placeOf one 3 (bytesOf 2 (length bytes))
+      → begun ≡ frontOf buffer two → borne ≡ placeOf begun 5 bytes → last ≡ footerByte footer → after ≡ closedAt borne (length bytes + 5) last
+      → after ≡ putWrite buffer sector bytes footer
   unfolding putWrite writeFrame
-  write-put h k =
-      let at : length bytes + 5 ≡ 5 + length bytes = omega arith in
-      rw (le-leb (length bytes) 65535 h, bytes-two sector, bytes-two (length bytes))
-      (ap (λ (i : ℕ). closedAt (placeOf (frontOf buffer (0x02 ∷ sector / 256 % 256 ∷ sector % 256 ∷ length bytes / 256 % 256 ∷ length bytes % 256 ∷ [])) 5 bytes) i (footerByte footer)) at
-      ∙ pieces buffer 0x02 (sector / 256 % 256 ∷ sector % 256 ∷ length bytes / 256 % 256 ∷ length bytes % 256 ∷ []) bytes (footerByte footer) (omega arith))
+  write-put h k {one} {two} {begun} {borne} {after} {last} e f g i j l =
+      let head : List ℕ = bytesOf 2 sector ++ bytesOf 2 (length bytes) in
+      let n : length head ≡ 4 = rw (bytes-two sector, bytes-two (length bytes)) in
+      let at : length bytes + 5 ≡ suc (length head) + length bytes = omega arith in
+      let five : 5 ≡ suc (length head) = omega arith in
+      rw (le-leb (length bytes) 65535 h)
+      (l
+      ∙ ap (closedAt borne (length bytes + 5)) j
+      ∙ ap₂ (λ (b : List ℕ) (n : ℕ). closedAt b n (footerByte footer))
+      (i ∙ ap₂ (λ (b : List ℕ) (n : ℕ). placeOf b n bytes) (g ∙ ap (frontOf buffer) (head-put e f)) five) at
+      ∙ pieces buffer 0x02 head bytes (footerByte footer) (omega arith))

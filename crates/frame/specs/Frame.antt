@@ -9,7 +9,7 @@ use Rattle.frame.specs.declared.read.Footer.{Footer}
 use Rattle.frame.specs.declared.read.Footer.the-variants.{End, Continued}
 
 -- the footer of the last packet, and of one that more follow (J11 3.2.2)
-abbrev pub footerByte : Footer → ℕ
+unfoldable pub footerByte : Footer → ℕ
 footerByte End = 0x03
 footerByte Continued = 0x17
 
@@ -27,5 +27,5 @@ writeFrame sector bytes footer =
     framed 0x02 (bytesOf 2 sector ++ bytesOf 2 (length bytes) ++ bytes) (footerByte footer)
 
 -- "always the six bytes"
-abbrev pub frameError : List ℕ
+unfoldable pub frameError : List ℕ
 frameError = 0x01 ∷ 0x02 ∷ 0xE0 ∷ 0x07 ∷ 0x17 ∷ 0x03 ∷ []

@@ -56,13 +56,9 @@ pub fn put_write(buffer: &mut [u8], sector: u16, bytes: &[u8], footer: Footer)
     if buffer.len() < m + 7 {
         return;
     }
-    let head = [
-        0x02,
-        (sector / 256 % 256) as u8,
-        (sector % 256) as u8,
-        (m / 256 % 256) as u8,
-        (m % 256) as u8,
-    ];
+    let mut head = [0x02, 0, 0, 0, 0];
+    buffer::number::put_number2(&mut head, 1, sector);
+    buffer::number::put_number2(&mut head, 3, m as u16);
     buffer::place::put_front(buffer, &head);
     buffer::place::put_at(buffer, 5, bytes);
     close(buffer, m + 5, footer_byte(footer));

@@ -13,6 +13,7 @@ use Rattle.frame.proofs.checksum.checksum.Tie as tie
 
 -- the wrapping difference is the definition's
 difference : (r a b : ℕ) → r < 256 → a < 256 → b < 256 → (r + b) % 256 ≡ a → r ≡ takenAway a b
+unfolding takenAway
 difference r a b hr ha hb e = omega arith
 
 abbrev Inv-loop : tie.InvT-loop

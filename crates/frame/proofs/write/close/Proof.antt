@@ -4,6 +4,7 @@ use mathlib.Core.Path.{_∙_, ap}
 use mathlib.Core.List.{[], _∷_}
 use Prim.Native.Nat.{ℕ}
 use Rattle.buffer.specs.Place.{placeOf}
+use Rattle.frame.specs.Write.{closedAt}
 use borrow.Author.Needs.{needs}
 use Rattle.frame.proofs.write.close.Statement.{statement}
 use Rattle.frame.proofs.write.close.Tie as tie
@@ -30,6 +31,7 @@ same-length : tie.Need-same-length
 same-length c = search needs
 
 returns : tie.Need-returns
+unfolding closedAt
 returns c =
     (c .before .before .put-at .ensures)
     ∙ ap (λ (sum : ℕ). placeOf (c .before .before .before .before .before .before .before .before .before .args .buffer .now) (c .before .before .before .before .before .before .before .before .before .args .at) (sum ∷ (c .before .before .before .before .before .before .before .before .before .args .footer) ∷ [])) (c .before .before .before .before .before .checksum .ensures)

@@ -1,38 +1,34 @@
 -- `frame::write::put_write` meets its contract: piece by piece the buffer's front becomes the frame.
 -- Assumes nothing.
-use mathlib.Core.Path.{_∙_, ap}
-use mathlib.Core.List.{List}
-use Prim.Native.Nat.{ℕ, _+_}
 use native.Mathlib.Omega.{arith}
-use lib.ListN.{length}
-use Rattle.buffer.specs.Place.{placeOf}
-use Rattle.frame.specs.Frame.{footerByte}
-use Rattle.frame.specs.Write.{closedAt}
 use Rattle.frame.proofs.Writing.{write-too-long, write-no-room, write-put}
 use borrow.Author.Needs.{needs}
 use Rattle.frame.proofs.write.put_write.Statement.{statement}
 use Rattle.frame.proofs.write.put_write.Tie as tie
 
 returns : tie.Need-returns
-returns c = write-too-long (c .before .before .before .args .buffer .now) (c .before .before .before .args .sector) (c .before .before .before .args .bytes .now) (c .before .before .before .args .footer) (omega arith)
+returns c = write-too-long _ _ _ _ (omega arith)
 
 add-if2 : tie.Need-add-if2
 add-if2 c = search needs
 
 returns-2 : tie.Need-returns-2
-returns-2 c = write-no-room (c .before .before .before .before .args .buffer .now) (c .before .before .before .before .args .sector) (c .before .before .before .before .args .bytes .now) (c .before .before .before .before .args .footer) (omega arith) (omega arith)
+returns-2 c = write-no-room _ _ _ _ (omega arith) (omega arith)
 
-cast-close : tie.Need-cast-close
-cast-close c = search needs
+slice-aggregate-put-number2 : tie.Need-slice-aggregate-put-number2
+slice-aggregate-put-number2 c = search needs
 
-cast-t14 : tie.Need-cast-t14
-cast-t14 c = search needs
+put-number2-requires : tie.Need-put-number2-requires
+put-number2-requires c κs = search needs
 
-cast-t15 : tie.Need-cast-t15
-cast-t15 c = search needs
+slice-aggregate-put-number2-2 : tie.Need-slice-aggregate-put-number2-2
+slice-aggregate-put-number2-2 c = search needs
 
-cast-t17 : tie.Need-cast-t17
-cast-t17 c = search needs
+cast-put-number2 : tie.Need-cast-put-number2
+cast-put-number2 c = search needs
+
+put-number2-requires-2 : tie.Need-put-number2-requires-2
+put-number2-requires-2 c κs = search needs
 
 slice-aggregate-put-front : tie.Need-slice-aggregate-put-front
 slice-aggregate-put-front c = search needs
@@ -57,11 +53,15 @@ same-length c = search needs
 
 returns-3 : tie.Need-returns-3
 returns-3 c =
-    let b = (c .before .before .before .before .before .before .before .before .before .before .before .before .before .before .before .before .before .before .args .buffer .now) in
-    (c .before .before .close .ensures)
-    ∙ ap (closedAt _ (length (c .before .before .before .before .before .before .before .before .before .before .before .before .before .before .before .before .before .before .args .bytes .now) + 5)) (c .before .before .before .footer-byte .ensures)
-    ∙ ap (λ (x : List ℕ). closedAt x (length (c .before .before .before .before .before .before .before .before .before .before .before .before .before .before .before .before .before .before .args .bytes .now) + 5) (footerByte (c .before .before .before .before .before .before .before .before .before .before .before .before .before .before .before .before .before .before .args .footer))) ((c .before .before .before .before .before .before .before .put-at .ensures) ∙ ap (λ (x : List ℕ). placeOf x 5 (c .before .before .before .before .before .before .before .before .before .before .before .before .before .before .before .before .before .before .args .bytes .now)) (c .before .before .before .before .before .before .before .before .before .before .before .put-front .ensures))
-    ∙ write-put (c .before .before .before .before .before .before .before .before .before .before .before .before .before .before .before .before .before .before .args .buffer .now) (c .before .before .before .before .before .before .before .before .before .before .before .before .before .before .before .before .before .before .args .sector) (c .before .before .before .before .before .before .before .before .before .before .before .before .before .before .before .before .before .before .args .bytes .now) (c .before .before .before .before .before .before .before .before .before .before .before .before .before .before .before .before .before .before .args .footer) (omega arith) (omega arith)
+    let put-at = c .before .before .before .before .before .before .before .put-at in
+    let put-front = c .before .before .before .before .before .before .before .before .before .before .before .put-front in
+    let c10 = c .before .before .before .before .before .before .before .before .before .before in
+    let put-number22 = c10 .before .before .before .before .before .put-number22 in
+    let put-number2 = c10 .before .before .before .before .before .before .before .before .put-number2 in
+    let c20 = c10 .before .before .before .before .before .before .before .before .before .before in
+    let args = c20 .before .before .before .before .args in
+    write-put (args .buffer .now) (args .sector) (args .bytes .now) (args .footer) (omega arith) (omega arith)
+    (put-number2 .ensures) (put-number22 .ensures) (put-front .ensures) (put-at .ensures) (c .before .before .before .footer-byte .ensures) (c .before .before .close .ensures)
 
 pub put-write-spec : {M : Type 1} → statement M
 put-write-spec =
@@ -70,10 +70,11 @@ put-write-spec =
     returns
     add-if2
     returns-2
-    cast-close
-    cast-t14
-    cast-t15
-    cast-t17
+    slice-aggregate-put-number2
+    put-number2-requires
+    slice-aggregate-put-number2-2
+    cast-put-number2
+    put-number2-requires-2
     slice-aggregate-put-front
     put-front-requires
     put-at-requires
