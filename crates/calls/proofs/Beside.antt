@@ -124,7 +124,6 @@ module _ (c : Client) (running : ℕ) (one two marks address buffer datagram : L
     where
       by : (g : Bool) → goodN (c .fixed .n) ≡ g → (e : Bool) → eqb running (bankSize (c .fixed .n)) ≡ e
           → Alike (besideOf c running one marks address buffer datagram) (besideOf c running two marks address buffer datagram)
-      unfolding besideOf
       by true g true e = rw (g, e) take-alike
       by true g false e = rw (g, e) (refused-alike BadLength)
       by false g e f = rw g (refused-alike BadN)
@@ -143,7 +142,6 @@ step-taken c running target marks address buffer datagram (inr e) = by (goodN (c
   where
     by : (g : Bool) → goodN (c .fixed .n) ≡ g
         → besideOf c (length running) target marks address buffer datagram ≡ takeOf c target marks address buffer datagram
-    unfolding besideOf takeOf carriedOf servedOf planOf
     by true g = rw (g, eq-eqb (length running) (bankSize (c .fixed .n)) e)
     by false g = rw g
 

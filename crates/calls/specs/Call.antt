@@ -59,4 +59,3 @@ afterSteps k (call ∷ calls) = afterSteps (keptAfter k (stepped k call)) calls
 abbrev pub camesOf : Kept → List Call → List Carried
 camesOf k [] = []
 camesOf k (call ∷ calls) = stepped k call ∷ camesOf (keptAfter k (stepped k call)) calls
-

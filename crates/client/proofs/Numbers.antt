@@ -17,7 +17,7 @@ use Rattle.decision.proofs.Numbers.{planNumber, plan-number}
 use Rattle.client.specs.declared.record.Client.{Client}
 use Rattle.client.specs.Record.{standingOf}
 use Rattle.client.specs.Perform.{fitOf, Done, storeOf, checkedOf, servedOf}
-use Rattle.client.specs.Step.{Carried, carriedOf, planned, takeOf, takeSays, besideOf, stepSays}
+use Rattle.client.specs.Step.{carriedOf, planned, takeOf, takeSays, besideOf, stepSays}
 use Rattle.flash.specs.Bank.{sweptOf}
 
 -- what a plan leads to has the plan's number
@@ -45,15 +45,11 @@ module _ (c : Client) where
       → answerNumber (besideOf c running target marks address buffer datagram .answer)
       ≡ stepSays c running (length target) (length marks) (length address) (length buffer)
   unfolding besideOf
-  beside-says running target marks address buffer datagram = by _ refl
+  beside-says running target marks address buffer datagram = by (goodN (c .fixed .n)) (eqb running (bankSize (c .fixed .n))) refl refl
     where
-      by : (g : Bool) → goodN (c .fixed .n) ≡ g → answerNumber (besideOf c running target marks address buffer datagram .answer)
+      by : (g e : Bool) → goodN (c .fixed .n) ≡ g → eqb running (bankSize (c .fixed .n)) ≡ e
+          → answerNumber (besideOf c running target marks address buffer datagram .answer)
           ≡ stepSays c running (length target) (length marks) (length address) (length buffer)
-      unfolding besideOf
-      by false g = rw g (carried-number c _ target address buffer _)
-      by true g =
-          rw g
-          (split (λ (d : Carried). answerNumber (d .answer) ≡ stepSays c running (length target) (length marks) (length address) (length buffer))
-          (eqb running (bankSize (c .fixed .n)))
-          (λ e. rw (g, e) (take-says target marks address buffer datagram ∙ rw g refl))
-          (λ e. rw (g, e) (carried-number c _ target address buffer _)))
+      by false e g is = rw g (carried-number c _ target address buffer _)
+      by true false g is = rw (g, is) (carried-number c _ target address buffer _)
+      by true true g is = rw (g, is) (rw g at (take-says target marks address buffer datagram))

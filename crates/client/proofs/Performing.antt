@@ -21,19 +21,19 @@ use Rattle.client.specs.Record.{starting, marked, ended}
 use Rattle.client.specs.Perform.{fitOf, storeResult, sectorCrc, done, storeOf, checkedOf, served, Served·Is}
 
 -- where the sector starts
-pub starts : {k start : ℕ} → (1 ≤ k) × (k ≤ mostSectors) → start ≡ sectorOffset k → start ≡ sectorStart k
-starts {k} h e = e ∙ sym (offset-good k (good-told k (h .0) (h .1)))
+pub starts : (k start : ℕ) → (1 ≤ k) × (k ≤ mostSectors) → start ≡ sectorOffset k → start ≡ sectorStart k
+starts k start h e = e ∙ sym (offset-good k (good-told k (h .0) (h .1)))
 
 -- the part that is handed on is the sector
-pub crc-part : {bank : List ℕ} {k start r : ℕ} → start ≡ sectorStart k → r ≡ crcOf (take ((start + sectorSize) - start) (drop start bank)) → r ≡ sectorCrc bank k
-crc-part {bank} {k} {start} e c = c ∙ ap crcOf (lent-out bank k start e)
+pub crc-part : (bank : List ℕ) (k start r : ℕ) → start ≡ sectorStart k → r ≡ crcOf (take ((start + sectorSize) - start) (drop start bank)) → r ≡ sectorCrc bank k
+crc-part bank k start r e c = c ∙ ap crcOf (lent-out bank k start e)
 
-pub store-is : {c m : Client} {target after bytes : List ℕ} {sector w crc : ℕ} {already blank : Bool}
+pub store-is : (c m : Client) (target after bytes : List ℕ) (sector w crc : ℕ) (already blank : Bool)
     → WriteAt·Is target sector bytes after already → blank ≡ blankOf bytes → w ≡ storeResult blank already
     → crc ≡ sectorCrc after sector → m ≡ marked sector c
     → Served·Is (storeOf c sector bytes target) (served m (Written sector 0x06 w crc)) after
 unfolding storeOf
-store-is {sector = sector} a b r s k =
+store-is c m target after bytes sector w crc already blank a b r s k =
     record {
       client = k;
       answer =
@@ -42,16 +42,16 @@ store-is {sector = sector} a b r s k =
     }
 
 -- a response with nothing behind its result, which leaves the target as it is
-pub responded : {c m : Client} {command : Command} {result : ℕ} {target : List ℕ} {r : Served} → m ≡ c → r ≡ served m (Response command result)
+pub responded : (c m : Client) (command : Command) (result : ℕ) (target : List ℕ) (r : Served) → m ≡ c → r ≡ served m (Response command result)
     → Served·Is (done c (Response command result) target) r target
-responded k e = rw e (record { client = k; answer = refl; target = refl })
+responded c m command result target r k e = rw e (record { client = k; answer = refl; target = refl })
 
-module _ (c : Client) (target : List ℕ) {good : Bool} (is : good ≡ fitOf (c .fixed) target) {e m : Client} {r : Served} where
-  pub checked-good : good ≡ true → {next : Bank} → next ≡ otherOf (c .fixed .running) → e ≡ ended Good c → m ≡ starting next e
+module _ (c : Client) (target : List ℕ) (good : Bool) (is : good ≡ fitOf (c .fixed) target) (m : Client) (r : Served) where
+  pub checked-good : good ≡ true → (next : Bank) (e : Client) → next ≡ otherOf (c .fixed .running) → e ≡ ended Good c → m ≡ starting next e
       → r ≡ served m (Response WriteEnd 0x06) → Served·Is (checkedOf c target) r target
   unfolding checkedOf
-  checked-good g x d k q = rw (← is, g) (responded (k ∙ ap₂ starting x d) q)
+  checked-good g next e x d k q = rw (← is, g) (responded _ m WriteEnd 0x06 target r (k ∙ ap₂ starting x d) q)
 
   pub checked-bad : good ≡ false → m ≡ ended Otherwise c → r ≡ served m (Response WriteEnd 0x1E) → Served·Is (checkedOf c target) r target
   unfolding checkedOf
-  checked-bad g k q = rw (← is, g) (responded k q)
+  checked-bad g k q = rw (← is, g) (responded _ m WriteEnd 0x1E target r k q)

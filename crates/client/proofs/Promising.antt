@@ -49,7 +49,7 @@ module _ (c : Client) (target marks address buffer datagram : List ℕ) where
   addressed-led Wear h = tt
   addressed-led Finish h = tt
 
-  module _ {standing : Standing} (of : standing ≡ standingOf c) {asked : Asked} (asks : asked ≡ askedOf datagram) {plan : Plan}
+  module _ (standing : Standing) (of : standing ≡ standingOf c) (asked : Asked) (asks : asked ≡ askedOf datagram) (plan : Plan)
       (is : Plan·Is standing (length target) marks address (length buffer) asked plan) where
     pub plan-is : plan ≡ planned c target marks address buffer datagram
     plan-is = is ∙ ap₂ (λ (s : Standing) (a : Asked). planOf s (length target) marks address (length buffer) a) of asks

@@ -26,15 +26,28 @@ use Rattle.client.specs.declared.record.Client.{Client}
 use Rattle.client.specs.declared.step.Stepped.{Stepped}
 use Rattle.client.specs.Perform.{servedOf, Served·Is}
 use Rattle.client.specs.Step.{
-  noticeOf, Carried, carriedOf, Carried·Is, planned, takeOf, takeSays, Take·Is, besideOf, stepOf, banksAfter, stepSays, Step·Is}
+  noticeOf,
+  Carried,
+  carriedOf,
+  Carried·Is,
+  planned,
+  takeOf,
+  takeSays,
+  Take·Is,
+  besideOf,
+  stepOf,
+  banksAfter,
+  stepSays,
+  Step·Is,
+}
 use Rattle.client.proofs.Numbers.{take-says, beside-says}
 
 -- do, and then say
-pub carry-is : {c : Client} {plan : Plan} {target address buffer bytes : List ℕ} {notice : Notice} {s : Served} {after answered : List ℕ} {n : ℕ}
+pub carry-is : (c : Client) (plan : Plan) (target address buffer bytes : List ℕ) (notice : Notice) (s : Served) (after answered : List ℕ) (n : ℕ)
     → notice ≡ noticeOf plan (c .latest) address → Served·Is (servedOf c plan target bytes) s after → Say·Is (s .answer) buffer answered n
     → Carried·Is (carriedOf c plan target address buffer bytes) (record { client = s .client; answer = s .answer; length = n; notice = notice }) after answered
 unfolding carriedOf
-carry-is {buffer = buffer} e d a =
+carry-is c plan target address buffer bytes notice s after answered n e d a =
     record {
       client = d .client;
       answer = d .answer;
@@ -45,19 +58,19 @@ carry-is {buffer = buffer} e d a =
     }
 
 -- the same carried out, by another name
-pub carried-as : {d e : Carried} {r : Stepped} {after answered : List ℕ} → d ≡ e → Carried·Is d r after answered → Carried·Is e r after answered
-carried-as {r = r} {after} {answered} q s = rw q at s
+pub carried-as : (d e : Carried) (r : Stepped) (after answered : List ℕ) → d ≡ e → Carried·Is d r after answered → Carried·Is e r after answered
+carried-as d e r after answered q s = rw q at s
 
-module _ (c : Client) (target marks address buffer datagram : List ℕ) {r : Stepped} {after answered : List ℕ} where
+module _ (c : Client) (target marks address buffer datagram : List ℕ) (r : Stepped) (after answered : List ℕ) where
   abbrev whole : Carried
   whole = takeOf c target marks address buffer datagram
 
-  pub take-is : {plan : Plan} {bytes : List ℕ} → plan ≡ planned c target marks address buffer datagram → bytes ≡ dataIn datagram
+  pub take-is : (plan : Plan) (bytes : List ℕ) → plan ≡ planned c target marks address buffer datagram → bytes ≡ dataIn datagram
       → Carried·Is (carriedOf c plan target address buffer bytes) r after answered → Take·Is c target marks address buffer datagram r after answered
   unfolding takeOf
-  take-is p b s =
-      let q : carriedOf c _ target address buffer _ ≡ whole = ap₂ (λ (x : Plan) (y : List ℕ). carriedOf c x target address buffer y) p b in
-      let t = carried-as q s in
+  take-is plan bytes p b s =
+      let q : carriedOf c plan target address buffer bytes ≡ whole = ap₂ (λ (x : Plan) (y : List ℕ). carriedOf c x target address buffer y) p b in
+      let t = carried-as _ _ r after answered q s in
       record {
         client = t .client;
         answer = t .answer;
@@ -78,7 +91,7 @@ module _ (c : Client) (target marks address buffer datagram : List ℕ) {r : Ste
     unfolding besideOf
     beside-bad g s = rw g s
 
-    module _ (g : goodN (c .fixed .n) ≡ true) {size : ℕ} (is : size ≡ goodSize (c .fixed .n)) where
+    module _ (g : goodN (c .fixed .n) ≡ true) (size : ℕ) (is : size ≡ goodSize (c .fixed .n)) where
       pub beside-wrong : (running ≡ size → ⊥) → Carried·Is (carriedOf c (Keep (Refused BadLength)) target address buffer []) r after answered
           → Carried·Is (besideOf c running target marks address buffer datagram) r after answered
       unfolding besideOf
@@ -92,7 +105,7 @@ module _ (c : Client) (target marks address buffer datagram : List ℕ) {r : Ste
       beside-right e s = rw (g, eq-eqb running (bankSize (c .fixed .n)) (e ∙ is ∙ size-good (c .fixed .n) g)) (taken s)
 
 -- whichever bank runs
-module _ (c : Client) (pair : Banks) (marks address buffer datagram : List ℕ) {r : Stepped} {after answered : List ℕ} where
+module _ (c : Client) (pair : Banks) (marks address buffer datagram : List ℕ) (r : Stepped) (after answered : List ℕ) where
   pub step-is : (running : Bank) → c .fixed .running ≡ running
       → Carried·Is (besideOf c (length (bankIn running pair)) (bankIn (otherOf running) pair) marks address buffer datagram) r after answered
       → Step·Is c (pair .zero) (pair .one) marks address buffer datagram r (withBank (otherOf running) after pair .zero) (withBank (otherOf running) after pair .one) answered

@@ -138,7 +138,7 @@ pub record Step·Is (c : Client) (bank0 bank1 marks address buffer datagram : Li
   pub answer : r .answer ≡ stepOf c (banks bank0 bank1) marks address buffer datagram .answer
   pub says : answerNumber (r .answer)
       ≡ stepSays c (length (bankIn (c .fixed .running) (banks bank0 bank1))) (length (bankIn (otherOf (c .fixed .running)) (banks bank0 bank1)))
-          (length marks) (length address) (length buffer)
+      (length marks) (length address) (length buffer)
   pub told : r .length ≡ stepOf c (banks bank0 bank1) marks address buffer datagram .told
   pub notice : r .notice ≡ stepOf c (banks bank0 bank1) marks address buffer datagram .notice
   pub bank-zero : zero ≡ banksAfter c (banks bank0 bank1) (stepOf c (banks bank0 bank1) marks address buffer datagram) .zero

@@ -83,13 +83,7 @@ impl Client {
         let standing = self.standing();
         let asked = exchange::request::read_request(datagram);
         let plan = standing.plan(target.len(), marks, address, buffer.len(), asked);
-        self.carry(
-            plan,
-            target,
-            address,
-            buffer,
-            frame::read::data(datagram),
-        )
+        self.carry(plan, target, address, buffer, frame::read::data(datagram))
     }
 
     // N and the length of the running bank first; of that bank nothing else is seen.

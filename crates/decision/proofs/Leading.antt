@@ -31,7 +31,20 @@ use Rattle.decision.specs.declared.plan.Plan.{Plan}
 use Rattle.decision.specs.declared.plan.Plan.the-variants.{Keep, Open, Leave, Begin, Store, Wear, Finish}
 use Rattle.decision.specs.declared.plan.Standing.{Standing}
 use Rattle.decision.specs.Plan.{
-  lentGood, isWorn, anyWorn, valuesGood, addressesGood, planStart, planEnd, planPacket, planControl, planGood, planRequest, planAsked, planOf}
+  lentGood,
+  isWorn,
+  anyWorn,
+  valuesGood,
+  addressesGood,
+  planStart,
+  planEnd,
+  planPacket,
+  planControl,
+  planGood,
+  planRequest,
+  planAsked,
+  planOf,
+}
 use Rattle.decision.proofs.Planning.{Lent, lent}
 
 -- ---- what a plan may be

@@ -1,7 +1,7 @@
 -- The paper's number of a plan: 3, 2, 1 where there is no answer, and none where there is one.
 -- Assumes nothing.
 use mathlib.Core.Path.{_≡_, refl}
-use mathlib.Core.Bool.{not, cond}
+use mathlib.Core.Bool.{Bool, true, false, not, cond}
 use mathlib.Core.List.{List}
 use Prim.Native.Nat.{ℕ, _-_}
 use lib.ListN.{length, getD}
@@ -19,7 +19,20 @@ use Rattle.decision.specs.declared.plan.Plan.{Plan}
 use Rattle.decision.specs.declared.plan.Plan.the-variants.{Keep, Open, Leave, Begin, Store, Wear, Finish}
 use Rattle.decision.specs.declared.plan.Standing.{Standing}
 use Rattle.decision.specs.Plan.{
-  lentGood, isWorn, anyWorn, valuesGood, addressesGood, planStart, planEnd, planPacket, planControl, planGood, planRequest, planAsked, planOf}
+  lentGood,
+  isWorn,
+  anyWorn,
+  valuesGood,
+  addressesGood,
+  planStart,
+  planEnd,
+  planPacket,
+  planControl,
+  planGood,
+  planRequest,
+  planAsked,
+  planOf,
+}
 
 abbrev pub planNumber : Plan → ℕ
 planNumber (Keep answer) = answerNumber answer
@@ -60,6 +73,17 @@ asked-none s (Right request) marks =
 pub plan-number : (s : Standing) (target : ℕ) (marks address : List ℕ) (buffer : ℕ) (asked : Asked)
     → planNumber (planOf s target marks address buffer asked)
     ≡ cond (not (goodN (s .fixed .n))) 3
-      (cond (not (lentGood (s .fixed .n) target (length marks) (length address) buffer)) 2 (cond (isClosed (s .state)) 1 0))
+    (cond (not (lentGood (s .fixed .n) target (length marks) (length address) buffer)) 2 (cond (isClosed (s .state)) 1 0))
 unfolding planOf
-plan-number s target marks address buffer asked = ?
+plan-number s target marks address buffer asked =
+    by (goodN (s .fixed .n)) refl (lentGood (s .fixed .n) target (length marks) (length address) buffer) refl (isClosed (s .state)) refl
+  where
+    by : (g : Bool) → goodN (s .fixed .n) ≡ g → (l : Bool) → lentGood (s .fixed .n) target (length marks) (length address) buffer ≡ l
+        → (o : Bool) → isClosed (s .state) ≡ o
+        → planNumber (planOf s target marks address buffer asked)
+        ≡ cond (not (goodN (s .fixed .n))) 3
+        (cond (not (lentGood (s .fixed .n) target (length marks) (length address) buffer)) 2 (cond (isClosed (s .state)) 1 0))
+    by false g l e o f = rw g
+    by true g false e o f = rw (g, e)
+    by true g true e true f = rw (g, e, f)
+    by true g true e false f = rw (g, e, f) (asked-none s asked marks)

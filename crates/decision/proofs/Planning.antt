@@ -26,7 +26,19 @@ use Rattle.decision.specs.declared.plan.Plan.{Plan}
 use Rattle.decision.specs.declared.plan.Plan.the-variants.{Keep, Begin, Store, Wear, Finish}
 use Rattle.decision.specs.declared.plan.Standing.{Standing}
 use Rattle.decision.specs.Plan.{
-  lentGood, anyWorn, parameterFault, valuesGood, addressesGood, planStart, planEnd, planPacket, planGood, planRequest, planAsked, planOf}
+  lentGood,
+  anyWorn,
+  parameterFault,
+  valuesGood,
+  addressesGood,
+  planStart,
+  planEnd,
+  planPacket,
+  planGood,
+  planRequest,
+  planAsked,
+  planOf,
+}
 
 -- ---- the lent lengths
 

@@ -231,13 +231,7 @@ impl Standing {
         if !layout::good_n(self.fixed.n) {
             return Plan::Keep(Answer::Refused(Refusal::BadN));
         }
-        if !lent_good(
-            self.fixed.n,
-            target,
-            marks.len(),
-            address.len(),
-            buffer,
-        ) {
+        if !lent_good(self.fixed.n, target, marks.len(), address.len(), buffer) {
             return Plan::Keep(Answer::Refused(Refusal::BadLength));
         }
         if exchange::state::is_closed(state) {

@@ -40,10 +40,32 @@ use Rattle.calls.proofs.Courses.{Course, still, begins, stores, ends, not-write
 use Rattle.calls.proofs.Leading.{Finishing, fits-stored, packed-in}
 use Rattle.calls.proofs.Beside.{step-course, step-stays, step-told, step-said, step-fits}
 use Rattle.demands.specs.Board.{
-  Board, Call, Input, Initiate, Terminate, Datagram, said, targetBank, sectorsIn, lentTarget, hostOutcome, callOutcome, called, stepMachine}
+  Board,
+  Call,
+  Input,
+  Initiate,
+  Terminate,
+  Datagram,
+  said,
+  targetBank,
+  sectorsIn,
+  lentTarget,
+  hostOutcome,
+  callOutcome,
+  called,
+  stepMachine,
+}
 use Rattle.demands.specs.Session.{isEnd, allBlank, exchanged, noted}
 use Rattle.demands.proofs.Bytes.{
-  quiet-begin, quiet-end, quiet-stored, response-begin, response-start-end, written-begin, written-end, written-stored}
+  quiet-begin,
+  quiet-end,
+  quiet-stored,
+  response-begin,
+  response-start-end,
+  written-begin,
+  written-end,
+  written-stored,
+}
 use Rattle.demands.proofs.Lending.{front-of, lent-in, whole-again}
 use Rattle.demands.proofs.Steps.{pair-next}
 

@@ -18,7 +18,21 @@ use Rattle.client.specs.Host.{initiateOf, terminateOf}
 use Rattle.client.specs.Record.{Stays}
 use Rattle.calls.proofs.Beside.{step-stays, step-length}
 use Rattle.demands.specs.Board.{
-  Board, Call, Input, Initiate, Terminate, Datagram, after, runningBank, targetBank, lentOf, lentTarget, called, callOutcome, stepMachine}
+  Board,
+  Call,
+  Input,
+  Initiate,
+  Terminate,
+  Datagram,
+  after,
+  runningBank,
+  targetBank,
+  lentOf,
+  lentTarget,
+  called,
+  callOutcome,
+  stepMachine,
+}
 use Rattle.demands.proofs.Lending.{lent-in, back-with}
 
 initiate-stays : (c : Client) → Stays c (initiateOf c .client)
@@ -69,7 +83,7 @@ lengths-kept b Initiate x = refl
 lengths-kept b Terminate x = refl
 lengths-kept b (Datagram call) x =
     ap (λ (p : Banks). length (bankIn x p)) (pair-next b call)
-    ∙ pair-length (otherOf (b .client .fixed .running)) x (b .pair) (target-long b call)
+    ∙ pair-length (otherOf (b .client .fixed .running)) x _ (b .pair) (target-long b call)
 
 -- ---- over any list of inputs
 

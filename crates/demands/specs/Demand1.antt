@@ -213,7 +213,7 @@ callRows b call =
     row (not (goodN (c .fixed .n))) (refused b (call .buffer) 3)
     ∷ row (not (eqb (length (bankIn (c .fixed .running) lent)) (bankSize (c .fixed .n)))) (refused b (call .buffer) 2)
     ∷ row (not (lentGood (c .fixed .n) (length (lentTarget b call)) (length (call .marks)) (length (call .address)) (length (call .buffer))))
-        (refused b (call .buffer) 2)
+    (refused b (call .buffer) 2)
     ∷ row (isClosed (c .state)) (refused b (call .buffer) 1)
     ∷ row (isFault (readOf (call .datagram))) (answered b call frameError)
     ∷ afterFrame b call (readOf (call .datagram))

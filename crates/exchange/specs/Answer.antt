@@ -24,6 +24,16 @@ refusalNumber BadN = 3
 refusalNumber BadLength = 2
 refusalNumber Closed = 1
 
+-- the number of an answer; 0 stands for none, where there is an answer
+abbrev pub answerNumber : Answer → ℕ
+answerNumber (Refused why) = refusalNumber why
+answerNumber FrameError = 0
+answerNumber (Error result) = 0
+answerNumber (Response command result) = 0
+answerNumber (BankIs bank) = 0
+answerNumber (VersionIs major minor revision) = 0
+answerNumber (Written sector result write crc) = 0
+
 -- 06, then "ID (2), major, minor, revision (4)"; the ID is 0x0400
 abbrev pub versionBytes : ℕ → ℕ → ℕ → List ℕ
 versionBytes major minor revision = 0x06 ∷ 0x04 ∷ 0x00 ∷ major ∷ minor ∷ bytesOf 4 revision

@@ -39,8 +39,8 @@ pair-ext Zero e o = ap₂ banks e o
 pair-ext One e o = ap₂ banks o e
 
 -- a bank of the same length in its place leaves each length
-pub pair-length : (b x : Bank) {bank : List ℕ} (p : Banks) → length bank ≡ length (bankIn b p) → length (bankIn x (withBank b bank p)) ≡ length (bankIn x p)
-pair-length Zero Zero p e = e
-pair-length Zero One p e = refl
-pair-length One Zero p e = refl
-pair-length One One p e = e
+pub pair-length : (b x : Bank) (bank : List ℕ) (p : Banks) → length bank ≡ length (bankIn b p) → length (bankIn x (withBank b bank p)) ≡ length (bankIn x p)
+pair-length Zero Zero bank p e = e
+pair-length Zero One bank p e = refl
+pair-length One Zero bank p e = refl
+pair-length One One bank p e = e

@@ -1,6 +1,7 @@
 -- `client::body::Client::body` meets its contract.
 -- Assumes nothing.
-use Rattle.client.proofs.Bodies.{body-none, body-zero, body-one}
+use Rattle.layout.specs.declared.Bank.the-variants.{Zero, One}
+use Rattle.client.proofs.Bodies.{body-none, body-there}
 use borrow.Author.Needs.{needs}
 use Rattle.client.proofs.record.Client.body.Statement.{statement}
 use Rattle.client.proofs.record.Client.body.Tie as tie
@@ -24,13 +25,15 @@ slice-aggregate-result : tie.Need-slice-aggregate-result
 slice-aggregate-result c = search needs
 
 returns : tie.Need-returns
-returns c = body-zero (c .before .before .before .before .before .before .before .args .self) (c .before .before .before .before .before .before .before .args .bank0 .now) (c .before .before .before .before .before .before .before .args .bank1 .now) (c .before .before .before .before .before .before .before .args .i) _ (c .before .before .before .before .banks-good .ensures) _ (c .before .before .before .if1 .taken) (c .before .enum-told .given .1) (c .body .ensures)
+returns c = let a = (c .before .before .before .before .before .before .before .args) in
+    body-there (a .self) (a .bank0 .now) (a .bank1 .now) (a .i) _ (c .before .before .before .before .banks-good .ensures) _ Zero (c .before .before .before .if1 .taken) (c .before .enum-told .given .1) (c .body .ensures)
 
 returns-2 : tie.Need-returns-2
-returns-2 c = body-one (c .before .before .before .before .before .before .before .args .self) (c .before .before .before .before .before .before .before .args .bank0 .now) (c .before .before .before .before .before .before .before .args .bank1 .now) (c .before .before .before .before .before .before .before .args .i) _ (c .before .before .before .before .banks-good .ensures) _ (c .before .before .before .if1 .taken) (c .before .enum-told2 .given .1) (c .body2 .ensures)
+returns-2 c = let a = (c .before .before .before .before .before .before .before .args) in
+    body-there (a .self) (a .bank0 .now) (a .bank1 .now) (a .i) _ (c .before .before .before .before .banks-good .ensures) _ One (c .before .before .before .if1 .taken) (c .before .enum-told2 .given .1) (c .body2 .ensures)
 
 returns-3 : tie.Need-returns-3
-returns-3 c = body-none (c .before .before .before .before .before .args .self) (c .before .before .before .before .before .args .bank0 .now) (c .before .before .before .before .before .args .bank1 .now) (c .before .before .before .before .before .args .i) _ (c .before .before .banks-good .ensures) (c .before .if1 .left)
+returns-3 c = let a = (c .before .before .before .before .before .args) in body-none (a .self) (a .bank0 .now) (a .bank1 .now) (a .i) _ (c .before .before .banks-good .ensures) (c .before .if1 .left)
 
 pub body-spec : {M : Type 1} → statement M
 body-spec =

@@ -21,9 +21,16 @@ same-length-2 : tie.Need-same-length-2
 same-length-2 c = search needs
 
 returns : tie.Need-returns
-returns c = carry-is (c .before .before .before .before .before .before .before .before .before .before .before .before .before .before .args .self) (c .before .before .before .before .before .before .before .before .before .before .before .before .before .before .args .plan) (c .before .before .before .before .before .before .before .before .before .before .before .before .before .before .args .target .now) (c .before .before .before .before .before .before .before .before .before .before .before .before .before .before .args .address .now) (c .before .before .before .before .before .before .before .before .before .before .before .before .before .before .args .buffer .now) (c .before .before .before .before .before .before .before .before .before .before .before .before .before .before .args .datagram .now) _ _ _ _ _ (c .before .before .before .before .before .before .before .before .before .notice-for .ensures) (c .before .before .before .before .before .before .before .serve .ensures) (c .before .before .say .ensures)
+returns c = let a = (c .before .before .before .before .before .before .before .before .before .before .before .before .before .before .args) in
+    carry-is (a .self) (a .plan) (a .target .now) (a .address .now) (a .buffer .now) (a .bytes .now) _ _ _ _ _ (c .before .before .before .before .before .before .before .before .before .notice-for .ensures) (c .before .before .before .before .before .before .before .serve .ensures) (c .before .before .say .ensures)
 
 pub carry-spec : {M : Type 1} → statement M
 carry-spec =
     tie.close
-    (tie.spec notice-for-requires serve-requires say-requires same-length same-length-2 returns)
+    (tie.spec
+    notice-for-requires
+    serve-requires
+    say-requires
+    same-length
+    same-length-2
+    returns)

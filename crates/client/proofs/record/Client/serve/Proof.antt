@@ -2,7 +2,7 @@
 -- Assumes nothing.
 use mathlib.Core.Path.{refl}
 use Rattle.client.specs.Perform.{servedOf}
-use Rattle.client.proofs.Performing.{sent-part, responded}
+use Rattle.client.proofs.Performing.{responded}
 use borrow.Author.Needs.{needs}
 use Rattle.client.proofs.record.Client.serve.Statement.{statement}
 use Rattle.client.proofs.record.Client.serve.Tie as tie
@@ -31,8 +31,8 @@ responds-requires-2 c κs = search needs
 enum-told-3 : tie.Need-enum-told-3
 enum-told-3 c = search needs
 
-begun-requires : tie.Need-begun-requires
-begun-requires c κs = search needs
+begin-requires : tie.Need-begin-requires
+begin-requires c κs = search needs
 
 responds-requires-3 : tie.Need-responds-requires-3
 responds-requires-3 c κs = search needs
@@ -40,20 +40,8 @@ responds-requires-3 c κs = search needs
 enum-known-plan-2 : tie.Need-enum-known-plan-2
 enum-known-plan-2 c = search needs
 
-add-store : tie.Need-add-store
-add-store c = let p = rw (c .before .before .plan2 .given .1) at (c .before .before .before .before .before .before .pre) in let s = p .sent in search needs
-
-sub-store : tie.Need-sub-store
-sub-store c = search needs
-
-part-store-start : tie.Need-part-store-start
-part-store-start c = search needs
-
-part-store-end : tie.Need-part-store-end
-part-store-end c = let p = rw (c .before .before .plan2 .given .1) at (c .before .before .before .before .before .before .pre) in let s = p .sent in search needs
-
 store-requires : tie.Need-store-requires
-store-requires c κs = let p = rw (c .before .before .before .plan2 .given .1) at (c .before .before .before .before .before .before .before .pre) in ((p .first, p .last), p .inside)
+store-requires c κs = let p = rw (c .before .before .plan2 .given .1) at (c .before .before .before .before .before .before .pre) in ((p .first, p .last), p .inside)
 
 enum-told-4 : tie.Need-enum-told-4
 enum-told-4 c = search needs
@@ -84,14 +72,14 @@ returns-3 c = rw (c .before .before .enum-told2 .given .1) (responded _ _ _ _ _ 
 
 returns-4 : tie.Need-returns-4
 unfolding servedOf
-returns-4 c = rw (c .before .before .enum-told3 .given .1) (responded _ _ _ _ _ _ (c .before .begun .ensures) (c .responds3 .ensures))
+returns-4 c = rw (c .before .before .enum-told3 .given .1) (responded _ _ _ _ _ _ (c .before .begin .ensures) (c .responds3 .ensures))
 
 same-length : tie.Need-same-length
 same-length c = search needs
 
 returns-5 : tie.Need-returns-5
 unfolding servedOf
-returns-5 c = rw (c .before .before .before .before .before .before .plan2 .given .1) (sent-part (c .before .before .before .before .before .before .before .before .before .before .args .self) (c .before .before .before .before .before .before .plan2 .given .0 .0) (c .before .before .before .before .before .before .plan2 .given .0 .1 .0) (c .before .before .before .before .before .before .before .before .before .before .args .target .now) (c .before .before .before .before .before .before .before .before .before .before .args .datagram .now) _ _ (c .before .before .store .ensures))
+returns-5 c = rw (c .before .before .before .before .before .plan2 .given .1) (c .before .before .store .ensures)
 
 returns-6 : tie.Need-returns-6
 unfolding servedOf
@@ -116,13 +104,9 @@ serve-spec =
     left-requires
     responds-requires-2
     enum-told-3
-    begun-requires
+    begin-requires
     responds-requires-3
     enum-known-plan-2
-    add-store
-    sub-store
-    part-store-start
-    part-store-end
     store-requires
     enum-told-4
     ended-requires

@@ -1,58 +1,60 @@
--- `client::step::Client::step` meets its contract.
--- Assumes nothing.
 use Rattle.layout.specs.declared.Bank.the-variants.{Zero, One}
-use Rattle.client.proofs.Promising.{addressed, fair}
+use Rattle.layout.specs.Pair.{banks}
 use Rattle.client.proofs.Stepping.{step-is}
 use borrow.Author.Needs.{needs}
 use Rattle.client.proofs.record.Client.step.Statement.{statement}
 use Rattle.client.proofs.record.Client.step.Tie as tie
 
-standing-requires : tie.Need-standing-requires
-standing-requires c κs = search needs
-
-plan-requires : tie.Need-plan-requires
-plan-requires c κs = search needs
-
+-- src/step.rt:134:39
 enum-told : tie.Need-enum-told
 enum-told c = search needs
 
-carry-requires : tie.Need-carry-requires
-carry-requires c κs = (fair ((c .before .before .before .before .before .before .before .before .before .before .before .before .args .self)) ((c .before .before .before .before .before .before .before .before .before .before .before .before .args .bank0 .now)) ((c .before .before .before .before .before .before .before .before .before .before .before .before .args .bank1 .now)) ((c .before .before .before .before .before .before .before .before .before .before .before .before .args .marks .now)) ((c .before .before .before .before .before .before .before .before .before .before .before .before .args .address .now)) ((c .before .before .before .before .before .before .before .before .before .before .before .before .args .buffer .now)) ((c .before .before .before .before .before .before .before .before .before .before .before .before .args .datagram .now)) _ ((c .before .before .before .before .before .standing .ensures)) _ ((c .before .before .before .before .plan .ensures)) Zero ((c .before .before .enum-told .given .1)), addressed ((c .before .before .before .before .before .before .before .before .before .before .before .before .args .self)) ((c .before .before .before .before .before .before .before .before .before .before .before .before .args .bank0 .now)) ((c .before .before .before .before .before .before .before .before .before .before .before .before .args .bank1 .now)) ((c .before .before .before .before .before .before .before .before .before .before .before .before .args .marks .now)) ((c .before .before .before .before .before .before .before .before .before .before .before .before .args .address .now)) ((c .before .before .before .before .before .before .before .before .before .before .before .before .args .buffer .now)) ((c .before .before .before .before .before .before .before .before .before .before .before .before .args .datagram .now)) _ ((c .before .before .before .before .before .standing .ensures)) _ ((c .before .before .before .before .plan .ensures)))
+-- src/step.rt:134:27
+beside-requires : tie.Need-beside-requires
+beside-requires c κs = search needs
 
+-- src/step.rt:135:38
 enum-told-2 : tie.Need-enum-told-2
 enum-told-2 c = search needs
 
-carry-requires-2 : tie.Need-carry-requires-2
-carry-requires-2 c κs = (fair ((c .before .before .before .before .before .before .before .before .before .before .before .before .args .self)) ((c .before .before .before .before .before .before .before .before .before .before .before .before .args .bank0 .now)) ((c .before .before .before .before .before .before .before .before .before .before .before .before .args .bank1 .now)) ((c .before .before .before .before .before .before .before .before .before .before .before .before .args .marks .now)) ((c .before .before .before .before .before .before .before .before .before .before .before .before .args .address .now)) ((c .before .before .before .before .before .before .before .before .before .before .before .before .args .buffer .now)) ((c .before .before .before .before .before .before .before .before .before .before .before .before .args .datagram .now)) _ ((c .before .before .before .before .before .standing .ensures)) _ ((c .before .before .before .before .plan .ensures)) One ((c .before .before .enum-told2 .given .1)), addressed ((c .before .before .before .before .before .before .before .before .before .before .before .before .args .self)) ((c .before .before .before .before .before .before .before .before .before .before .before .before .args .bank0 .now)) ((c .before .before .before .before .before .before .before .before .before .before .before .before .args .bank1 .now)) ((c .before .before .before .before .before .before .before .before .before .before .before .before .args .marks .now)) ((c .before .before .before .before .before .before .before .before .before .before .before .before .args .address .now)) ((c .before .before .before .before .before .before .before .before .before .before .before .before .args .buffer .now)) ((c .before .before .before .before .before .before .before .before .before .before .before .before .args .datagram .now)) _ ((c .before .before .before .before .before .standing .ensures)) _ ((c .before .before .before .before .plan .ensures)))
+-- src/step.rt:135:26
+beside-requires-2 : tie.Need-beside-requires-2
+beside-requires-2 c κs = search needs
 
+-- src/step.rt:120:5
 same-length : tie.Need-same-length
 same-length c = search needs
 
+-- src/step.rt:120:5
 same-length-2 : tie.Need-same-length-2
 same-length-2 c = search needs
 
+-- src/step.rt:120:5
 returns : tie.Need-returns
-returns c = step-is ((c .before .before .before .before .before .before .before .before .before .before .before .before .before .before .before .before .before .args .self)) ((c .before .before .before .before .before .before .before .before .before .before .before .before .before .before .before .before .before .args .bank0 .now)) ((c .before .before .before .before .before .before .before .before .before .before .before .before .before .before .before .before .before .args .bank1 .now)) ((c .before .before .before .before .before .before .before .before .before .before .before .before .before .before .before .before .before .args .marks .now)) ((c .before .before .before .before .before .before .before .before .before .before .before .before .before .before .before .before .before .args .address .now)) ((c .before .before .before .before .before .before .before .before .before .before .before .before .before .before .before .before .before .args .buffer .now)) ((c .before .before .before .before .before .before .before .before .before .before .before .before .before .before .before .before .before .args .datagram .now)) _ ((c .before .before .before .before .before .before .before .before .before .before .standing .ensures)) _ ((c .before .before .before .before .before .before .before .before .before .plan .ensures)) _ _ _ Zero ((c .before .before .before .before .before .before .before .enum-told .given .1)) ((c .before .before .before .before .carry .ensures))
+returns c = let a = (c .before .before .before .before .before .before .before .before .before .before .before .before .before .before .before .before .args) in
+    step-is (a .self) (banks (a .bank0 .now) (a .bank1 .now)) (a .marks .now) (a .address .now) (a .buffer .now) (a .datagram .now) _ _ _ Zero (c .before .before .before .before .before .before .before .enum-told .given .1) (c .before .before .before .before .beside .ensures)
 
+-- src/step.rt:120:5
 same-length-3 : tie.Need-same-length-3
 same-length-3 c = search needs
 
+-- src/step.rt:120:5
 same-length-4 : tie.Need-same-length-4
 same-length-4 c = search needs
 
+-- src/step.rt:120:5
 returns-2 : tie.Need-returns-2
-returns-2 c = step-is ((c .before .before .before .before .before .before .before .before .before .before .before .before .before .before .before .before .before .args .self)) ((c .before .before .before .before .before .before .before .before .before .before .before .before .before .before .before .before .before .args .bank0 .now)) ((c .before .before .before .before .before .before .before .before .before .before .before .before .before .before .before .before .before .args .bank1 .now)) ((c .before .before .before .before .before .before .before .before .before .before .before .before .before .before .before .before .before .args .marks .now)) ((c .before .before .before .before .before .before .before .before .before .before .before .before .before .before .before .before .before .args .address .now)) ((c .before .before .before .before .before .before .before .before .before .before .before .before .before .before .before .before .before .args .buffer .now)) ((c .before .before .before .before .before .before .before .before .before .before .before .before .before .before .before .before .before .args .datagram .now)) _ ((c .before .before .before .before .before .before .before .before .before .before .standing .ensures)) _ ((c .before .before .before .before .before .before .before .before .before .plan .ensures)) _ _ _ One ((c .before .before .before .before .before .before .before .enum-told2 .given .1)) ((c .before .before .before .before .carry2 .ensures))
+returns-2 c = let a = (c .before .before .before .before .before .before .before .before .before .before .before .before .before .before .before .before .args) in
+    step-is (a .self) (banks (a .bank0 .now) (a .bank1 .now)) (a .marks .now) (a .address .now) (a .buffer .now) (a .datagram .now) _ _ _ One (c .before .before .before .before .before .before .before .enum-told2 .given .1) (c .before .before .before .before .beside2 .ensures)
 
 pub step-spec : {M : Type 1} → statement M
 step-spec =
     tie.close
     (tie.spec
-    standing-requires
-    plan-requires
     enum-told
-    carry-requires
+    beside-requires
     enum-told-2
-    carry-requires-2
+    beside-requires-2
     same-length
     same-length-2
     returns

@@ -24,7 +24,9 @@ same-length : tie.Need-same-length
 same-length c = search needs
 
 returns : tie.Need-returns
-returns c = store-is (c .before .before .before .before .before .before .before .before .before .before .before .args .self) (c .before .before .before .before .before .before .before .before .before .before .before .args .target .now) _ (c .before .before .before .before .before .before .before .before .before .before .before .args .sector) (c .before .before .before .before .before .before .before .before .before .before .before .args .bytes .now) _ _ _ _ _ (c .before .before .before .before .before .before .before .write-at .ensures) (c .before .before .before .before .blank .ensures) (c .before .before .before .store-result .ensures) (c .before .sector-crc .ensures) (c .marked .ensures)
+returns c = let a = (c .before .before .before .before .before .before .before .before .before .before .before .args) in
+    store-is (a .self) _ (a .target .now) _ (a .bytes .now) (a .sector) _ _ _ _ (c .before .before .before .before .before .before .before .write-at .ensures) (c .before .before .before .before .blank .ensures) (c .before .before .before .store-result .ensures) (c .before .sector-crc .ensures)
+    (c .marked .ensures)
 
 pub store-spec : {M : Type 1} → statement M
 store-spec =
