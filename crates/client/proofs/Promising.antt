@@ -55,7 +55,7 @@ module _ (c : Client) (target marks address buffer datagram : List ℕ) where
     plan-is = is ∙ ap₂ (λ (s : Standing) (a : Asked). planOf s (length target) marks address (length buffer) a) of asks
 
     pub addressed : Addressed plan (length address)
-    addressed = rw plan-is (addressed-led _ decides)
+    addressed = rw plan-is (addressed-led (planned c target marks address buffer datagram) decides)
 
     pub fair : Fair plan (length target)
-    fair = rw plan-is (fair-led _ decides)
+    fair = rw plan-is (fair-led (planned c target marks address buffer datagram) decides)
