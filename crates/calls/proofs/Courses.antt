@@ -58,7 +58,7 @@ not-write s e w = false≢true (sym e ∙ ap inWrite w)
 
 stored-crc : (c : Client) (target datagram : List ℕ) (sector : ℕ) → Storing c (length target) datagram sector
     → sectorCrc (writtenAt target sector (dataIn datagram)) sector ≡ crcOf (paddedOf (dataIn datagram))
-stored-crc c target datagram sector s = ap crcOf (written-here target sector (dataIn datagram) (fits-stored s))
+stored-crc c target datagram sector s = ap crcOf (written-here target sector (dataIn datagram) (fits-stored c target datagram sector s))
 
 module _ (c : Client) (target address buffer datagram : List ℕ) where
   abbrev bytes : List ℕ
@@ -99,10 +99,7 @@ alike-same r s e =
 
 module _ (c : Client) (one two address buffer datagram : List ℕ) (l : length one ≡ length two)
     (swept : Finishing c (length one) → sweptOf one (c .fixed .n) (c .received) ≡ sweptOf two (c .fixed .n) (c .received)) where
-  abbrev bytes : List ℕ
-  bytes = dataIn datagram
-
-  pub alike : (plan : Plan) → Leads c (length one) datagram plan → Alike (carriedOf c plan one address buffer bytes) (carriedOf c plan two address buffer bytes)
+  pub alike : (plan : Plan) → Leads c (length one) datagram plan → Alike (carriedOf c plan one address buffer (dataIn datagram)) (carriedOf c plan two address buffer (dataIn datagram))
   unfolding carriedOf servedOf storeOf
   alike (Keep answer) h = record { client = refl; notice = refl; answer = same refl }
   alike Open h = record { client = refl; notice = refl; answer = same refl }
@@ -110,13 +107,13 @@ module _ (c : Client) (one two address buffer datagram : List ℕ) (l : length o
   alike Begin h = record { client = refl; notice = refl; answer = same refl }
   alike (Store sector) h =
       let g : Storing c (length two) datagram sector = rw l at h in
-      let v : ℕ = storeResult (blankOf bytes) (alreadyAt one sector bytes) in
-      let w : ℕ = storeResult (blankOf bytes) (alreadyAt two sector bytes) in
+      let v : ℕ = storeResult (blankOf (dataIn datagram)) (alreadyAt one sector (dataIn datagram)) in
+      let w : ℕ = storeResult (blankOf (dataIn datagram)) (alreadyAt two sector (dataIn datagram)) in
       record {
         client = refl;
         notice = refl;
-        answer = either sector (crcOf (paddedOf bytes)) v w (accepted (blankOf bytes) (alreadyAt one sector bytes))
-            (accepted (blankOf bytes) (alreadyAt two sector bytes))
+        answer = either sector (crcOf (paddedOf (dataIn datagram))) v w (accepted (blankOf (dataIn datagram)) (alreadyAt one sector (dataIn datagram)))
+            (accepted (blankOf (dataIn datagram)) (alreadyAt two sector (dataIn datagram)))
             (ap (Written sector 0x06 v) (stored-crc c one datagram sector h))
             (ap (Written sector 0x06 w) (stored-crc c two datagram sector g));
       }

@@ -6,13 +6,15 @@ use mathlib.Core.List.{List}
 use Prim.Native.Nat.{ℕ, _%_}
 use native.Mathlib.Omega.{arith}
 use lib.ListN.{length}
-use Rattle.frame.specs.Read.{dataIn}
+use Rattle.frame.specs.Read.{readOf, parametersIn, dataIn}
+use Rattle.frame.specs.declared.read.Footer.{Footer}
+use Rattle.frame.specs.declared.read.Read.the-variants.{Write}
 use Rattle.flash.proofs.Writes.{FitsAt}
 use Rattle.layout.specs.Layout.{goodN, bankSize}
 use Rattle.exchange.specs.declared.request.Asked.the-variants.{Right}
 use Rattle.exchange.specs.declared.request.Request.the-variants.{Packet}
 use Rattle.exchange.specs.declared.state.State.the-variants as state
-use Rattle.exchange.specs.Request.{askedOf}
+use Rattle.exchange.specs.Request.{askedBy, askedOf}
 use Rattle.exchange.proofs.Bearing.{Packed, Asks, asks}
 use Rattle.decision.specs.declared.plan.Plan.{Plan}
 use Rattle.decision.specs.declared.plan.Plan.the-variants.{Keep, Open, Leave, Begin, Store, Wear, Finish}
@@ -72,18 +74,25 @@ module _ (c : Client) (target marks address buffer datagram : List ℕ) where
   pub leads : Leads c (length target) datagram (planned c target marks address buffer datagram)
   leads = led (planned c target marks address buffer datagram) (decides c target marks address buffer datagram)
 
+-- a packet that is stored, from how its datagram is read
+pub storing : (c : Client) (target : ℕ) (d : List ℕ) (sector m : ℕ) (footer : Footer) → readOf d ≡ Write sector m footer → c .state ≡ state.Write
+    → goodN (c .fixed .n) ≡ true → target ≡ bankSize (c .fixed .n) → valuesGood (c .fixed .n) sector m ≡ true → Storing c target d sector
+unfolding askedBy
+storing c target d sector m footer e s g w v =
+    record { m = m; asks = ap (askedBy (parametersIn d)) e; writing = s; good = g; whole = w; values = v }
+
 -- a datagram that asks for a packet to be stored has its data
-pub packed-in : {datagram : List ℕ} {sector m : ℕ} → askedOf datagram ≡ Right (Packet sector m) → Packed datagram sector m
-packed-in {datagram} e = subst (Asks datagram) e (asks datagram)
+pub packed-in : (datagram : List ℕ) (sector m : ℕ) → askedOf datagram ≡ Right (Packet sector m) → Packed datagram sector m
+packed-in datagram sector m e = subst (Asks datagram) e (asks datagram)
 
 -- a packet that is stored fits its sector
-pub fits-stored : {c : Client} {target datagram : List ℕ} {sector : ℕ} → Storing c (length target) datagram sector → FitsAt target sector (dataIn datagram)
-fits-stored {c} {target} {datagram} {sector} s =
+pub fits-stored : (c : Client) (target datagram : List ℕ) (sector : ℕ) → Storing c (length target) datagram sector → FitsAt target sector (dataIn datagram)
+fits-stored c target datagram sector s =
     let n : ℕ = c .fixed .n in
     let low = values-low n sector (s .m) (s .values) in
     let high = values-high n sector (s .m) (s .values) in
     let whole = s .whole in
-    let sent = packed-in (s .asks) .sent in
+    let sent = packed-in datagram sector (s .m) (s .asks) .sent in
     let short = values-short n sector (s .m) (s .values) in
     record {
       inside = record { first = low; last = omega arith };

@@ -5,13 +5,16 @@ use mathlib.Core.Bool.{true, false}
 use mathlib.Core.List.{[], _∷_}
 use mathlib.Core.Option.{Option, none, some}
 use Prim.Native.Nat.{ℕ, _-_}
-use lib.ListN.{length, getD, take}
+use lib.Dec.{eqb}
+use lib.ListN.{length, getD}
 use Rattle.frame.specs.Frame.{controlFrame, writeFrame, frameError}
-use Rattle.frame.specs.Read.{readOf}
+use Rattle.buffer.specs.Number.{numberAt}
+use Rattle.frame.specs.Read.{readOf, parametersIn}
 use Rattle.frame.specs.declared.read.Footer.{Footer}
 use Rattle.frame.specs.declared.read.Footer.the-variants.{End}
 use Rattle.frame.specs.declared.read.Read.the-variants.{Fault, Control, Write}
-use Rattle.layout.specs.Layout.{goodN, otherOf}
+use Rattle.layout.specs.Layout.{goodN, bankSize, otherOf}
+use Rattle.layout.specs.Pair.{bankIn}
 use Rattle.client.specs.declared.notice.Kind.the-variants.{Started, Ended}
 use Rattle.client.specs.declared.record.Latest.the-variants.{Good, Otherwise}
 use Rattle.exchange.specs.declared.state.State.{State}
@@ -21,8 +24,8 @@ use Rattle.exchange.specs.State.{isClosed}
 use Rattle.client.specs.Notice.{noNotice, noticeWith, latestNumber}
 use Rattle.client.specs.Perform.{fitOf}
 use Rattle.decision.specs.Plan.{lentGood, isWorn, anyWorn, valuesGood, addressesGood}
-use Rattle.client.specs.Record.{initiated, opened, modeEnded, begun, ended}
-use Rattle.demands.specs.Board.{Board, Call, Input, Initiate, Datagram, Outcome, stepMachine}
+use Rattle.client.specs.Record.{starting, initiated, opened, modeEnded, begun, ended}
+use Rattle.demands.specs.Board.{Board, Call, Input, Initiate, Datagram, Outcome, lentOf, lentTarget, stepMachine}
 use Rattle.demands.specs.Demand1.{firstOf, tableOf, isRequest, hostDone, answered, changed, stored, packetStored, sweptTarget, acceptedIn, takesPackets}
 use Rattle.demands.proofs.Demand1.{table}
 
@@ -35,65 +38,64 @@ comes b i o e = ap (given o) (sym (table b i) ∙ e)
 
 -- a call that is not refused: N, the lengths, the state
 pub record Heard (b : Board) (call : Call) : Type 0 where
-  pub good : goodN (b .client .n) ≡ true
-  pub lengths :
-      lentGood (b .client .n) (length (take (call .lent0) (b .bank0))) (length (take (call .lent1) (b .bank1))) (length (call .marks)) (length (call .address)) (length (call .buffer))
-      ≡ true
+  pub good : goodN (b .client .fixed .n) ≡ true
+  pub runs : eqb (length (bankIn (b .client .fixed .running) (lentOf (call .lent) (b .pair)))) (bankSize (b .client .fixed .n)) ≡ true
+  pub lengths : lentGood (b .client .fixed .n) (length (lentTarget b call)) (length (call .marks)) (length (call .address)) (length (call .buffer)) ≡ true
   pub live : isClosed (b .client .state) ≡ false
 
 module _ (b : Board) (call : Call) (h : Heard b call) where
-  pub write-start : b .client .state ≡ state.Control → readOf (call .datagram) ≡ Control 0x40 8 → addressesGood (b .client .n) (b .client .running) (call .datagram) ≡ true
-      → stepMachine b (Datagram call) ≡ changed b call (begun (b .client)) noNotice (controlFrame 0x70 (0x06 ∷ []))
+  pub write-start : b .client .state ≡ state.Control → readOf (call .datagram) ≡ Control 0x40 8 → addressesGood (b .client .fixed .n) (b .client .fixed .running) (numberAt 4 (parametersIn (call .datagram)) 0) (numberAt 4 (parametersIn (call .datagram)) 4) ≡ true
+      → stepMachine b (Datagram call) ≡ changed b call (begun (starting (b .client .fixed .running) (b .client))) noNotice (controlFrame 0x70 (0x06 ∷ []))
   write-start s r a =
       let t : acceptedIn (b .client .state) 0x40 ≡ true = ap (λ (x : State). acceptedIn x 0x40) s in
-      comes b (Datagram call) _ (rw (h .good, h .lengths, h .live, r, t, a))
+      comes b (Datagram call) _ (rw (h .good, h .runs, h .lengths, h .live, r, t, a))
 
   pub packet : (sector m : ℕ) (footer : Footer) → b .client .state ≡ state.Write → readOf (call .datagram) ≡ Write sector m footer
-      → valuesGood (b .client .n) sector m ≡ true → isWorn (getD (call .marks) (sector - 1) 0) ≡ false
+      → valuesGood (b .client .fixed .n) sector m ≡ true → isWorn (getD (call .marks) (sector - 1) 0) ≡ false
       → stepMachine b (Datagram call) ≡ packetStored b call (Write sector m footer)
   packet sector m footer s r v w =
       let t : takesPackets (b .client .state) ≡ true = ap takesPackets s in
-      comes b (Datagram call) _ (rw (h .good, h .lengths, h .live, r, t, v, w))
+      comes b (Datagram call) _ (rw (h .good, h .runs, h .lengths, h .live, r, t, v, w))
 
-  pub write-end : b .client .state ≡ state.Write → readOf (call .datagram) ≡ Control 0x45 0 → anyWorn (call .marks) ≡ false → fitOf (sweptTarget b call) ≡ true
-      → stepMachine b (Datagram call) ≡ stored b call (ended (b .client) Good (otherOf (b .client .running))) (sweptTarget b call) (controlFrame 0x75 (0x06 ∷ []))
+  pub write-end : b .client .state ≡ state.Write → readOf (call .datagram) ≡ Control 0x45 0 → anyWorn (call .marks) ≡ false → fitOf (b .client .fixed) (sweptTarget b call) ≡ true
+      → stepMachine b (Datagram call) ≡ stored b call (starting (otherOf (b .client .fixed .running)) (ended Good (b .client))) (sweptTarget b call) (controlFrame 0x75 (0x06 ∷ []))
   write-end s r w f =
       let t : acceptedIn (b .client .state) 0x45 ≡ true = ap (λ (x : State). acceptedIn x 0x45) s in
-      comes b (Datagram call) _ (rw (h .good, h .lengths, h .live, r, t, w, f))
+      comes b (Datagram call) _ (rw (h .good, h .runs, h .lengths, h .live, r, t, w, f))
 
-  pub write-end-unsound : b .client .state ≡ state.Write → readOf (call .datagram) ≡ Control 0x45 0 → anyWorn (call .marks) ≡ false → fitOf (sweptTarget b call) ≡ false
-      → stepMachine b (Datagram call) ≡ stored b call (ended (b .client) Otherwise (b .client .next)) (sweptTarget b call) (controlFrame 0x75 (0x1E ∷ []))
+  pub write-end-unsound : b .client .state ≡ state.Write → readOf (call .datagram) ≡ Control 0x45 0 → anyWorn (call .marks) ≡ false → fitOf (b .client .fixed) (sweptTarget b call) ≡ false
+      → stepMachine b (Datagram call) ≡ stored b call (ended Otherwise (b .client)) (sweptTarget b call) (controlFrame 0x75 (0x1E ∷ []))
   write-end-unsound s r w f =
       let t : acceptedIn (b .client .state) 0x45 ≡ true = ap (λ (x : State). acceptedIn x 0x45) s in
-      comes b (Datagram call) _ (rw (h .good, h .lengths, h .live, r, t, w, f))
+      comes b (Datagram call) _ (rw (h .good, h .runs, h .lengths, h .live, r, t, w, f))
 
   pub mode-start : b .client .state ≡ state.Idle → readOf (call .datagram) ≡ Control 0x61 0
       → stepMachine b (Datagram call) ≡ changed b call (opened (b .client)) (noticeWith Started 0 (call .address)) (controlFrame 0x71 (0x06 ∷ []))
   mode-start s r =
       let t : acceptedIn (b .client .state) 0x61 ≡ true = ap (λ (x : State). acceptedIn x 0x61) s in
-      comes b (Datagram call) _ (rw (h .good, h .lengths, h .live, r, t))
+      comes b (Datagram call) _ (rw (h .good, h .runs, h .lengths, h .live, r, t))
 
   pub mode-end : b .client .state ≡ state.Control → readOf (call .datagram) ≡ Control 0x64 0
       → stepMachine b (Datagram call) ≡ changed b call (modeEnded (b .client)) (noticeWith Ended (latestNumber (b .client .latest)) (call .address)) (controlFrame 0x74 (0x06 ∷ []))
   mode-end s r =
       let t : acceptedIn (b .client .state) 0x64 ≡ true = ap (λ (x : State). acceptedIn x 0x64) s in
-      comes b (Datagram call) _ (rw (h .good, h .lengths, h .live, r, t))
+      comes b (Datagram call) _ (rw (h .good, h .runs, h .lengths, h .live, r, t))
 
   -- refusals
   pub fault : readOf (call .datagram) ≡ Fault → stepMachine b (Datagram call) ≡ answered b call frameError
-  fault r = comes b (Datagram call) _ (rw (h .good, h .lengths, h .live, r))
+  fault r = comes b (Datagram call) _ (rw (h .good, h .runs, h .lengths, h .live, r))
 
   pub no-request : (code n : ℕ) → readOf (call .datagram) ≡ Control code n → isRequest code ≡ false
       → stepMachine b (Datagram call) ≡ answered b call (controlFrame 0xE0 (0x05 ∷ []))
-  no-request code n r e = comes b (Datagram call) _ (rw (h .good, h .lengths, h .live, r, e))
+  no-request code n r e = comes b (Datagram call) _ (rw (h .good, h .runs, h .lengths, h .live, r, e))
 
   pub packet-wrong : (sector m : ℕ) (footer : Footer) → b .client .state ≡ state.Write → readOf (call .datagram) ≡ Write sector m footer
-      → valuesGood (b .client .n) sector m ≡ false
+      → valuesGood (b .client .fixed .n) sector m ≡ false
       → stepMachine b (Datagram call) ≡ answered b call (writeFrame sector (writtenBytes 0x05 0x05 0) End)
   packet-wrong sector m footer s r v =
       let t : takesPackets (b .client .state) ≡ true = ap takesPackets s in
-      comes b (Datagram call) _ (rw (h .good, h .lengths, h .live, r, t, v))
+      comes b (Datagram call) _ (rw (h .good, h .runs, h .lengths, h .live, r, t, v))
 
 -- a host command on a closed client
-pub initiate : (b : Board) → goodN (b .client .n) ≡ true → isClosed (b .client .state) ≡ true → stepMachine b Initiate ≡ hostDone b (initiated (b .client))
+pub initiate : (b : Board) → goodN (b .client .fixed .n) ≡ true → isClosed (b .client .state) ≡ true → stepMachine b Initiate ≡ hostDone b (initiated (b .client))
 initiate b g s = comes b Initiate _ (rw (g, s))

@@ -190,7 +190,7 @@ module _ (b : Board) (call : Call) where
     keeps (stores sector write h v a t k) s =
         let bytes : List ℕ = dataIn (call .datagram) in
         let o : Session b image = shows (h .writing) in
-        let f : FitsAt (lentTarget b call) sector bytes = fits-stored h in
+        let f : FitsAt (lentTarget b call) sector bytes = fits-stored (b .client) (lentTarget b call) (call .datagram) sector h in
         let p : sweptOf (lentTarget b call) n (b .client .received) ≡ image =
         lent-shows image shows (record { writing = h .writing; good = h .good; whole = h .whole }) in
         let g : FitsAt image sector bytes =
@@ -200,7 +200,7 @@ module _ (b : Board) (call : Call) where
         let most = good-high n (h .good) in
         let marked = o .marked in
         let e : now ≡ withSector image sector (paddedOf bytes) =
-        rw (a, written-begin sector 0x06 write (crcOf (paddedOf bytes)), written-stored sector write (crcOf (paddedOf bytes)) v, packed-in (h .asks) .reads) in
+        rw (a, written-begin sector 0x06 write (crcOf (paddedOf bytes)), written-stored sector write (crcOf (paddedOf bytes)) v, packed-in (call .datagram) sector (h .m) (h .asks) .reads) in
         make next n (set (b .client .received) (sector - 1) true) (writtenAt (lentTarget b call) sector bytes) behind now stays-n (ap (λ (x : Client). x .received) k)
         (target-next ∙ ap (λ (l : List ℕ). l ++ behind) t)
         (length-written (lentTarget b call) sector bytes ∙ h .whole)

@@ -14,7 +14,8 @@ use Rattle.frame.specs.declared.read.Footer.the-variants.{End}
 use Rattle.frame.specs.declared.read.Read.the-variants.{Write}
 use Rattle.layout.specs.declared.Bank.{Bank}
 use Rattle.layout.specs.declared.Bank.the-variants.{One}
-use Rattle.layout.specs.Layout.{sectorSize, goodN}
+use Rattle.layout.specs.Layout.{sectorSize, goodN, bankSize}
+use Rattle.layout.specs.Pair.{bankIn}
 use Rattle.hex.specs.declared.fault.Kind.the-variants.{H6}
 use Rattle.hex.specs.declared.read.Answer.{Answer}
 use Rattle.hex.specs.declared.read.Answer.the-variants.{Refused, Accepted}
@@ -48,10 +49,9 @@ pub data Row : Type 0 where
 
 -- a call on a board: N from 1 to 491, banks of the right length, lent whole, no sector worn
 pub record Calls (b : Board) (call : Call) : Type 0 where
-  pub good : goodN (b .client .n) ≡ true
-  pub zero : length (b .bank0) ≡ b .client .n * sectorSize
-  pub one : length (b .bank1) ≡ b .client .n * sectorSize
-  pub lends : Lends (b .client .n) call
+  pub good : goodN (b .client .fixed .n) ≡ true
+  pub whole : (x : Bank) → length (bankIn x (b .pair)) ≡ bankSize (b .client .fixed .n)
+  pub lends : Lends (b .client .fixed .n) call
 
 -- a packet in write state
 pub record Brings (b : Board) (call : Call) (sector m : ℕ) : Type 0 where
@@ -75,12 +75,12 @@ Holds (Sums sector bytes sum) = (footer : Footer) → byteAt (writeFrame sector 
 Holds (Answers states datagram answer) =
     (b : Board) (call : Call) → Calls b call → states (b .client .state) ≡ true → call .datagram ≡ datagram → said (stepMachine b (Datagram call)) ≡ answer
 Holds (Sector n sector good) =
-    (b : Board) (call : Call) (m : ℕ) → b .client .n ≡ n → goodLength m ≡ true → Brings b call sector m → Verdict good b call sector
+    (b : Board) (call : Call) (m : ℕ) → b .client .fixed .n ≡ n → goodLength m ≡ true → Brings b call sector m → Verdict good b call sector
 Holds (Length m good) =
-    (b : Board) (call : Call) (sector : ℕ) → 1 ≤ sector → sector ≤ b .client .n → Brings b call sector m → Verdict good b call sector
+    (b : Board) (call : Call) (sector : ℕ) → 1 ≤ sector → sector ≤ b .client .fixed .n → Brings b call sector m → Verdict good b call sector
 Holds Again =
     (b : Board) (call again : Call) (sector m : ℕ) → Brings b call sector m → isStored (said (stepMachine b (Datagram call))) ≡ true
-    → again .datagram ≡ call .datagram → Lends (b .client .n) again
+    → again .datagram ≡ call .datagram → Lends (b .client .fixed .n) again
     → byteAt (said (stepMachine (stepMachine b (Datagram call) .board) (Datagram again))) 6 ≡ 0x1D
 Holds (Reads text answer) = (bank : Bank) (n : ℕ) (image : List ℕ) → goodN n ≡ true → length image ≡ sectorSize * n → readText text bank n image .answer ≡ answer
 
