@@ -12,7 +12,9 @@ use Rattle.lines.specs.declared.line.LineReader.{LineReader}
 use Rattle.hex.specs.declared.fault.Kind.{Kind}
 use Rattle.sender.specs.declared.request.Request.{Request}
 use Rattle.exchange.specs.declared.answer.Answer.{Answer}
-use Rattle.exchange.specs.declared.command.Command.{Command}
+use Rattle.commands.specs.declared.Command.{Command}
+use Rattle.exchange.specs.declared.answer.Refusal.{Refusal}
+use Rattle.exchange.specs.declared.request.Request.{Request as Received}
 use Rattle.exchange.specs.declared.state.State.{State}
 use Rattle.decision.specs.declared.plan.Standing.{Standing}
 use Rattle.client.specs.declared.record.Client.{Client}
@@ -24,6 +26,7 @@ use Rattle.buffer.specs.Place.{Place·Is, Front·Is}
 use Rattle.crc.specs.Crc.{CrcMore·Is, Crc32·Is}
 use Rattle.frame.specs.Checksum.{Checksum·Is}
 use Rattle.frame.specs.Read.{Read·Is as ReadFrame·Is}
+use Rattle.frame.specs.Read.{Parameters·Is, Data·Is}
 use Rattle.frame.specs.Write.{PutControl·Is, PutWrite·Is, PutError·Is}
 use Rattle.flash.specs.Bank.{WriteAt·Is, SectorBlank·Is, Sweep·Is}
 use Rattle.flash.specs.Sector.{Erase·Is, StoreWord·Is, WriteSector·Is}
@@ -35,9 +38,10 @@ use Rattle.hex.specs.Read.{Read·Is as ReadText·Is}
 use Rattle.sender.specs.Packet.{Count·Is, Packet·Is}
 use Rattle.sender.specs.Request.{Request·Is}
 use Rattle.response.specs.Response.{Response·Is}
-use Rattle.exchange.specs.Answer.{Say·Is}
+use Rattle.commands.specs.Command.{RequestCode·Is, ResponseCode·Is, ParameterBytes·Is, AddedBytes·Is, Requested·Is, Answered·Is}
+use Rattle.exchange.specs.Answer.{RefusalNumber·Is, Say·Is}
 use Rattle.exchange.specs.State.{IsClosed·Is}
-use Rattle.exchange.specs.Command.{Asked·Is, FitsState·Is, Declined·Is}
+use Rattle.exchange.specs.Request.{Asked·Is, FitsState·Is, OwnResponse·Is, Declined·Is}
 use Rattle.decision.specs.Plan.{Plan·Is}
 use Rattle.client.specs.Body.{Body·Is as NextBody·Is}
 use Rattle.client.specs.Host.{New·Is, Initiate·Is, Terminate·Is}
@@ -75,6 +79,8 @@ pub record Determined : Type 0 where
   -- frames
   pub checksum : (bytes : List ℕ) → Once (Checksum·Is bytes)
   pub read-frame : (datagram : List ℕ) → Once (ReadFrame·Is datagram)
+  pub parameters-in : (datagram : List ℕ) → Once (Parameters·Is datagram)
+  pub data-in : (datagram : List ℕ) → Once (Data·Is datagram)
   pub put-control : (before : List ℕ) (code : ℕ) (parameters : List ℕ) → Once (PutControl·Is before code parameters)
   pub put-write : (before : List ℕ) (sector : ℕ) (bytes : List ℕ) (footer : Footer) → Once (PutWrite·Is before sector bytes footer)
   pub put-error : (before : List ℕ) → Once (PutError·Is before)
@@ -107,11 +113,20 @@ pub record Determined : Type 0 where
   pub packet : (image : List ℕ) (n p : ℕ) (before : List ℕ) → Twice (Packet·Is image n p before)
   pub request : (request : Request) (before : List ℕ) → Twice (Request·Is request before)
   pub read-response : (datagram : List ℕ) → Once (Response·Is datagram)
+  -- the table of the commands
+  pub request-code : (command : Command) → Once (RequestCode·Is command)
+  pub response-code : (command : Command) → Once (ResponseCode·Is command)
+  pub parameter-bytes : (command : Command) → Once (ParameterBytes·Is command)
+  pub added-bytes : (command : Command) → Once (AddedBytes·Is command)
+  pub requested : (code : ℕ) → Once (Requested·Is code)
+  pub answered : (code : ℕ) → Once (Answered·Is code)
   -- what is asked and answered
   pub asked : (datagram : List ℕ) → Once (Asked·Is datagram)
   pub is-closed : (state : State) → Once (IsClosed·Is state)
-  pub fits-state : (state : State) (command : Command) → Once (FitsState·Is state command)
-  pub declined : (command : Command) (result : ℕ) → Once (Declined·Is command result)
+  pub fits-state : (state : State) (request : Received) → Once (FitsState·Is state request)
+  pub own-response : (command : Command) (result : ℕ) → Once (OwnResponse·Is command result)
+  pub declined : (request : Received) (result : ℕ) → Once (Declined·Is request result)
+  pub refusal-number : (why : Refusal) → Once (RefusalNumber·Is why)
   pub say : (answer : Answer) (before : List ℕ) → Twice (Say·Is answer before)
   -- the client
   pub plan : (standing : Standing) (bank0 bank1 : ℕ) (marks : List ℕ) (address buffer : ℕ) (datagram : List ℕ) → Once (Plan·Is standing bank0 bank1 marks address buffer datagram)

@@ -14,11 +14,11 @@ use Rattle.buffer.specs.Compare.{blankOf}
 use Rattle.buffer.specs.Place.{placeOf}
 use Rattle.buffer.proofs.Comparing.{blank-true}
 use Rattle.buffer.proofs.Places.{place-next}
-use Rattle.frame.specs.Read.{readOf, bytesIn}
+use Rattle.frame.specs.Read.{readOf, dataIn}
 use Rattle.frame.specs.declared.read.Footer.{Footer}
 use Rattle.frame.specs.declared.read.Footer.the-variants.{End, Continued}
 use Rattle.frame.specs.declared.read.Read.the-variants.{Write}
-use Rattle.frame.proofs.RoundTrip.{write-back, write-bytes}
+use Rattle.frame.proofs.RoundTrip.{write-back, write-data}
 use Rattle.layout.specs.Layout.{sectorSize, goodN, sectorStart, sectorOf}
 use Rattle.layout.proofs.Layouts.{sector-part}
 use Rattle.sender.specs.Packet.{sentOf, packetCount, packetSector, footerOf, packetFrame}
@@ -82,6 +82,11 @@ used-sent image n k le b =
 
 -- ---- what a packet's bytes say
 
+pub packet-data : (image : List ℕ) (n p : ℕ) → dataIn (packetFrame image n p) ≡ sectorOf image (packetSector image n p)
+unfolding packetFrame
+packet-data image n p =
+    write-data (packetSector image n p) (sectorOf image (packetSector image n p)) (footerOf (packetCount image n) p)
+
 module _ (image : List ℕ) (n p : ℕ) (g : goodN n ≡ true) (e : length image ≡ sectorSize * n) (h : p < packetCount image n) where
   data-length : length (sectorOf image (packetSector image n p)) ≡ sectorSize
   data-length =
@@ -94,13 +99,6 @@ module _ (image : List ℕ) (n p : ℕ) (g : goodN n ≡ true) (e : length image
       let k : ℕ = packetSector image n p in
       let f : Footer = footerOf (packetCount image n) p in
       ap (λ (m : ℕ). Write k m f) (sym data-length) ∙ write-back k (sectorOf image k) f (packet-small image n p g k h refl) (omega (arith, data-length))
-
-  pub packet-bytes : bytesIn (packetFrame image n p) sectorSize ≡ sectorOf image (packetSector image n p)
-  unfolding packetFrame
-  packet-bytes =
-      let k : ℕ = packetSector image n p in
-      let f : Footer = footerOf (packetCount image n) p in
-      ap (bytesIn (packetFrame image n p)) (sym data-length) ∙ write-bytes k (sectorOf image k) f
 
   -- 03 on the last packet, 17 on the others
   pub last-footer : p + 1 ≡ packetCount image n → Write (packetSector image n p) sectorSize End ≡ readOf (packetFrame image n p)
@@ -183,7 +181,7 @@ module _ (image : List ℕ) (n : ℕ) (g : goodN n ≡ true) (e : length image �
       ap (restored image n) c
       ∙ ap (λ (x : List ℕ). putBack x frame (readOf frame)) before
       ∙ ap (putBack (begun k) frame) (sym (packet-read image n p g e (s .below)))
-      ∙ ap₂ (λ (j : ℕ) (x : List ℕ). placeOf (begun k) (sectorStart j) x) (s .sector) (packet-bytes image n p g e (s .below) ∙ ap (sectorOf image) (s .sector))
+      ∙ ap₂ (λ (j : ℕ) (x : List ℕ). placeOf (begun k) (sectorStart j) x) (s .sector) (packet-data image n p ∙ ap (sectorOf image) (s .sector))
       ∙ over-used k h
 
   first : restored image n (packetCount image 0) ≡ begun 0

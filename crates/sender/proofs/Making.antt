@@ -11,17 +11,19 @@ use Rattle.buffer.specs.Number.{bytesOf}
 use Rattle.buffer.specs.Place.{placeOf}
 use Rattle.buffer.proofs.Numbers.{length-bytes}
 use Rattle.buffer.proofs.Places.{place-front, front-fits, place-next}
+use Rattle.commands.specs.Command.{requestCode}
 use Rattle.frame.specs.Frame.{controlFrame}
 use Rattle.frame.specs.Write.{putControl}
 use Rattle.frame.proofs.Writing.{length-control, control-fits}
-use Rattle.layout.specs.Layout.{goodN}
+use Rattle.layout.specs.Layout.{goodN, startOf, endOf}
 use Rattle.layout.specs.declared.Bank.{Bank}
 use Rattle.sender.specs.declared.made.Made.{Made}
 use Rattle.sender.specs.declared.made.Made.the-variants.{BadN, BadLength, Frame}
 use Rattle.sender.specs.declared.request.Request.{Request}
 use Rattle.sender.specs.declared.request.Request.the-variants.{WriteStart}
-use Rattle.sender.specs.Made.{room, roomFor, standing}
-use Rattle.sender.specs.Request.{codeOf, asksFor, givenGood, requestFrame, requestMade, Request·Is, Control·Is}
+use Rattle.sender.specs.Made.{room, madeSaid, roomFor, bufferAfter}
+use Rattle.sender.specs.Request.{commandOf, asksFor, givenGood, requestFrame, requestMade, Request·Is, Control·Is}
+use Rattle.sender.proofs.Refusals.{request-says}
 
 module _ (size : ℕ) (bytes : List ℕ) where
   no-room : size < room → BadLength ≡ roomFor size bytes
@@ -37,7 +39,7 @@ module _ (code : ℕ) (parameters before : List ℕ) where
   control-refused h =
       let frame : List ℕ = controlFrame code parameters in
       let e : BadLength ≡ roomFor (length before) frame = no-room (length before) frame h in
-      record { answered = e; stands = ap (λ (m : Made). standing m before frame) e }
+      record { answered = e; stands = ap (λ (m : Made). bufferAfter m before frame) e }
 
   pub control-made :
       (after : List ℕ) → length parameters ≤ 254 → room ≤ length before → after ≡ putControl before code parameters
@@ -48,37 +50,37 @@ module _ (code : ℕ) (parameters before : List ℕ) where
       has-room (length before) frame (length parameters + 5) (sym (length-control code parameters)) h in
       record {
         answered = e;
-        stands = p ∙ control-fits before code parameters l ∙ ap (λ (m : Made). standing m before frame) e;
+        stands = p ∙ control-fits before code parameters l ∙ ap (λ (m : Made). bufferAfter m before frame) e;
       }
+
+-- what is answered and what stands is all: what it says follows
+request-is : (request : Request) (before after : List ℕ) (r : Made) → r ≡ requestMade request (length before)
+    → after ≡ bufferAfter (requestMade request (length before)) before (requestFrame request) → Request·Is request before r after
+request-is request before after r e s = record { answered = e; says = ap madeSaid e ∙ request-says request (length before); stands = s }
 
 pub request-told : {request q : Request} {before after : List ℕ} {r : Made} → request ≡ q → Request·Is q before r after → Request·Is request before r after
 request-told {before = before} {after = after} {r = r} t i = subst (λ (x : Request). Request·Is x before r after) (sym t) i
 
 -- a request q is the control frame of its code and parameters, its N being good
 pub request-control :
-    {request : Request} {before after : List ℕ} {r : Made} {parameters : List ℕ} (q : Request) → request ≡ q → givenGood q ≡ true → parameters ≡ asksFor q
-    → Control·Is (codeOf q) parameters before r after → Request·Is request before r after
+    {before after : List ℕ} {r : Made} {parameters : List ℕ} {code : ℕ} (q : Request) → givenGood q ≡ true → code ≡ requestCode (commandOf q)
+    → parameters ≡ asksFor q → Control·Is code parameters before r after → Request·Is q before r after
 unfolding requestMade
-request-control {request} {before} {after} {r} {parameters} q t g p c =
-    request-told t (made (subst (λ (l : List ℕ). Control·Is (codeOf q) l before r after) p c))
-  where
-    made : Control·Is (codeOf q) (asksFor q) before r after → Request·Is q before r after
-    made d =
-        let e : roomFor (length before) (requestFrame q) ≡ requestMade q (length before) = rw g in
-        record {
-          answered = d .answered ∙ e;
-          stands = d .stands ∙ ap (λ (m : Made). standing m before (requestFrame q)) e;
-        }
+request-control {before} {after} {r} {parameters} q g c p i =
+    let d = subst (λ (l : List ℕ). Control·Is (requestCode (commandOf q)) l before r after) p
+    (subst (λ (x : ℕ). Control·Is x parameters before r after) c i) in
+    let e : roomFor (length before) (requestFrame q) ≡ requestMade q (length before) = rw g in
+    request-is q before after r (d .answered ∙ e) (d .stands ∙ ap (λ (m : Made). bufferAfter m before (requestFrame q)) e)
 
 module _ (bank : Bank) (n : ℕ) (before : List ℕ) where
   pub start-refused : goodN n ≡ false → Request·Is (WriteStart bank n) before BadN before
   unfolding requestMade
   start-refused g =
       let e : BadN ≡ requestMade (WriteStart bank n) (length before) = rw g in
-      record { answered = e; stands = ap (λ (m : Made). standing m before (requestFrame (WriteStart bank n))) e }
+      request-is (WriteStart bank n) before before BadN e (ap (λ (m : Made). bufferAfter m before (requestFrame (WriteStart bank n))) e)
 
 -- two numbers of four bytes put one behind the other
-pub two-numbers : (zeros : List ℕ) (a b : ℕ) → length zeros ≡ 8 → drop 4 (drop 4 zeros) ≡ [] → length (drop 4 zeros) ≡ 4
+two-numbers : (zeros : List ℕ) (a b : ℕ) → length zeros ≡ 8 → drop 4 (drop 4 zeros) ≡ [] → length (drop 4 zeros) ≡ 4
     → placeOf (placeOf zeros 0 (bytesOf 4 a)) 4 (bytesOf 4 b) ≡ bytesOf 4 a ++ bytesOf 4 b
 two-numbers zeros a b n z r =
     let la : length (bytesOf 4 a) ≡ 4 = length-bytes 4 a in
@@ -90,3 +92,12 @@ two-numbers zeros a b n z r =
     ∙ ap (λ (k : ℕ). bytesOf 4 a ++ bytesOf 4 b ++ drop k (drop 4 zeros)) lb
     ∙ ap (λ (l : List ℕ). bytesOf 4 a ++ bytesOf 4 b ++ l) z
     ∙ append-nil (bytesOf 4 a ++ bytesOf 4 b)
+
+-- the parameters of a write start, put together
+pub start-parameters : (bank : Bank) (n : ℕ) (zeros : List ℕ) {first second : List ℕ} {start end : ℕ} → length zeros ≡ 8 → drop 4 (drop 4 zeros) ≡ []
+    → length (drop 4 zeros) ≡ 4 → first ≡ placeOf zeros 0 (bytesOf 4 start) → second ≡ placeOf first 4 (bytesOf 4 end) → start ≡ startOf bank
+    → end ≡ endOf bank n → second ≡ asksFor (WriteStart bank n)
+start-parameters bank n zeros {start = start} {end = end} l z r e f s t =
+    f ∙ ap (λ (x : List ℕ). placeOf x 4 (bytesOf 4 end)) e
+    ∙ two-numbers zeros start end l z r
+    ∙ ap₂ (λ (x y : ℕ). bytesOf 4 x ++ bytesOf 4 y) s t

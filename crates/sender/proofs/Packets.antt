@@ -22,9 +22,11 @@ use Rattle.layout.proofs.Layouts.{good-high, good-below, offset-good, sector-pa
 use Rattle.sender.specs.declared.made.Made.{Made}
 use Rattle.sender.specs.declared.made.Made.the-variants.{BadN, BadLength, PastLast, Frame}
 use Rattle.sender.specs.declared.packet.Seen.{Seen}
+use Rattle.sender.specs.declared.packet.Tally.{Tally}
 use Rattle.sender.specs.declared.packet.Tally.the-variants.{BadN as NoBank, BadLength as NoImage, Packets}
-use Rattle.sender.specs.Made.{room, standing}
-use Rattle.sender.specs.Packet.{sentOf, packetCount, packetSector, footerOf, packetFrame, packetMade, tallyOf, seenOf, Packet·Is}
+use Rattle.sender.specs.Made.{room, madeSaid, bufferAfter}
+use Rattle.sender.specs.Packet.{sentOf, packetCount, packetSector, footerOf, packetFrame, packetMade, tallyOf, tallySaid, seenOf, Count·Is, Packet·Is}
+use Rattle.sender.proofs.Refusals.{packet-says, count-says}
 
 -- ---- a sector of an image
 
@@ -154,17 +156,21 @@ module _ (image : List ℕ) (n p : ℕ) (g : goodN n ≡ true) where
 -- ---- each way out
 
 module _ (image : List ℕ) (n : ℕ) where
-  pub tally-bad-n : goodN n ≡ false → NoBank ≡ tallyOf image n
-  unfolding tallyOf
-  tally-bad-n g = rw g
+  -- what is answered is all: what it says follows
+  count-is : (r : Tally) → r ≡ tallyOf image n → Count·Is image n r
+  count-is r e = record { answered = e; says = ap tallySaid e ∙ count-says image n }
 
-  pub tally-bad-image : goodN n ≡ true → (length image ≡ sectorSize * n → ⊥) → NoImage ≡ tallyOf image n
+  pub tally-bad-n : goodN n ≡ false → Count·Is image n NoBank
   unfolding tallyOf
-  tally-bad-image g e = rw (g, ne-eqb (length image) (sectorSize * n) e)
+  tally-bad-n g = count-is NoBank (rw g)
 
-  pub tally-packets : goodN n ≡ true → length image ≡ sectorSize * n → Packets (packetCount image n) ≡ tallyOf image n
+  pub tally-bad-image : goodN n ≡ true → (length image ≡ sectorSize * n → ⊥) → Count·Is image n NoImage
   unfolding tallyOf
-  tally-packets g e = rw (g, eq-eqb (length image) (sectorSize * n) e)
+  tally-bad-image g e = count-is NoImage (rw (g, ne-eqb (length image) (sectorSize * n) e))
+
+  pub tally-packets : {count : ℕ} → count ≡ packetCount image n → goodN n ≡ true → length image ≡ sectorSize * n → Count·Is image n (Packets count)
+  unfolding tallyOf
+  tally-packets {count} q g e = count-is (Packets count) (ap Packets q ∙ rw (g, eq-eqb (length image) (sectorSize * n) e))
 
 module _ (image : List ℕ) (n p : ℕ) where
   frame-length : goodN n ≡ true → length image ≡ sectorSize * n → p < packetCount image n → length (packetFrame image n p) ≡ sectorSize + 7
@@ -197,29 +203,31 @@ module _ (image : List ℕ) (n p : ℕ) where
       unfolding packetMade
       made-frame h q = rw (g, eq-eqb (length image) (sectorSize * n) e, le-leb room size h, lt-ltb p (packetCount image n) q) (ap Frame (sym (frame-length g e q)))
 
+  -- what is answered and what stands is all: what it says follows
+  packet-is : (before after : List ℕ) (m : Made) → m ≡ packetMade image n p (length before)
+      → after ≡ bufferAfter (packetMade image n p (length before)) before (packetFrame image n p) → Packet·Is image n p before m after
+  packet-is before after m e s = record { answered = e; says = ap madeSaid e ∙ packet-says image n p (length before); stands = s }
+
   -- a refusal changes nothing
-  pub packet-refused : (before : List ℕ) (m : Made) → m ≡ packetMade image n p (length before) → standing m before (packetFrame image n p) ≡ before → Packet·Is image n p before m before
-  packet-refused before m e s =
-      record { answered = e; stands = sym s ∙ ap (λ (x : Made). standing x before (packetFrame image n p)) e }
+  pub packet-refused : (before : List ℕ) (m : Made) → m ≡ packetMade image n p (length before) → bufferAfter m before (packetFrame image n p) ≡ before
+      → Packet·Is image n p before m before
+  packet-refused before m e s = packet-is before before m e (sym s ∙ ap (λ (x : Made). bufferAfter x before (packetFrame image n p)) e)
 
   pub packet-put :
-      (before after : List ℕ) (from sector : ℕ) (footer : Footer) → goodN n ≡ true → length image ≡ sectorSize * n → room ≤ length before → p < packetCount image n
-      → sector ≡ packetSector image n p → from ≡ sectorOffset sector → footer ≡ footerOf (packetCount image n) p
+      (before after : List ℕ) (from sector : ℕ) (footer : Footer) → goodN n ≡ true → length image ≡ sectorSize * n → room ≤ length before
+      → p < packetCount image n → sector ≡ packetSector image n p → from ≡ sectorOffset sector → footer ≡ footerOf (packetCount image n) p
       → after ≡ putWrite before sector (take (from + sectorSize - from) (drop from image)) footer
       → Packet·Is image n p before (Frame (sectorSize + 7)) after
   unfolding packetFrame
   packet-put before after from sector footer g e h q k o f a =
-      let s : Sent image n (packetSector image n p) = sent-in image n p q in
+      let number : ℕ = packetSector image n p in
+      let s : Sent image n number = sent-in image n p q in
       let m : Frame (sectorSize + 7) ≡ packetMade image n p (length before) = made-frame (length before) g e h q in
       let part : List ℕ = take (from + sectorSize - from) (drop from image) in
-      let b : part ≡ sectorOf image (packetSector image n p) =
-      lent-out image (packetSector image n p) from (o ∙ ap sectorOffset k ∙ sym (packet-offset image n p g q)) in
-      let l : length part ≡ sectorSize = ap length b ∙ sector-length image n e (packetSector image n p) (s .low) (s .high) in
-      record {
-        answered = m;
-        stands =
-            a
-            ∙ write-fits before sector part footer (omega arith)
-            ∙ ap (frontOf before) (ap₂ (λ (x : ℕ) (y : List ℕ). writeFrame x y footer) k b ∙ ap (writeFrame (packetSector image n p) (sectorOf image (packetSector image n p))) f)
-            ∙ ap (λ (x : Made). standing x before (packetFrame image n p)) m;
-      }
+      let b : part ≡ sectorOf image number = lent-out image number from (o ∙ ap sectorOffset k ∙ sym (packet-offset image n p g q)) in
+      let l : length part ≡ sectorSize = ap length b ∙ sector-length image n e number (s .low) (s .high) in
+      packet-is before after (Frame (sectorSize + 7)) m
+      (a
+      ∙ write-fits before sector part footer (omega arith)
+      ∙ ap (frontOf before) (ap₂ (λ (x : ℕ) (y : List ℕ). writeFrame x y footer) k b ∙ ap (writeFrame number (sectorOf image number)) f)
+      ∙ ap (λ (x : Made). bufferAfter x before (packetFrame image n p)) m)

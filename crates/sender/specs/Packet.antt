@@ -1,7 +1,7 @@
 -- The sector packets of an image (01, 'Hex text', "The sender sends, lowest first"; 'Frames').
 -- Assumes nothing.
 use mathlib.Core.Path.{_≡_}
-use mathlib.Core.Bool.{Bool, _&&_, cond}
+use mathlib.Core.Bool.{Bool, false, not, _&&_, cond}
 use mathlib.Core.List.{List, [], _∷_, _++_}
 use Prim.Native.Nat.{ℕ, zero, suc, _+_, _*_}
 use lib.Dec.{eqb, leb, ltb}
@@ -11,12 +11,13 @@ use Rattle.frame.specs.Frame.{writeFrame}
 use Rattle.frame.specs.declared.read.Footer.{Footer}
 use Rattle.frame.specs.declared.read.Footer.the-variants.{End, Continued}
 use Rattle.layout.specs.Layout.{sectorSize, goodN, sectorOf}
+use Rattle.layout.specs.Said.{Said, number, value}
 use Rattle.sender.specs.declared.made.Made.{Made}
 use Rattle.sender.specs.declared.made.Made.the-variants.{BadN, BadLength, PastLast, Frame}
 use Rattle.sender.specs.declared.packet.Seen.{Seen}
 use Rattle.sender.specs.declared.packet.Tally.{Tally}
 use Rattle.sender.specs.declared.packet.Tally.the-variants.{BadN as NoBank, BadLength as NoImage, Packets}
-use Rattle.sender.specs.Made.{room, standing}
+use Rattle.sender.specs.Made.{room, madeSaid, senderSays, bufferAfter}
 
 -- of the first k sectors those that have "a byte other than 0xFF", lowest first
 unfoldable pub sentOf : List ℕ → ℕ → List ℕ
@@ -52,22 +53,32 @@ packetMade image n p size =
     BadLength)
     BadN
 
+-- the same in the paper's numbers
+abbrev pub packetSays : List ℕ → ℕ → ℕ → ℕ → Said
+packetSays image n p size =
+    senderSays (not (goodN n)) (not (imageGood image n && leb room size)) (not (ltb p (packetCount image n))) (length (packetFrame image n p))
+
+-- 3, 2, and else how many
 unfoldable pub tallyOf : List ℕ → ℕ → Tally
 tallyOf image n = cond (goodN n) (cond (imageGood image n) (Packets (packetCount image n)) NoImage) NoBank
 
--- the paper's number of each answer, 0 where the packets were counted
-abbrev pub tallyNumber : Tally → ℕ
-tallyNumber NoBank = 3
-tallyNumber NoImage = 2
-tallyNumber (Packets n) = 0
+abbrev pub tallySaid : Tally → Said
+tallySaid NoBank = number 3
+tallySaid NoImage = number 2
+tallySaid (Packets n) = value n
+
+abbrev pub countSays : List ℕ → ℕ → Said
+countSays image n = senderSays (not (goodN n)) (not (imageGood image n)) false (packetCount image n)
 
 -- what is known when the first k sectors were looked at
 unfoldable pub seenOf : List ℕ → ℕ → ℕ → Seen
 seenOf image k p = record { count = packetCount image k; sector = packetSector image k p }
 
-abbrev pub Count·Is : List ℕ → ℕ → Tally → Type 0
-Count·Is image n r = r ≡ tallyOf image n
+pub record Count·Is (image : List ℕ) (n : ℕ) (r : Tally) : Type 0 where
+  pub answered : r ≡ tallyOf image n
+  pub says : tallySaid r ≡ countSays image n
 
 pub record Packet·Is (image : List ℕ) (n p : ℕ) (before : List ℕ) (r : Made) (after : List ℕ) : Type 0 where
   pub answered : r ≡ packetMade image n p (length before)
-  pub stands : after ≡ standing (packetMade image n p (length before)) before (packetFrame image n p)
+  pub says : madeSaid r ≡ packetSays image n p (length before)
+  pub stands : after ≡ bufferAfter (packetMade image n p (length before)) before (packetFrame image n p)

@@ -1,20 +1,37 @@
 // The requests, each a control frame.
 use crate::made::Made;
 use crate::made::ROOM;
+use commands::Command;
 use layout::Bank;
+ghost use mathlib.Core.Path.{_≡_};
 ghost use mathlib.Core.List.{[]};
 ghost use Prim.Native.Nat.{_≤_};
 ghost use lib.ListN.{length};
-ghost use Rattle.sender.specs.Request.{Control·Is, Request·Is};
+ghost use Rattle.commands.specs.Command.{requestCode};
+ghost use Rattle.sender.specs.Request.{CommandOf·Is, Control·Is, Request·Is};
 
 pub enum Request {
     ModeStart,
     BankInfo,
-    Version,
+    VersionInfo,
     // The whole of a bank of n sectors is to be written.
     WriteStart { bank: Bank, n: usize },
     WriteEnd,
     ModeEnd,
+}
+
+// The command that a request asks for.
+pub fn command_of(request: Request) -> Command
+    ensures { λ r. ⌜ CommandOf·Is request r ⌝ }
+{
+    match request {
+        Request::ModeStart => Command::ModeStart,
+        Request::BankInfo => Command::BankInfo,
+        Request::VersionInfo => Command::VersionInfo,
+        Request::WriteStart { bank: _, n: _ } => Command::WriteStart,
+        Request::WriteEnd => Command::WriteEnd,
+        Request::ModeEnd => Command::ModeEnd,
+    }
 }
 
 // A control frame, where there is room for the longest frame of the sender.
@@ -36,7 +53,8 @@ fn bare(code: u8, buffer: &mut [u8]) -> Made
     control(code, b"", buffer)
 }
 
-fn write_start(bank: Bank, n: usize, buffer: &mut [u8]) -> Made
+fn write_start(code: u8, bank: Bank, n: usize, buffer: &mut [u8]) -> Made
+    requires { ⌜ code ≡ requestCode Command.WriteStart ⌝ }
     ensures { λ r. ⌜ Request·Is (Request.WriteStart bank n) (now (buffer .entry)) r (now (buffer .exit)) ⌝ }
 {
     if !layout::good_n(n) {
@@ -45,18 +63,19 @@ fn write_start(bank: Bank, n: usize, buffer: &mut [u8]) -> Made
     let mut addresses = [0u8; 8];
     buffer::number::put_number4(&mut addresses, 0, layout::start_address(bank));
     buffer::number::put_number4(&mut addresses, 4, layout::end_address(bank, n));
-    control(0x40, &addresses, buffer)
+    control(code, &addresses, buffer)
 }
 
 pub fn make(request: Request, buffer: &mut [u8]) -> Made
     ensures { λ r. ⌜ Request·Is request (now (buffer .entry)) r (now (buffer .exit)) ⌝ }
 {
+    let code = commands::request_code(command_of(request));
     match request {
-        Request::ModeStart => bare(0x61, buffer),
-        Request::BankInfo => bare(0x62, buffer),
-        Request::Version => bare(0x68, buffer),
-        Request::WriteStart { bank, n } => write_start(bank, n, buffer),
-        Request::WriteEnd => bare(0x45, buffer),
-        Request::ModeEnd => bare(0x64, buffer),
+        Request::ModeStart => bare(code, buffer),
+        Request::BankInfo => bare(code, buffer),
+        Request::VersionInfo => bare(code, buffer),
+        Request::WriteStart { bank, n } => write_start(code, bank, n, buffer),
+        Request::WriteEnd => bare(code, buffer),
+        Request::ModeEnd => bare(code, buffer),
     }
 }

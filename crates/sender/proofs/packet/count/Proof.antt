@@ -1,10 +1,9 @@
 -- `sender::packet::count` meets its contract: each way out is a case of the definition.
 -- Assumes nothing.
-use mathlib.Core.Path.{sym, ap, _∙_}
+use mathlib.Core.Path.{sym, _∙_}
 use native.Mathlib.Omega.{arith}
 use borrow.Author.Tests.{not-true, not-false}
 use Rattle.layout.proofs.Layouts.{good-high}
-use Rattle.sender.specs.declared.packet.Tally.the-variants.{Packets}
 use Rattle.sender.proofs.Packets.{seen-count, tally-bad-n, tally-bad-image, tally-packets}
 use borrow.Author.Needs.{needs}
 use Rattle.sender.proofs.packet.count.Statement.{statement}
@@ -23,10 +22,12 @@ returns-2 : tie.Need-returns-2
 returns-2 c = tally-bad-image _ _ (sym (c .before .before .good-n .ensures) ∙ not-false _ (c .before .if1 .left)) (c .if2 .taken)
 
 survey-requires : tie.Need-survey-requires
-survey-requires c κs = ((sym (c .before .before .good-n .ensures) ∙ not-false _ (c .before .if1 .left)), (c .if2 .left))
+survey-requires c κs = (sym (c .before .before .good-n .ensures) ∙ not-false _ (c .before .if1 .left), (c .if2 .left))
 
 returns-3 : tie.Need-returns-3
-returns-3 c = ap Packets (seen-count (c .before .before .before .before .before .args .image .now) 0 (c .before .before .before .before .before .args .n) _ (c .survey .ensures)) ∙ tally-packets _ _ (sym (c .before .before .before .good-n .ensures) ∙ not-false _ (c .before .before .if1 .left)) (c .before .if2 .left)
+returns-3 c =
+    let args = c .before .before .before .before .before .args in
+    tally-packets _ _ (seen-count (args .image .now) 0 (args .n) _ (c .survey .ensures)) (sym (c .before .before .before .good-n .ensures) ∙ not-false _ (c .before .before .if1 .left)) (c .before .if2 .left)
 
 pub count-spec : {M : Type 1} → statement M
 count-spec =

@@ -6,7 +6,18 @@ use native.Mathlib.Omega.{arith}
 use borrow.Author.Tests.{not-true, not-false}
 use Rattle.layout.proofs.Layouts.{good-high}
 use Rattle.sender.specs.Packet.{footerOf}
-use Rattle.sender.proofs.Packets.{seen-count, seen-sector, packet-end, packet-small, made-bad-n, made-bad-image, made-no-room, made-past, packet-refused, packet-put}
+use Rattle.sender.proofs.Packets.{
+  seen-count,
+  seen-sector,
+  packet-end,
+  packet-small,
+  made-bad-n,
+  made-bad-image,
+  made-no-room,
+  made-past,
+  packet-refused,
+  packet-put,
+}
 use borrow.Author.Needs.{needs}
 use Rattle.sender.proofs.packet.packet.Statement.{statement}
 use Rattle.sender.proofs.packet.packet.Tie as tie
@@ -27,19 +38,40 @@ returns-3 : tie.Need-returns-3
 returns-3 c = packet-refused _ _ _ _ _ (made-no-room _ _ _ _ (sym (c .before .before .before .good-n .ensures) ∙ not-false _ (c .before .before .if1 .left)) (c .before .if2 .left) (omega arith)) refl
 
 survey-requires : tie.Need-survey-requires
-survey-requires c κs = ((sym (c .before .before .before .good-n .ensures) ∙ not-false _ (c .before .before .if1 .left)), (c .before .if2 .left))
+survey-requires c κs = (sym (c .before .before .before .good-n .ensures) ∙ not-false _ (c .before .before .if1 .left), (c .before .if2 .left))
 
 returns-4 : tie.Need-returns-4
-returns-4 c = packet-refused _ _ _ _ _ (made-past _ _ _ _ (sym (c .before .before .before .before .before .before .good-n .ensures) ∙ not-false _ (c .before .before .before .before .before .if1 .left)) (c .before .before .before .before .if2 .left) (omega arith) (omega (arith, seen-count (c .before .before .before .before .before .before .before .before .before .args .image .now) (c .before .before .before .before .before .before .before .before .before .args .p) (c .before .before .before .before .before .before .before .before .before .args .n) _ (c .before .before .survey .ensures)))) refl
+returns-4 c =
+    let if1 = c .before .before .before .before .before .if1 in
+    let good-n = c .before .before .before .before .before .before .good-n in
+    let args = c .before .before .before .before .before .before .before .before .before .args in
+    let good = sym (good-n .ensures) ∙ not-false _ (if1 .left) in
+    let counted = seen-count (args .image .now) (args .p) (args .n) _ (c .before .before .survey .ensures) in
+    packet-refused _ _ _ _ _ (made-past _ _ _ _ good (c .before .before .before .before .if2 .left) (omega arith) (omega arith)) refl
 
 sector-offset-requires : tie.Need-sector-offset-requires
 sector-offset-requires c κs = search needs
 
 add-to : tie.Need-add-to
-add-to c = omega (arith, packet-end (c .before .before .before .before .before .before .before .before .before .before .args .image .now) (c .before .before .before .before .before .before .before .before .before .before .args .n) (c .before .before .before .before .before .before .before .before .before .before .args .p) (sym (c .before .before .before .before .before .before .before .good-n .ensures) ∙ not-false _ (c .before .before .before .before .before .before .if1 .left)) (c .before .before .before .before .before .if2 .left) _ (omega (arith, seen-count (c .before .before .before .before .before .before .before .before .before .before .args .image .now) (c .before .before .before .before .before .before .before .before .before .before .args .p) (c .before .before .before .before .before .before .before .before .before .before .args .n) _ (c .before .before .before .survey .ensures))) (seen-sector (c .before .before .before .before .before .before .before .before .before .before .args .image .now) (c .before .before .before .before .before .before .before .before .before .before .args .p) (c .before .before .before .before .before .before .before .before .before .before .args .n) _ (c .before .before .before .survey .ensures)), (c .sector-offset .ensures))
+add-to c =
+    let if2 = c .before .before .before .before .before .if2 in
+    let if1 = c .before .before .before .before .before .before .if1 in
+    let good-n = c .before .before .before .before .before .before .before .good-n in
+    let args = c .before .before .before .before .before .before .before .before .before .before .args in
+    let good = sym (good-n .ensures) ∙ not-false _ (if1 .left) in
+    let counted = seen-count (args .image .now) (args .p) (args .n) _ (c .before .before .before .survey .ensures) in
+    let found = seen-sector (args .image .now) (args .p) (args .n) _ (c .before .before .before .survey .ensures) in
+    omega (arith, packet-end (args .image .now) (args .n) (args .p) good (if2 .left) _ (omega arith) found, (c .sector-offset .ensures))
 
 cast-sector : tie.Need-cast-sector
-cast-sector c = omega (arith, packet-small (c .before .before .before .before .before .before .before .before .before .before .before .args .image .now) (c .before .before .before .before .before .before .before .before .before .before .before .args .n) (c .before .before .before .before .before .before .before .before .before .before .before .args .p) (sym (c .before .before .before .before .before .before .before .before .good-n .ensures) ∙ not-false _ (c .before .before .before .before .before .before .before .if1 .left)) _ (omega (arith, seen-count (c .before .before .before .before .before .before .before .before .before .before .before .args .image .now) (c .before .before .before .before .before .before .before .before .before .before .before .args .p) (c .before .before .before .before .before .before .before .before .before .before .before .args .n) _ (c .before .before .before .before .survey .ensures))) (seen-sector (c .before .before .before .before .before .before .before .before .before .before .before .args .image .now) (c .before .before .before .before .before .before .before .before .before .before .before .args .p) (c .before .before .before .before .before .before .before .before .before .before .before .args .n) _ (c .before .before .before .before .survey .ensures)))
+cast-sector c =
+    let if1 = c .before .before .before .before .before .before .before .if1 in
+    let good-n = c .before .before .before .before .before .before .before .before .good-n in
+    let args = c .before .before .before .before .before .before .before .before .before .before .before .args in
+    let good = sym (good-n .ensures) ∙ not-false _ (if1 .left) in
+    let counted = seen-count (args .image .now) (args .p) (args .n) _ (c .before .before .before .before .survey .ensures) in
+    let found = seen-sector (args .image .now) (args .p) (args .n) _ (c .before .before .before .before .survey .ensures) in
+    omega (arith, packet-small (args .image .now) (args .n) (args .p) good _ (omega arith) found)
 
 sub-put-write : tie.Need-sub-put-write
 sub-put-write c = search needs
@@ -48,7 +80,16 @@ part-put-write-start : tie.Need-part-put-write-start
 part-put-write-start c = search needs
 
 part-put-write-end : tie.Need-part-put-write-end
-part-put-write-end c = omega (arith, packet-end (c .before .before .before .before .before .before .before .before .before .before .before .before .args .image .now) (c .before .before .before .before .before .before .before .before .before .before .before .before .args .n) (c .before .before .before .before .before .before .before .before .before .before .before .before .args .p) (sym (c .before .before .before .before .before .before .before .before .before .good-n .ensures) ∙ not-false _ (c .before .before .before .before .before .before .before .before .if1 .left)) (c .before .before .before .before .before .before .before .if2 .left) _ (omega (arith, seen-count (c .before .before .before .before .before .before .before .before .before .before .before .before .args .image .now) (c .before .before .before .before .before .before .before .before .before .before .before .before .args .p) (c .before .before .before .before .before .before .before .before .before .before .before .before .args .n) _ (c .before .before .before .before .before .survey .ensures))) (seen-sector (c .before .before .before .before .before .before .before .before .before .before .before .before .args .image .now) (c .before .before .before .before .before .before .before .before .before .before .before .before .args .p) (c .before .before .before .before .before .before .before .before .before .before .before .before .args .n) _ (c .before .before .before .before .before .survey .ensures)), (c .before .before .sector-offset .ensures))
+part-put-write-end c =
+    let survey = c .before .before .before .before .before .survey in
+    let if2 = c .before .before .before .before .before .before .before .if2 in
+    let if1 = c .before .before .before .before .before .before .before .before .if1 in
+    let good-n = c .before .before .before .before .before .before .before .before .before .good-n in
+    let args = c .before .before .before .before .before .before .before .before .before .before .before .before .args in
+    let good = sym (good-n .ensures) ∙ not-false _ (if1 .left) in
+    let counted = seen-count (args .image .now) (args .p) (args .n) _ (survey .ensures) in
+    let found = seen-sector (args .image .now) (args .p) (args .n) _ (survey .ensures) in
+    omega (arith, packet-end (args .image .now) (args .n) (args .p) good (if2 .left) _ (omega arith) found, (c .before .before .sector-offset .ensures))
 
 footer-requires : tie.Need-footer-requires
 footer-requires c κs = search needs
@@ -63,7 +104,19 @@ same-length : tie.Need-same-length
 same-length c = search needs
 
 returns-5 : tie.Need-returns-5
-returns-5 c = packet-put _ _ _ _ _ _ _ _ (sym (c .before .before .before .before .before .before .before .before .before .before .before .before .before .before .good-n .ensures) ∙ not-false _ (c .before .before .before .before .before .before .before .before .before .before .before .before .before .if1 .left)) (c .before .before .before .before .before .before .before .before .before .before .before .before .if2 .left) (omega arith) (omega (arith, seen-count (c .before .before .before .before .before .before .before .before .before .before .before .before .before .before .before .before .before .args .image .now) (c .before .before .before .before .before .before .before .before .before .before .before .before .before .before .before .before .before .args .p) (c .before .before .before .before .before .before .before .before .before .before .before .before .before .before .before .before .before .args .n) _ (c .before .before .before .before .before .before .before .before .before .before .survey .ensures))) (seen-sector (c .before .before .before .before .before .before .before .before .before .before .before .before .before .before .before .before .before .args .image .now) (c .before .before .before .before .before .before .before .before .before .before .before .before .before .before .before .before .before .args .p) (c .before .before .before .before .before .before .before .before .before .before .before .before .before .before .before .before .before .args .n) _ (c .before .before .before .before .before .before .before .before .before .before .survey .ensures)) (c .before .before .before .before .before .before .before .sector-offset .ensures) ((c .before .before .before .footer .ensures) ∙ ap (λ (x : ℕ). footerOf x (c .before .before .before .before .before .before .before .before .before .before .before .before .before .before .before .before .before .args .p)) (seen-count (c .before .before .before .before .before .before .before .before .before .before .before .before .before .before .before .before .before .args .image .now) (c .before .before .before .before .before .before .before .before .before .before .before .before .before .before .before .before .before .args .p) (c .before .before .before .before .before .before .before .before .before .before .before .before .before .before .before .before .before .args .n) _ (c .before .before .before .before .before .before .before .before .before .before .survey .ensures))) (c .before .before .put-write .ensures)
+returns-5 c =
+    let sector-offset = c .before .before .before .before .before .before .before .sector-offset in
+    let survey = c .before .before .before .before .before .before .before .before .before .before .survey in
+    let if2 = c .before .before .before .before .before .before .before .before .before .before .before .before .if2 in
+    let c10 = c .before .before .before .before .before .before .before .before .before .before in
+    let if1 = c10 .before .before .before .if1 in
+    let good-n = c10 .before .before .before .before .good-n in
+    let args = c10 .before .before .before .before .before .before .before .args in
+    let good = sym (good-n .ensures) ∙ not-false _ (if1 .left) in
+    let counted = seen-count (args .image .now) (args .p) (args .n) _ (survey .ensures) in
+    let found = seen-sector (args .image .now) (args .p) (args .n) _ (survey .ensures) in
+    let last = (c .before .before .before .footer .ensures) ∙ ap (λ (x : ℕ). footerOf x (args .p)) counted in
+    packet-put _ _ _ _ _ _ _ _ good (if2 .left) (omega arith) (omega arith) found (sector-offset .ensures) last (c .before .before .put-write .ensures)
 
 pub packet-spec : {M : Type 1} → statement M
 packet-spec =

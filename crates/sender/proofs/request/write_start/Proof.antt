@@ -1,13 +1,9 @@
 -- `sender::request::write_start` meets its contract: the parameters are the two addresses.
 -- Assumes nothing.
-use mathlib.Core.Path.{refl, sym, ap, ap₂, _∙_}
-use mathlib.Core.List.{List, _++_}
-use Prim.Native.Nat.{ℕ}
+use mathlib.Core.Path.{refl, sym, _∙_}
 use borrow.Author.Tests.{not-true, not-false}
-use Rattle.buffer.specs.Number.{bytesOf}
-use Rattle.buffer.specs.Place.{placeOf}
 use Rattle.sender.specs.declared.request.Request.the-variants.{WriteStart}
-use Rattle.sender.proofs.Making.{request-control, start-refused, two-numbers}
+use Rattle.sender.proofs.Making.{request-control, start-refused, start-parameters}
 use borrow.Author.Needs.{needs}
 use Rattle.sender.proofs.request.write_start.Statement.{statement}
 use Rattle.sender.proofs.request.write_start.Tie as tie
@@ -47,12 +43,17 @@ same-length c = search needs
 
 returns-2 : tie.Need-returns-2
 returns-2 c =
-    request-control (WriteStart _ _) refl (sym (c .before .before .before .before .before .before .before .before .before .before .before .before .before .before .good-n .ensures) ∙ not-false _ (c .before .before .before .before .before .before .before .before .before .before .before .before .before .if1 .left))
-    ((c .before .before .before .before .before .before .put-number42 .ensures)
-    ∙ ap (λ (l : List ℕ). placeOf l 4 (bytesOf 4 (c .before .before .before .before .before .before .before .end-address .result))) (c .before .before .before .before .before .before .before .before .before .before .put-number4 .ensures)
-    ∙ two-numbers _ _ _ refl refl refl
-    ∙ ap₂ (λ (x y : ℕ). bytesOf 4 x ++ bytesOf 4 y) (c .before .before .before .before .before .before .before .before .before .before .before .start-address .ensures) (c .before .before .before .before .before .before .before .end-address .ensures))
-    (c .before .before .control .ensures)
+    let put-number42 = c .before .before .before .before .before .before .put-number42 in
+    let end-address = c .before .before .before .before .before .before .before .end-address in
+    let put-number4 = c .before .before .before .before .before .before .before .before .before .before .put-number4 in
+    let start-address = c .before .before .before .before .before .before .before .before .before .before .before .start-address in
+    let c10 = c .before .before .before .before .before .before .before .before .before .before in
+    let if1 = c10 .before .before .before .if1 in
+    let good-n = c10 .before .before .before .before .good-n in
+    let args = c10 .before .before .before .before .before .before .args in
+    let pre = c10 .before .before .before .before .before .before .pre in
+    let put = start-parameters (args .bank) (args .n) _ refl refl refl (put-number4 .ensures) (put-number42 .ensures) (start-address .ensures) (end-address .ensures) in
+    request-control (WriteStart _ _) (sym (good-n .ensures) ∙ not-false _ (if1 .left)) (pre) put (c .before .before .control .ensures)
 
 pub write-start-spec : {M : Type 1} → statement M
 write-start-spec =
