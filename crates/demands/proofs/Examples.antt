@@ -29,7 +29,8 @@ use Rattle.layout.specs.Layout.{sectorSize, goodN, endOf, sectorOf}
 use Rattle.lines.specs.Line.{lines}
 use Rattle.hex.specs.declared.fault.Kind.the-variants.{H6}
 use Rattle.hex.specs.declared.read.Answer.the-variants.{Refused, Accepted}
-use Rattle.hex.specs.Digit.{digitOf, isDigit, byteOf}
+use Rattle.digits.specs.Digit.{valueOf, isDigit}
+use Rattle.hex.specs.Digit.{byteOf}
 use Rattle.hex.specs.Digit.{bytesOf as digitsOf}
 use Rattle.hex.specs.Record.{digitsIn, digitsWhole, recordOf, total, dataAt, typed, foundOf}
 use Rattle.hex.specs.Read.{readLines}
@@ -293,7 +294,7 @@ module _ (bank : Bank) (n : ℕ) (image : List ℕ) (g : goodN n ≡ true) (e : 
   example-10 = rw (g, eq-eqb (length image) (sectorSize * n) e)
 
   example-10-end : readText (0x3A ∷ 48 ∷ 48 ∷ 48 ∷ 48 ∷ 48 ∷ 48 ∷ 48 ∷ 49 ∷ 70 ∷ 70 ∷ []) bank n image .answer ≡ Accepted
-  unfolding readText readLines lines foundOf recordOf digitsWhole digitsIn typed dataAt digitsOf byteOf isDigit digitOf total
+  unfolding readText readLines lines foundOf recordOf digitsWhole digitsIn typed dataAt digitsOf byteOf isDigit valueOf total
   example-10-end = rw (g, eq-eqb (length image) (sectorSize * n) e)
 
 pub examples : Examples

@@ -19,7 +19,8 @@ use Rattle.hex.specs.declared.read.Outcome.{Outcome}
 use Rattle.hex.specs.declared.read.Outcome.the-variants.{Stopped, Through}
 use Rattle.hex.specs.declared.record.Found.{Found}
 use Rattle.hex.specs.declared.record.Found.the-variants.{Fault, Data, Upper, End, Other}
-use Rattle.hex.specs.Digit.{digitOf, isDigit, byteOf}
+use Rattle.digits.specs.Digit.{valueOf, isDigit}
+use Rattle.hex.specs.Digit.{byteOf}
 use Rattle.hex.specs.Digit.{bytesOf as digitsOf}
 use Rattle.hex.specs.Meaning.{stateAt, saysAt, Faulted, at-line, past-the-last}
 use Rattle.hex.specs.Read.{fresh, answerOf, readLines, readOf}
@@ -77,11 +78,11 @@ unfolding two-lines lines
 two = refl
 
 line-1 : says 0 ≡ End
-unfolding two-lines lines stateAt foundOf recordOf digitsWhole digitsIn typed dataAt digitsOf byteOf isDigit digitOf total
+unfolding two-lines lines stateAt foundOf recordOf digitsWhole digitsIn typed dataAt digitsOf byteOf isDigit valueOf total
 line-1 = refl
 
 line-2 : says 1 ≡ Fault H6
-unfolding two-lines lines stateAt foundOf recordOf digitsWhole digitsIn typed dataAt digitsOf byteOf isDigit digitOf total
+unfolding two-lines lines stateAt foundOf recordOf digitsWhole digitsIn typed dataAt digitsOf byteOf isDigit valueOf total
 line-2 = refl
 
 abbrev isFault : Found → Bool

@@ -7,25 +7,14 @@ use Prim.Native.Nat.{ℕ, zero, suc, _+_, _-_, _*_, _%_, _<_, _≤_}
 use native.Mathlib.Nat.{add-assoc, add-zero}
 use native.Mathlib.Numerals.{add-one}
 use native.Mathlib.Omega.{arith}
-use lib.Dec.{leb}
 use lib.ListN.{getD, set}
 use lib.Seq.{sets}
-use borrow.Author.Tests.{lt-ltb, le-ltb, ltb-true, leb-true}
+use borrow.Author.Tests.{lt-ltb, le-ltb, ltb-true}
 use Rattle.buffer.proofs.Bools.{and-left, and-right}
-use Rattle.hex.specs.Digit.{digitOf, isDigit, byteOf}
+use Rattle.digits.specs.Digit.{valueOf, isDigit}
+use Rattle.hex.specs.Digit.{byteOf}
 use Rattle.hex.specs.Record.{total}
 use Rattle.hex.specs.Places.{pairAt, pairByte, bytesAt, allBytes, checkFrom}
-
--- ---- a digit, by the range in which it lies
-
--- a number is counted from 0 on
-pub digit-is : (c : ℕ) → cond (leb 0x30 c && leb c 0x39) (c - 0x30 + 0) (cond (leb 0x41 c && leb c 0x46) (c - 0x41 + 10) (cond (leb 0x61 c && leb c 0x66) (c - 0x61 + 10) 16)) ≡ digitOf c
-unfolding digitOf
-digit-is c = rw (add-zero (c - 0x30))
-
--- a number between two others, by the joined test
-pub in-range : (a b c : ℕ) → (leb a c && leb c b) ≡ true → (a ≤ c) × (c ≤ b)
-in-range a b c e = (leb-true a c (and-left (leb a c) (leb c b) e), leb-true c b (and-right (leb a c) (leb c b) e))
 
 -- ---- two digits
 
@@ -35,19 +24,19 @@ module _ (a b : ℕ) where
   pair-none e = rw e
 
   module _ (e : (isDigit a && isDigit b) ≡ true) where
-    first-small : digitOf a < 16
+    first-small : valueOf a < 16
     unfolding isDigit
-    first-small = ltb-true (digitOf a) 16 (and-left (isDigit a) (isDigit b) e)
+    first-small = ltb-true (valueOf a) 16 (and-left (isDigit a) (isDigit b) e)
 
-    second-small : digitOf b < 16
+    second-small : valueOf b < 16
     unfolding isDigit
-    second-small = ltb-true (digitOf b) 16 (and-right (isDigit a) (isDigit b) e)
+    second-small = ltb-true (valueOf b) 16 (and-right (isDigit a) (isDigit b) e)
 
-    spelled : byteOf a b ≡ digitOf a * 16 + digitOf b
+    spelled : byteOf a b ≡ valueOf a * 16 + valueOf b
     unfolding byteOf
     spelled = rw e
 
-    pub pair-is : digitOf a % 16 * 16 + digitOf b % 16 ≡ byteOf a b
+    pub pair-is : valueOf a % 16 * 16 + valueOf b % 16 ≡ byteOf a b
     pair-is = let p = first-small in let q = second-small in let s = spelled in omega arith
 
     pub pair-small : byteOf a b < 256

@@ -9,7 +9,8 @@ use Rattle.layout.specs.Layout.{goodN}
 use Rattle.lines.specs.Line.{lines}
 use Rattle.hex.specs.declared.fault.Kind.the-variants.{H1}
 use Rattle.hex.specs.declared.read.Answer.the-variants.{Refused}
-use Rattle.hex.specs.Digit.{digitOf, isDigit, byteOf, bytesOf}
+use Rattle.digits.specs.Digit.{valueOf, isDigit}
+use Rattle.hex.specs.Digit.{byteOf, bytesOf}
 use Rattle.hex.specs.Record.{Broken, digitsIn, digitsWhole, recordOf, foundOf}
 use Rattle.hex.specs.Read.{Reading, readLines, readOf}
 
@@ -24,9 +25,9 @@ blank-line = refl
 
 -- the first byte that does not belong: behind `:00`, and a CR behind the end record
 pub stops-early : recordOf (0x3A ∷ 48 ∷ 48 ∷ []) ≡ Broken 4
-unfolding recordOf digitsWhole digitsIn bytesOf byteOf isDigit digitOf
+unfolding recordOf digitsWhole digitsIn bytesOf byteOf isDigit valueOf
 stops-early = refl
 
 pub cr-behind : recordOf (0x3A ∷ 48 ∷ 48 ∷ 48 ∷ 48 ∷ 48 ∷ 48 ∷ 48 ∷ 49 ∷ 70 ∷ 70 ∷ 0x0D ∷ []) ≡ Broken 12
-unfolding recordOf digitsWhole digitsIn bytesOf byteOf isDigit digitOf
+unfolding recordOf digitsWhole digitsIn bytesOf byteOf isDigit valueOf
 cr-behind = refl

@@ -19,7 +19,8 @@ use Rattle.hex.specs.declared.fault.Kind.the-variants.{H1, H2, H3, H4, H
 use Rattle.hex.specs.declared.record.State.{State}
 use Rattle.hex.specs.declared.record.Found.{Found}
 use Rattle.hex.specs.declared.record.Found.the-variants.{Fault, Data, Upper, End, Other}
-use Rattle.hex.specs.Digit.{isDigit, byteOf, bytesOf}
+use Rattle.digits.specs.Digit.{isDigit}
+use Rattle.hex.specs.Digit.{byteOf, bytesOf}
 use Rattle.hex.specs.Record.{Whole, digitsIn, countOf, addressOf, typeOf, dataOf, dueOf, digitsWhole, recordOf, total, inBank, dataAt, typed, says, foundOf}
 use Rattle.hex.specs.Places.{bytesAt, allBytes, checkFrom, Looked}
 use Rattle.hex.proofs.Digits.{pair-small, pair-so}

@@ -14,7 +14,8 @@ use Rattle.hex.specs.declared.read.Outcome.{Outcome}
 use Rattle.hex.specs.declared.read.Outcome.the-variants.{Stopped, Through}
 use Rattle.hex.specs.declared.read.Step.{Step}
 use Rattle.hex.specs.declared.read.Step.the-variants.{Stop, On}
-use Rattle.hex.specs.Digit.{isDigit, byteOf, bytesOf}
+use Rattle.digits.specs.Digit.{isDigit}
+use Rattle.hex.specs.Digit.{byteOf, bytesOf}
 use Rattle.hex.specs.Record.{total, dataOf, foundOf}
 use Rattle.hex.specs.Read.{stateAfter, imageAfter, Done}
 

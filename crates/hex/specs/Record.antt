@@ -9,7 +9,8 @@ use Rattle.hex.specs.declared.fault.Kind.the-variants.{H1, H2, H3, H4, H
 use Rattle.hex.specs.declared.record.State.{State}
 use Rattle.hex.specs.declared.record.Found.{Found}
 use Rattle.hex.specs.declared.record.Found.the-variants.{Fault, Data, Upper, End, Other}
-use Rattle.hex.specs.Digit.{isDigit, bytesOf}
+use Rattle.digits.specs.Digit.{isDigit}
+use Rattle.hex.specs.Digit.{bytesOf}
 
 -- A LINE, READ FROM LEFT TO RIGHT: a whole record's bytes, or the place, counted from 1, of the first byte that does not belong. A line
 -- that stops early has that place one past its end.
