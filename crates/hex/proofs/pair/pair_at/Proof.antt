@@ -1,9 +1,9 @@
--- `hex::digit::pair_at` meets its contract.
+-- `hex::pair::pair_at` meets its contract.
 -- Assumes nothing.
 use Rattle.digits.specs.Digit.{isDigit}
 use borrow.Author.Needs.{needs}
-use Rattle.hex.proofs.digit.pair_at.Statement.{statement}
-use Rattle.hex.proofs.digit.pair_at.Tie as tie
+use Rattle.hex.proofs.pair.pair_at.Statement.{statement}
+use Rattle.hex.proofs.pair.pair_at.Tie as tie
 
 shared-slice-read-value : tie.Need-shared-slice-read-value
 shared-slice-read-value c = search needs

@@ -1,11 +1,11 @@
--- `hex::digit::value_at` meets its contract: of two digits the rests modulo 16 are their values.
+-- `hex::pair::value_at` meets its contract: of two digits the rests modulo 16 are their values.
 -- Assumes nothing.
 use Prim.Native.Nat.{_+_}
 use lib.ListN.{getD}
-use Rattle.hex.proofs.Digits.{pair-is}
+use Rattle.hex.proofs.Pairs.{pair-is}
 use borrow.Author.Needs.{needs}
-use Rattle.hex.proofs.digit.value_at.Statement.{statement}
-use Rattle.hex.proofs.digit.value_at.Tie as tie
+use Rattle.hex.proofs.pair.value_at.Statement.{statement}
+use Rattle.hex.proofs.pair.value_at.Tie as tie
 
 shared-slice-read-value : tie.Need-shared-slice-read-value
 shared-slice-read-value c = search needs

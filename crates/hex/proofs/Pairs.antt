@@ -1,4 +1,4 @@
--- Digits, the bytes that two of them spell, and sums of such bytes, by their positions in a text.
+-- Pairs of digits, the bytes that they spell, and sums of such bytes, by their positions in a line.
 -- Assumes nothing.
 use mathlib.Core.Path.{_≡_, refl, sym, _∙_}
 use mathlib.Core.List.{List, _∷_}
@@ -12,7 +12,7 @@ use lib.Seq.{sets}
 use borrow.Author.Tests.{lt-ltb, le-ltb, ltb-true}
 use Rattle.buffer.proofs.Bools.{and-left, and-right}
 use Rattle.digits.specs.Digit.{valueOf, isDigit}
-use Rattle.hex.specs.Digit.{byteOf}
+use Rattle.hex.specs.Spell.{byteOf}
 use Rattle.hex.specs.Record.{total}
 use Rattle.hex.specs.Places.{pairAt, pairByte, bytesAt, allBytes, checkFrom}
 
@@ -24,15 +24,15 @@ module _ (a b : ℕ) where
   pair-none e = rw e
 
   module _ (e : (isDigit a && isDigit b) ≡ true) where
-    first-small : valueOf a < 16
+    pub first-small : valueOf a < 16
     unfolding isDigit
     first-small = ltb-true (valueOf a) 16 (and-left (isDigit a) (isDigit b) e)
 
-    second-small : valueOf b < 16
+    pub second-small : valueOf b < 16
     unfolding isDigit
     second-small = ltb-true (valueOf b) 16 (and-right (isDigit a) (isDigit b) e)
 
-    spelled : byteOf a b ≡ valueOf a * 16 + valueOf b
+    pub spelled : byteOf a b ≡ valueOf a * 16 + valueOf b
     unfolding byteOf
     spelled = rw e
 
@@ -41,6 +41,10 @@ module _ (a b : ℕ) where
 
     pub pair-small : byteOf a b < 256
     pair-small = let p = first-small in let q = second-small in let s = spelled in omega arith
+
+  pub two-digits : valueOf a < 16 → valueOf b < 16 → (isDigit a && isDigit b) ≡ true
+  unfolding isDigit
+  two-digits p q = rw (lt-ltb (valueOf a) 16 p, lt-ltb (valueOf b) 16 q)
 
   pub pair-so : byteOf a b < 256 → (isDigit a && isDigit b) ≡ true
   pair-so h = by (isDigit a && isDigit b) refl
@@ -56,7 +60,9 @@ unfolding bytesAt
 bytes-one t p zero h = absurd (omega arith)
 bytes-one t p (suc k) h = let e : suc k - 1 ≡ k = omega arith in rw e
 
-check-goes : (s : ℕ) (t : List ℕ) (p k : ℕ) → 0 < k → pairByte t p < 256 → checkFrom s (bytesAt t p k) ≡ checkFrom (s + pairByte t p) (bytesAt t (p + 2) (k - 1))
+check-goes :
+    (s : ℕ) (t : List ℕ) (p k : ℕ) → 0 < k → pairByte t p < 256
+    → checkFrom s (bytesAt t p k) ≡ checkFrom (s + pairByte t p) (bytesAt t (p + 2) (k - 1))
 unfolding checkFrom total allBytes
 check-goes s t p k h b = rw (bytes-one t p k h) (simp (lt-ltb _ _ b, add-assoc))
 
@@ -80,10 +86,13 @@ check-step false g s b t p k h e f = refl
 check-step true false s b t p k h e f = check-stops s t p k h (rw (pair-none (getD t p 0) (getD t (p + 1) 0) (sym e)) (omega arith))
 check-step true true s b t p k h e f =
     let i = f (sym e) in
-    check-goes s t p k h (pair-small (getD t p 0) (getD t (p + 1) 0) (sym e)) ∙ rw (sym i) (sym (check-mod (s + b) (bytesAt t (p + 2) (k - 1))))
+    check-goes s t p k h (pair-small (getD t p 0) (getD t (p + 1) 0) (sym e))
+    ∙ rw (sym i) (sym (check-mod (s + b) (bytesAt t (p + 2) (k - 1))))
 
 -- one byte more is stored
-sets-one : (l : List ℕ) (a : ℕ) (t : List ℕ) (p k : ℕ) → 0 < k → sets l a (bytesAt t p k) ≡ sets (set l a (pairByte t p)) (a + 1) (bytesAt t (p + 2) (k - 1))
+sets-one :
+    (l : List ℕ) (a : ℕ) (t : List ℕ) (p k : ℕ) → 0 < k
+    → sets l a (bytesAt t p k) ≡ sets (set l a (pairByte t p)) (a + 1) (bytesAt t (p + 2) (k - 1))
 sets-one l a t p k h = rw (add-one a, bytes-one t p k h)
 
 pub sets-none : (l : List ℕ) (a : ℕ) (t : List ℕ) (p : ℕ) → sets l a (bytesAt t p 0) ≡ l
