@@ -41,6 +41,8 @@ determined =
       sector-offset = λ k. once _;
       check = λ bank. once _;
       body = λ bank i. once _;
+      value = λ byte. once _;
+      digit = λ value. once _;
       ahead = λ text at. once _;
       reader-at = λ text at r s p q. λ k. record { text = (p .text-is ∙ sym (q .text-is)) k; at = (p .at-is ∙ sym (q .at-is)) k };
       next-line = λ reader. once _;

@@ -29,11 +29,10 @@ use Rattle.layout.specs.Layout.{sectorSize, goodN, endOf, sectorOf}
 use Rattle.lines.specs.Line.{lines}
 use Rattle.hex.specs.declared.fault.Kind.the-variants.{H6}
 use Rattle.hex.specs.declared.read.Answer.the-variants.{Refused, Accepted}
-use Rattle.hex.specs.Digit.{digitOf, isDigit, byteOf}
-use Rattle.hex.specs.Digit.{bytesOf as digitsOf}
+use Rattle.digits.specs.Digit.{valueOf, isDigit}
+use Rattle.hex.specs.Spell.{byteOf, digitBytes}
 use Rattle.hex.specs.Record.{digitsIn, digitsWhole, recordOf, total, dataAt, typed, foundOf}
-use Rattle.hex.specs.Read.{readLines}
-use Rattle.hex.specs.Read.{readOf as readText}
+use Rattle.hex.specs.Read.{readLines, textRead}
 use Rattle.exchange.specs.declared.state.State.{State}
 use Rattle.exchange.specs.declared.state.State.the-variants as state
 use Rattle.exchange.specs.Answer.{writtenBytes, answerBytes}
@@ -288,12 +287,12 @@ module _ (b : Board) (call again : Call) (sector m : ℕ) (p : Brings b call sec
 
 -- 10
 module _ (bank : Bank) (n : ℕ) (image : List ℕ) (g : goodN n ≡ true) (e : length image ≡ sectorSize * n) where
-  example-10 : readText [] bank n image .answer ≡ Refused (record { kind = H6; line = 1 })
-  unfolding readText readLines lines
+  example-10 : textRead [] bank n image .answer ≡ Refused (record { kind = H6; line = 1 })
+  unfolding textRead readLines lines
   example-10 = rw (g, eq-eqb (length image) (sectorSize * n) e)
 
-  example-10-end : readText (0x3A ∷ 48 ∷ 48 ∷ 48 ∷ 48 ∷ 48 ∷ 48 ∷ 48 ∷ 49 ∷ 70 ∷ 70 ∷ []) bank n image .answer ≡ Accepted
-  unfolding readText readLines lines foundOf recordOf digitsWhole digitsIn typed dataAt digitsOf byteOf isDigit digitOf total
+  example-10-end : textRead (0x3A ∷ 48 ∷ 48 ∷ 48 ∷ 48 ∷ 48 ∷ 48 ∷ 48 ∷ 49 ∷ 70 ∷ 70 ∷ []) bank n image .answer ≡ Accepted
+  unfolding textRead readLines lines foundOf recordOf digitsWhole digitsIn typed dataAt digitBytes byteOf isDigit valueOf total
   example-10-end = rw (g, eq-eqb (length image) (sectorSize * n) e)
 
 pub examples : Examples

@@ -19,33 +19,33 @@ use Rattle.hex.specs.declared.read.Outcome.{Outcome}
 use Rattle.hex.specs.declared.read.Outcome.the-variants.{Stopped, Through}
 use Rattle.hex.specs.declared.record.Found.{Found}
 use Rattle.hex.specs.declared.record.Found.the-variants.{Fault, Data, Upper, End, Other}
-use Rattle.hex.specs.Digit.{digitOf, isDigit, byteOf}
-use Rattle.hex.specs.Digit.{bytesOf as digitsOf}
+use Rattle.digits.specs.Digit.{valueOf, isDigit}
+use Rattle.hex.specs.Spell.{byteOf, digitBytes}
 use Rattle.hex.specs.Meaning.{stateAt, saysAt, Faulted, at-line, past-the-last}
-use Rattle.hex.specs.Read.{fresh, answerOf, readLines, readOf}
+use Rattle.hex.specs.Read.{atStart, readingOf, linesRead, textRead}
 use Rattle.hex.specs.Record.{digitsIn, digitsWhole, recordOf, total, dataAt, typed, foundOf}
 use Rattle.hex.proofs.Meaning.{read-length, accepted-lined, accepted-sound, accepted-over, accepted-data, accepted-rest, refused-lined}
 use Rattle.demands.specs.Texts.{Reader, Refuses, MeetsHex, InventsLine}
 
-either : (o : Outcome) → (answerOf o ≡ Accepted) ⊎ Refuses (answerOf o)
-either (Stopped r) = inr (record { why = r; refused = refl })
-either Through = inl refl
+either : (size : ℕ) (o : Outcome) (image : List ℕ) → (readingOf size o image .answer ≡ Accepted) ⊎ Refuses (readingOf size o image .answer)
+either size (Stopped r) image = inr (record { why = r; refused = refl })
+either size Through image = inl refl
 
 read-either : (text : List ℕ) (bank : Bank) (n : ℕ) (image : List ℕ) → goodN n ≡ true → length image ≡ sectorSize * n
-    → (readOf text bank n image .answer ≡ Accepted) ⊎ Refuses (readOf text bank n image .answer)
-unfolding readOf
-read-either text bank n image g e = rw (g, eq-eqb (length image) (sectorSize * n) e) (either (readLines (startOf bank) (sectorSize * n) fresh 1 (replicate (sectorSize * n) 0xFF) (lines text) .outcome))
+    → (textRead text bank n image .answer ≡ Accepted) ⊎ Refuses (textRead text bank n image .answer)
+unfolding textRead
+read-either text bank n image g e = rw (g, eq-eqb (length image) (sectorSize * n) e) (either (sectorSize * n) (linesRead text bank n .outcome) (linesRead text bank n .image))
 
 read-short : (text : List ℕ) (bank : Bank) (n : ℕ) (image : List ℕ) → goodN n ≡ true → (length image ≡ sectorSize * n → ⊥)
-    → readOf text bank n image ≡ record { answer = BadLength; image = image }
-unfolding readOf
+    → textRead text bank n image ≡ record { answer = BadLength; image = image }
+unfolding textRead
 read-short text bank n image g e = rw (g, ne-eqb (length image) (sectorSize * n) e)
 
-read-bad : (text : List ℕ) (bank : Bank) (n : ℕ) (image : List ℕ) → goodN n ≡ false → readOf text bank n image ≡ record { answer = BadN; image = image }
-unfolding readOf
+read-bad : (text : List ℕ) (bank : Bank) (n : ℕ) (image : List ℕ) → goodN n ≡ false → textRead text bank n image ≡ record { answer = BadN; image = image }
+unfolding textRead
 read-bad text bank n image g = rw g
 
-pub texts-meet : MeetsHex readOf
+pub texts-meet : MeetsHex textRead
 texts-meet =
     record {
       bad-n = read-bad;
@@ -53,8 +53,8 @@ texts-meet =
       either = read-either;
       faulted = λ text bank n image r a. refused-lined text bank n image r a .0;
       erased = λ text bank n image r a. refused-lined text bank n image r a .1;
-      sound = λ text bank n image a. accepted-sound (startOf bank) (sectorSize * n) fresh 1 _ (lines text) (accepted-lined text bank n image a .0);
-      over = λ text bank n image a. accepted-over (startOf bank) (sectorSize * n) fresh 1 _ (lines text) (accepted-lined text bank n image a .0);
+      sound = λ text bank n image a. accepted-sound (startOf bank) (sectorSize * n) atStart 1 _ (lines text) (accepted-lined text bank n image a .0);
+      over = λ text bank n image a. accepted-over (startOf bank) (sectorSize * n) atStart 1 _ (lines text) (accepted-lined text bank n image a .0);
       holds = λ text bank n image a.
           record {
             there = λ i start count s j h. accepted-data text bank n image a i start count (s .0) (s .1) j h;
@@ -70,18 +70,18 @@ unfoldable two-lines : List ℕ
 two-lines = 0x3A ∷ 48 ∷ 48 ∷ 48 ∷ 48 ∷ 48 ∷ 48 ∷ 48 ∷ 49 ∷ 70 ∷ 70 ∷ 0x0A ∷ 0x0A ∷ []
 
 abbrev says : ℕ → Found
-says i = saysAt (startOf Zero) (sectorSize * 1) fresh (lines two-lines) i
+says i = saysAt (startOf Zero) (sectorSize * 1) atStart (lines two-lines) i
 
 two : length (lines two-lines) ≡ 2
 unfolding two-lines lines
 two = refl
 
 line-1 : says 0 ≡ End
-unfolding two-lines lines stateAt foundOf recordOf digitsWhole digitsIn typed dataAt digitsOf byteOf isDigit digitOf total
+unfolding two-lines lines stateAt foundOf recordOf digitsWhole digitsIn typed dataAt digitBytes byteOf isDigit valueOf total
 line-1 = refl
 
 line-2 : says 1 ≡ Fault H6
-unfolding two-lines lines stateAt foundOf recordOf digitsWhole digitsIn typed dataAt digitsOf byteOf isDigit digitOf total
+unfolding two-lines lines stateAt foundOf recordOf digitsWhole digitsIn typed dataAt digitBytes byteOf isDigit valueOf total
 line-2 = refl
 
 abbrev isFault : Found → Bool
@@ -96,16 +96,16 @@ unfolding lines
 nothing-read = refl
 
 -- the empty text: one past the last line is line 1
-empty-line : (r : Refusal) → Faulted (startOf Zero) (sectorSize * 1) fresh 1 (lines []) r → r .line ≡ 1
+empty-line : (r : Refusal) → Faulted (startOf Zero) (sectorSize * 1) atStart 1 (lines []) r → r .line ≡ 1
 empty-line r (at-line i h e s w) = absurd (omega (arith, nothing-read))
 empty-line r (past-the-last e k o w) = omega (arith, nothing-read)
 
-not-over : stateAt (startOf Zero) (sectorSize * 1) fresh (lines []) (length (lines [])) .over ≡ false
+not-over : stateAt (startOf Zero) (sectorSize * 1) atStart (lines []) (length (lines [])) .over ≡ false
 unfolding lines stateAt
 not-over = refl
 
 -- the other: line 2
-second-line : (r : Refusal) → Faulted (startOf Zero) (sectorSize * 1) fresh 1 (lines two-lines) r → r .line ≡ 2
+second-line : (r : Refusal) → Faulted (startOf Zero) (sectorSize * 1) atStart 1 (lines two-lines) r → r .line ≡ 2
 second-line r (at-line zero h e s w) = absurd (false≢true (ap isFault (sym line-1 ∙ s)))
 second-line r (at-line (suc zero) h e s w) = omega arith
 second-line r (at-line (suc (suc i)) h e s w) = absurd (omega (arith, two))

@@ -32,6 +32,7 @@ use Rattle.flash.specs.Bank.{WriteAt·Is, SectorBlank·Is, Sweep·Is}
 use Rattle.flash.specs.Sector.{Erase·Is, StoreWord·Is, WriteSector·Is}
 use Rattle.layout.specs.Layout.{GoodN·Is, BankSize·Is, Sectors·Is, BankNumber·Is, Other·Is, Start·Is, End·Is, SectorOffset·Is}
 use Rattle.bank.specs.Sound.{Check·Is, Body·Is}
+use Rattle.digits.specs.Digit.{Value·Is, Digit·Is}
 use Rattle.lines.specs.Places.{Ahead·Is, Reader·Is, Next·Is}
 use Rattle.hex.specs.Read.{KindNumber·Is}
 use Rattle.hex.specs.Read.{Read·Is as ReadText·Is}
@@ -103,6 +104,8 @@ pub record Determined : Type 0 where
   pub check : (bank : List ℕ) → Once (Check·Is bank)
   pub body : (bank : List ℕ) (i : ℕ) → Once (Body·Is bank i)
   -- hex text
+  pub value : (byte : ℕ) → Once (Value·Is byte)
+  pub digit : (value : ℕ) → Once (Digit·Is value)
   pub ahead : (text : List ℕ) (at : ℕ) → Once (Ahead·Is text at)
   pub reader-at : (text : RefT (List ℕ)) (at : ℕ) → Once (Reader·Is text at)
   pub next-line : (reader : LineReader) → Once (Next·Is reader)

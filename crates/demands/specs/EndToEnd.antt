@@ -7,7 +7,7 @@ use mathlib.Core.Logic.{_⊎_}
 use mathlib.Core.Bool.{true}
 use mathlib.Core.List.{List, [], _∷_}
 use Prim.Native.Nat.{ℕ, _+_, _-_, _*_, _^_, _≤_, _<_}
-use lib.ListN.{length, getD, drop}
+use lib.ListN.{length, getD}
 use Rattle.buffer.specs.Number.{byteAt}
 use Rattle.layout.specs.declared.Bank.{Bank}
 use Rattle.layout.specs.Layout.{sectorSize, otherOf, startOf}
@@ -15,10 +15,10 @@ use Rattle.layout.specs.Pair.{bankIn}
 use Rattle.lines.specs.Line.{lines}
 use Rattle.hex.specs.declared.read.Answer.the-variants.{Accepted}
 use Rattle.hex.specs.declared.record.Found.the-variants.{Data}
-use Rattle.hex.specs.Digit.{bytesOf as digitsOf}
+use Rattle.hex.specs.Spell.{lineBytes}
 use Rattle.hex.specs.Meaning.{saysAt}
-use Rattle.hex.specs.Read.{fresh, readOf}
-use Rattle.hex.specs.Record.{dataOf}
+use Rattle.hex.specs.Read.{atStart, textRead}
+use Rattle.hex.specs.Record.{recordData}
 use Rattle.response.specs.Response.{responseOf}
 use Rattle.client.specs.Perform.{fitOf}
 use Rattle.demands.specs.Board.{Board, Call, Input, Datagram, said, Machine, after}
@@ -29,11 +29,11 @@ use Rattle.demands.specs.Responses.{ReadBack}
 
 -- line i says that so many bytes go to the addresses from `start` on
 abbrev pub Says : List ℕ → Bank → ℕ → ℕ → ℕ → ℕ → Type 0
-Says text bank n i start count = (i < length (lines text)) × (saysAt (startOf bank) (sectorSize * n) fresh (lines text) i ≡ Data start count)
+Says text bank n i start count = (i < length (lines text)) × (saysAt (startOf bank) (sectorSize * n) atStart (lines text) i ≡ Data start count)
 
 -- and these are the bytes that its digits spell
 abbrev pub spelt : List ℕ → ℕ → ℕ → List ℕ
-spelt text i count = dataOf count (digitsOf (drop 1 (getD (lines text) i [])))
+spelt text i count = recordData count (lineBytes (getD (lines text) i []))
 
 pub record Holds (text : List ℕ) (bank : Bank) (n : ℕ) (bytes : List ℕ) : Type 0 where
   pub there : (i start count : ℕ) → Says text bank n i start count → (j : ℕ) → j < count → getD bytes (start - startOf bank + j) 0 ≡ getD (spelt text i count) j 0
@@ -46,8 +46,8 @@ MeetsText m =
     (b : Board) (text before : List ℕ) → Ready b
     → (let target : Bank = otherOf (b .client .fixed .running) in
     let n : ℕ = b .client .fixed .n in
-    let image : List ℕ = readOf text target n before .image in
-    readOf text target n before .answer ≡ Accepted → fitOf (b .client .fixed) image ≡ true
+    let image : List ℕ = textRead text target n before .image in
+    textRead text target n before .answer ≡ Accepted → fitOf (b .client .fixed) image ≡ true
     → (start : Call) (ps : List ℕ) (is : List Input) (end : Call) → Delivery b image start ps is end
     → (let last : Board = m (after m b (Datagram start ∷ is)) (Datagram end) .board in
     Holds text target n (bankIn target (last .pair))))

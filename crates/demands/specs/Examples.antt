@@ -19,7 +19,7 @@ use Rattle.layout.specs.Pair.{bankIn}
 use Rattle.hex.specs.declared.fault.Kind.the-variants.{H6}
 use Rattle.hex.specs.declared.read.Answer.{Answer}
 use Rattle.hex.specs.declared.read.Answer.the-variants.{Refused, Accepted}
-use Rattle.hex.specs.Read.{readOf as readText}
+use Rattle.hex.specs.Read.{textRead}
 use Rattle.sender.specs.declared.request.Request.{Request}
 use Rattle.sender.specs.declared.request.Request.the-variants.{ModeStart, WriteStart}
 use Rattle.sender.specs.Request.{requestFrame}
@@ -82,7 +82,7 @@ Holds Again =
     (b : Board) (call again : Call) (sector m : ℕ) → Brings b call sector m → isStored (said (stepMachine b (Datagram call))) ≡ true
     → again .datagram ≡ call .datagram → Lends (b .client .fixed .n) again
     → byteAt (said (stepMachine (stepMachine b (Datagram call) .board) (Datagram again))) 6 ≡ 0x1D
-Holds (Reads text answer) = (bank : Bank) (n : ℕ) (image : List ℕ) → goodN n ≡ true → length image ≡ sectorSize * n → readText text bank n image .answer ≡ answer
+Holds (Reads text answer) = (bank : Bank) (n : ℕ) (image : List ℕ) → goodN n ≡ true → length image ≡ sectorSize * n → textRead text bank n image .answer ≡ answer
 
 pub data AllHold : List Row → Type 0 where
   none : AllHold []

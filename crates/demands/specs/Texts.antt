@@ -12,8 +12,8 @@ use Rattle.lines.specs.Line.{lines}
 use Rattle.hex.specs.declared.fault.Refusal.{Refusal}
 use Rattle.hex.specs.declared.read.Answer.{Answer}
 use Rattle.hex.specs.declared.read.Answer.the-variants.{BadN, BadLength, Refused, Accepted}
-use Rattle.hex.specs.Meaning.{stateAt, Sound, Faulted}
-use Rattle.hex.specs.Read.{Reading, fresh}
+use Rattle.hex.specs.Meaning.{stateAt, Faultless, Faulted}
+use Rattle.hex.specs.Read.{Reading, atStart}
 use Rattle.demands.specs.EndToEnd.{Holds}
 
 -- text, bank, N, image
@@ -34,14 +34,14 @@ pub record MeetsHex (read : Reader) : Type 0 where
       → (read text bank n image .answer ≡ Accepted) ⊎ Refuses (read text bank n image .answer)
   -- the first line with a fault is told, "counted from 1", and the image is all 0xFF
   pub faulted : (text : List ℕ) (bank : Bank) (n : ℕ) (image : List ℕ) (r : Refusal) → read text bank n image .answer ≡ Refused r
-      → Faulted (startOf bank) (sectorSize * n) fresh 1 (lines text) r
+      → Faulted (startOf bank) (sectorSize * n) atStart 1 (lines text) r
   pub erased : (text : List ℕ) (bank : Bank) (n : ℕ) (image : List ℕ) (r : Refusal) → read text bank n image .answer ≡ Refused r
       → read text bank n image .image ≡ replicate (length image) 0xFF
   -- an accepted text has no fault and an end record; its bytes are there, and 0xFF elsewhere
   pub sound : (text : List ℕ) (bank : Bank) (n : ℕ) (image : List ℕ) → read text bank n image .answer ≡ Accepted
-      → Sound (startOf bank) (sectorSize * n) fresh (lines text) (length (lines text))
+      → Faultless (startOf bank) (sectorSize * n) atStart (lines text) (length (lines text))
   pub over : (text : List ℕ) (bank : Bank) (n : ℕ) (image : List ℕ) → read text bank n image .answer ≡ Accepted
-      → stateAt (startOf bank) (sectorSize * n) fresh (lines text) (length (lines text)) .over ≡ true
+      → stateAt (startOf bank) (sectorSize * n) atStart (lines text) (length (lines text)) .over ≡ true
   pub holds : (text : List ℕ) (bank : Bank) (n : ℕ) (image : List ℕ) → read text bank n image .answer ≡ Accepted → Holds text bank n (read text bank n image .image)
   -- the image keeps its length
   pub size : (text : List ℕ) (bank : Bank) (n : ℕ) (image : List ℕ) → length (read text bank n image .image) ≡ length image

@@ -1,5 +1,6 @@
-pub mod Digits
+pub mod Pairs
 pub mod Examples
 pub mod Meaning
 pub mod Records
+pub mod Says
 pub mod Steps

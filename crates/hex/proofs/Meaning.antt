@@ -25,11 +25,11 @@ use Rattle.hex.specs.declared.record.Found.the-variants.{Fault, Data, Up
 use Rattle.hex.specs.declared.read.Answer.the-variants.{BadN, BadLength, Refused, Accepted}
 use Rattle.hex.specs.declared.read.Outcome.{Outcome}
 use Rattle.hex.specs.declared.read.Outcome.the-variants.{Stopped, Through}
-use Rattle.hex.specs.Record.{dataOf, foundOf}
-use Rattle.hex.specs.Read.{stateAfter, imageAfter, Done, refused, readLines, fresh, Reading, answerOf, answered, answerNumber, readOf}
-use Rattle.hex.specs.Meaning.{stateAt, saysAt, Sound, Faulted, at-line, past-the-last}
-use Rattle.hex.proofs.Records.{spelledBy, data-in}
-use Rattle.hex.proofs.Steps.{erased}
+use Rattle.hex.specs.Spell.{lineBytes}
+use Rattle.hex.specs.Record.{recordData, foundOf}
+use Rattle.hex.specs.Read.{stateAfter, imageAfter, LinesRead, stoppedAt, readLines, atStart, Reading, readingOf, answerNumber, textRead}
+use Rattle.hex.specs.Meaning.{stateAt, saysAt, Faultless, Faulted, at-line, past-the-last}
+use Rattle.hex.proofs.Says.{data-in}
 
 -- ---- a run of stores, byte by byte
 
@@ -53,15 +53,15 @@ sets-in (v ∷ vs) l at (suc j) h k =
 -- ---- an accepted text
 
 module _ (base size : ℕ) where
-  abbrev Read : State → ℕ → List ℕ → List (List ℕ) → Done
+  abbrev Read : State → ℕ → List ℕ → List (List ℕ) → LinesRead
   Read = readLines base size
 
-  abbrev outcome-of : Done → Outcome
+  abbrev outcome-of : LinesRead → Outcome
   outcome-of d = d .outcome
 
   -- the lines behind one that was read
   data Next (s : State) (k : ℕ) (image : List ℕ) (l : List ℕ) (ls : List (List ℕ)) : Type 0 where
-    stops : (f : Kind) → foundOf base size s l ≡ Fault f → Read s k image (l ∷ ls) ≡ refused size f k → Next s k image l ls
+    stops : (f : Kind) → foundOf base size s l ≡ Fault f → Read s k image (l ∷ ls) ≡ stoppedAt f k image → Next s k image l ls
     on :
         (d : Found) → foundOf base size s l ≡ d → ((f : Kind) → d ≡ Fault f → ⊥)
         → Read s k image (l ∷ ls) ≡ Read (stateAfter d s) (k + 1) (imageAfter base l d image) ls → Next s k image l ls
@@ -92,7 +92,7 @@ module _ (base size : ℕ) where
 
   image-length : (l image : List ℕ) (d : Found) → length (imageAfter base l d image) ≡ length image
   image-length l image (Fault k) = refl
-  image-length l image (Data start n) = length-sets image (start - base) (dataOf n (spelledBy l))
+  image-length l image (Data start n) = length-sets image (start - base) (recordData n (lineBytes l))
   image-length l image (Upper u) = refl
   image-length l image End = refl
   image-length l image Other = refl
@@ -102,18 +102,18 @@ module _ (base size : ℕ) where
   ends s k image e = by (s .over) refl
     where
       by : (o : Bool) → s .over ≡ o → (Read s k image [] .image ≡ image) × (s .over ≡ true)
-      by true o = (rw o, o)
+      by true o = (refl, o)
       by false o = let f = rw o at e in no-way (cc)
 
   -- no line has a fault
-  pub accepted-sound : (s : State) (k : ℕ) (image : List ℕ) (ls : List (List ℕ)) → Read s k image ls .outcome ≡ Through → Sound base size s ls (length ls)
+  pub accepted-sound : (s : State) (k : ℕ) (image : List ℕ) (ls : List (List ℕ)) → Read s k image ls .outcome ≡ Through → Faultless base size s ls (length ls)
   unfolding stateAt
   accepted-sound s k image [] e = λ m h. absurd (not-suc-le-zero h)
   accepted-sound s k image (l ∷ ls) e = by (λ d. accepted-sound (stateAfter d s) (k + 1) (imageAfter base l d image) ls) (next s k image l ls)
     where
       by :
-          ((d : Found) → Read (stateAfter d s) (k + 1) (imageAfter base l d image) ls .outcome ≡ Through → Sound base size (stateAfter d s) ls (length ls))
-          → Next s k image l ls → Sound base size s (l ∷ ls) (length (l ∷ ls))
+          ((d : Found) → Read (stateAfter d s) (k + 1) (imageAfter base l d image) ls .outcome ≡ Through → Faultless base size (stateAfter d s) ls (length ls))
+          → Next s k image l ls → Faultless base size s (l ∷ ls) (length (l ∷ ls))
       by rest (stops f q g) m h = let z : Stopped (record { kind = f; line = k }) ≡ Through = sym (ap outcome-of g) ∙ e in no-way (cc)
       by rest (on d q x g) zero h = λ f z. x f (sym q ∙ z)
       by rest (on d q x g) (suc m) h = λ f z. rest d (sym (ap outcome-of g) ∙ e) m (le-of-suc-le-suc h) f (sym (says-next s l ls d q m) ∙ z)
@@ -136,7 +136,7 @@ module _ (base size : ℕ) where
   kept-step s l image i h (Fault k) e = (h, refl)
   kept-step s l image i h (Data start n) e =
       let t = data-in base size s l start n e in
-      (omega (arith, t .after), sets-below (dataOf n (spelledBy l)) image (start - base) i (omega (arith, t .after, t .low)))
+      (omega (arith, t .after), sets-below (recordData n (lineBytes l)) image (start - base) i (omega (arith, t .after, t .low)))
   kept-step s l image i h (Upper u) e = (h, refl)
   kept-step s l image i h End e = (h, refl)
   kept-step s l image i h Other e = (h, refl)
@@ -153,33 +153,33 @@ module _ (base size : ℕ) where
       by rest (stops f q g) = let z : Stopped (record { kind = f; line = k }) ≡ Through = sym (ap outcome-of g) ∙ e in no-way (cc)
       by rest (on d q x g) =
           let t = kept-step s l image i h d q in
-          ap (λ (d : Done). getD (d .image) i 0) g
+          ap (λ (d : LinesRead). getD (d .image) i 0) g
           ∙ rest d (sym (ap outcome-of g) ∙ e) i (t .0) ∙ t .1
 
   -- each data byte stands at its address
   pub data-stands :
       (s : State) (k : ℕ) (image : List ℕ) (ls : List (List ℕ)) → length image ≡ size → Read s k image ls .outcome ≡ Through
       → (i start n : ℕ) → i < length ls → saysAt base size s ls i ≡ Data start n
-      → (j : ℕ) → j < n → getD (Read s k image ls .image) (start - base + j) 0 ≡ getD (dataOf n (spelledBy (getD ls i []))) j 0
+      → (j : ℕ) → j < n → getD (Read s k image ls .image) (start - base + j) 0 ≡ getD (recordData n (lineBytes (getD ls i []))) j 0
   unfolding stateAt readLines
   data-stands s k image [] w e i start n h q j a = absurd (not-suc-le-zero h)
   data-stands s k image (l ∷ ls) w e zero start n h q j a =
       let t = data-in base size s l start n q in
       let f = rw q at e in
       rw q
-      (kept (stateAfter (Data start n) s) (k + 1) (sets image (start - base) (dataOf n (spelledBy l))) ls f (start - base + j) (omega (arith, t .low))
-      ∙ sets-in (dataOf n (spelledBy l)) image (start - base) j (omega (arith, t .whole)) (omega (arith, t .low, t .high, t .whole)))
+      (kept (stateAfter (Data start n) s) (k + 1) (sets image (start - base) (recordData n (lineBytes l))) ls f (start - base + j) (omega (arith, t .low))
+      ∙ sets-in (recordData n (lineBytes l)) image (start - base) j (omega (arith, t .whole)) (omega (arith, t .low, t .high, t .whole)))
   data-stands s k image (l ∷ ls) w e (suc i) start n h q j a =
       by (λ d v f. data-stands (stateAfter d s) (k + 1) (imageAfter base l d image) ls v f i start n (le-of-suc-le-suc h)) (next s k image l ls)
     where
       by :
           ((d : Found) → length (imageAfter base l d image) ≡ size → Read (stateAfter d s) (k + 1) (imageAfter base l d image) ls .outcome ≡ Through
           → saysAt base size (stateAfter d s) ls i ≡ Data start n → (j : ℕ) → j < n
-          → getD (Read (stateAfter d s) (k + 1) (imageAfter base l d image) ls .image) (start - base + j) 0 ≡ getD (dataOf n (spelledBy (getD ls i []))) j 0)
-          → Next s k image l ls → getD (Read s k image (l ∷ ls) .image) (start - base + j) 0 ≡ getD (dataOf n (spelledBy (getD ls i []))) j 0
+          → getD (Read (stateAfter d s) (k + 1) (imageAfter base l d image) ls .image) (start - base + j) 0 ≡ getD (recordData n (lineBytes (getD ls i []))) j 0)
+          → Next s k image l ls → getD (Read s k image (l ∷ ls) .image) (start - base + j) 0 ≡ getD (recordData n (lineBytes (getD ls i []))) j 0
       by rest (stops f p g) = let z : Stopped (record { kind = f; line = k }) ≡ Through = sym (ap outcome-of g) ∙ e in no-way (cc)
       by rest (on d p x g) =
-          ap (λ (d : Done). getD (d .image) (start - base + j) 0) g
+          ap (λ (d : LinesRead). getD (d .image) (start - base + j) 0) g
           ∙ rest d (image-length l image d ∙ w) (sym (ap outcome-of g) ∙ e) (sym (says-next s l ls d p i) ∙ q) j a
 
   -- ---- a refused text
@@ -205,7 +205,7 @@ module _ (base size : ℕ) where
           at-line 0 (omega arith) (let x : r .line ≡ k = rw (sym y) in omega arith) (q ∙ rw (sym y)) (λ m h. absurd (not-suc-le-zero h))
       by rest (on d q x g) = later (rest d (sym (ap outcome-of g) ∙ e))
         where
-          more : (i : ℕ) → Sound base size (stateAfter d s) ls i → Sound base size s (l ∷ ls) (suc i)
+          more : (i : ℕ) → Faultless base size (stateAfter d s) ls i → Faultless base size s (l ∷ ls) (suc i)
           more i a zero h = λ f z. x f (sym q ∙ z)
           more i a (suc m) h = λ f z. a m (le-of-suc-le-suc h) f (sym (says-next s l ls d q m) ∙ z)
 
@@ -228,8 +228,8 @@ module _ (base size : ℕ) where
       here (Fault f) q = refl
       here (Data start n) q =
           let t = data-in base size s l start n q in
-          ⊎-elim (λ b. sets-below (dataOf n (spelledBy l)) image (start - base) i (omega arith))
-          (λ b. sets-above (dataOf n (spelledBy l)) image (start - base) i (omega (arith, t .low, t .whole)))
+          ⊎-elim (λ b. sets-below (recordData n (lineBytes l)) image (start - base) i (omega arith))
+          (λ b. sets-above (recordData n (lineBytes l)) image (start - base) i (omega (arith, t .low, t .whole)))
           (u 0 start n (omega arith) (says-first s l ls ∙ q))
       here (Upper x) q = refl
       here End q = refl
@@ -241,20 +241,20 @@ module _ (base size : ℕ) where
           → Next s k image l ls → getD (Read s k image (l ∷ ls) .image) i 0 ≡ getD image i 0
       by rest (stops f q g) = let z : Stopped (record { kind = f; line = k }) ≡ Through = sym (ap outcome-of g) ∙ e in no-way (cc)
       by rest (on d q x g) =
-          ap (λ (d : Done). getD (d .image) i 0) g
+          ap (λ (d : LinesRead). getD (d .image) i 0) g
           ∙ rest d (sym (ap outcome-of g) ∙ e) i (λ m start n h p. u (suc m) start n (omega arith) (says-next s l ls d q m ∙ p))
           ∙ here d q
 
   lines-length : (s : State) (k : ℕ) (image : List ℕ) (ls : List (List ℕ)) → length image ≡ size → length (Read s k image ls .image) ≡ size
   unfolding readLines
-  lines-length s k image [] w = split (λ (d : Done). length (d .image) ≡ size) (s .over) (λ o. w) (λ o. length-replicate size 0xFF)
+  lines-length s k image [] w = w
   lines-length s k image (l ∷ ls) w = by (λ d. lines-length (stateAfter d s) (k + 1) (imageAfter base l d image) ls) (next s k image l ls)
     where
       by :
           ((d : Found) → length (imageAfter base l d image) ≡ size → length (Read (stateAfter d s) (k + 1) (imageAfter base l d image) ls .image) ≡ size)
           → Next s k image l ls → length (Read s k image (l ∷ ls) .image) ≡ size
-      by rest (stops f q g) = ap (λ (d : Done). length (d .image)) g ∙ length-replicate size 0xFF
-      by rest (on d q x g) = ap (λ (d : Done). length (d .image)) g ∙ rest d (image-length l image d ∙ w)
+      by rest (stops f q g) = ap (λ (d : LinesRead). length (d .image)) g ∙ w
+      by rest (on d q x g) = ap (λ (d : LinesRead). length (d .image)) g ∙ rest d (image-length l image d ∙ w)
 
 -- ---- the whole text
 
@@ -262,17 +262,17 @@ module _ (text : List ℕ) (bank : Bank) (n : ℕ) (before : List ℕ) where
   abbrev blank : List ℕ
   blank = replicate (sectorSize * n) 0xFF
 
-  abbrev lined : Done
-  lined = readLines (startOf bank) (sectorSize * n) fresh 1 blank (lines text)
+  abbrev lined : LinesRead
+  lined = readLines (startOf bank) (sectorSize * n) atStart 1 blank (lines text)
 
   -- by the two tests that come first
   data Way : Type 0 where
-    bad-n : readOf text bank n before ≡ record { answer = BadN; image = before } → Way
-    bad-length : readOf text bank n before ≡ record { answer = BadLength; image = before } → Way
-    lined-up : length before ≡ sectorSize * n → readOf text bank n before ≡ answered lined → Way
+    bad-n : textRead text bank n before ≡ record { answer = BadN; image = before } → Way
+    bad-length : textRead text bank n before ≡ record { answer = BadLength; image = before } → Way
+    lined-up : length before ≡ sectorSize * n → textRead text bank n before ≡ readingOf (sectorSize * n) (lined .outcome) (lined .image) → Way
 
   way : Way
-  unfolding readOf
+  unfolding textRead
   way = by (goodN n) (eqb (length before) (sectorSize * n)) refl refl
     where
       by : (g b : Bool) → goodN n ≡ g → eqb (length before) (sectorSize * n) ≡ b → Way
@@ -281,74 +281,79 @@ module _ (text : List ℕ) (bank : Bank) (n : ℕ) (before : List ℕ) where
       by true true e f = lined-up (eqb-true _ _ f) (rw (e, f))
 
   -- the image keeps its length
-  pub read-length : length (readOf text bank n before .image) ≡ length before
+  pub read-length : length (textRead text bank n before .image) ≡ length before
   read-length = by way
     where
-      by : Way → length (readOf text bank n before .image) ≡ length before
+      out : (o : Outcome) (image : List ℕ) → length image ≡ sectorSize * n → length (readingOf (sectorSize * n) o image .image) ≡ sectorSize * n
+      out (Stopped r) image w = length-replicate (sectorSize * n) 0xFF
+      out Through image w = w
+
+      by : Way → length (textRead text bank n before .image) ≡ length before
       by (bad-n e) = rw e
       by (bad-length e) = rw e
-      by (lined-up w e) = rw e (lines-length (startOf bank) (sectorSize * n) fresh 1 blank (lines text) (length-replicate (sectorSize * n) 0xFF) ∙ sym w)
+      by (lined-up w e) = rw e (out (lined .outcome) (lined .image) (lines-length (startOf bank) (sectorSize * n) atStart 1 blank (lines text) (length-replicate (sectorSize * n) 0xFF)) ∙ sym w)
 
   -- an accepted text went through
-  pub accepted-lined : readOf text bank n before .answer ≡ Accepted → (lined .outcome ≡ Through) × (readOf text bank n before .image ≡ lined .image)
+  pub accepted-lined : textRead text bank n before .answer ≡ Accepted → (lined .outcome ≡ Through) × (textRead text bank n before .image ≡ lined .image)
   accepted-lined a = by way
     where
-      out : (o : Outcome) → answerOf o ≡ Accepted → o ≡ Through
-      out (Stopped r) z = no-way (cc)
-      out Through z = refl
+      out : (o : Outcome) (image : List ℕ) → readingOf (sectorSize * n) o image .answer ≡ Accepted → (o ≡ Through) × (readingOf (sectorSize * n) o image .image ≡ image)
+      out (Stopped r) image z = no-way (cc)
+      out Through image z = (refl, refl)
 
-      by : Way → (lined .outcome ≡ Through) × (readOf text bank n before .image ≡ lined .image)
+      by : Way → (lined .outcome ≡ Through) × (textRead text bank n before .image ≡ lined .image)
       by (bad-n e) = let z : BadN ≡ Accepted = sym (ap (λ (d : Reading). d .answer) e) ∙ a in no-way (cc)
       by (bad-length e) = let z : BadLength ≡ Accepted = sym (ap (λ (d : Reading). d .answer) e) ∙ a in no-way (cc)
-      by (lined-up w e) = (out (lined .outcome) (sym (ap (λ (d : Reading). d .answer) e) ∙ a), ap (λ (d : Reading). d .image) e)
+      by (lined-up w e) =
+          let o = out (lined .outcome) (lined .image) (sym (ap (λ (d : Reading). d .answer) e) ∙ a) in (o .0, ap (λ (d : Reading). d .image) e ∙ o .1)
 
   -- "accepted text leaves its bytes", each at its address
   pub accepted-data :
-      readOf text bank n before .answer ≡ Accepted → (i start count : ℕ) → i < length (lines text)
-      → saysAt (startOf bank) (sectorSize * n) fresh (lines text) i ≡ Data start count → (j : ℕ) → j < count
-      → getD (readOf text bank n before .image) (start - startOf bank + j) 0 ≡ getD (dataOf count (spelledBy (getD (lines text) i []))) j 0
+      textRead text bank n before .answer ≡ Accepted → (i start count : ℕ) → i < length (lines text)
+      → saysAt (startOf bank) (sectorSize * n) atStart (lines text) i ≡ Data start count → (j : ℕ) → j < count
+      → getD (textRead text bank n before .image) (start - startOf bank + j) 0 ≡ getD (recordData count (lineBytes (getD (lines text) i []))) j 0
   accepted-data a i start count h q j b =
       let t = accepted-lined a in
-      rw (t .1) (data-stands (startOf bank) (sectorSize * n) fresh 1 blank (lines text) (length-replicate (sectorSize * n) 0xFF) (t .0) i start count h q j b)
+      rw (t .1) (data-stands (startOf bank) (sectorSize * n) atStart 1 blank (lines text) (length-replicate (sectorSize * n) 0xFF) (t .0) i start count h q j b)
 
   -- "0xFF elsewhere"
   pub accepted-rest :
-      readOf text bank n before .answer ≡ Accepted → (i : ℕ) → i < sectorSize * n
-      → ((m start count : ℕ) → m < length (lines text) → saysAt (startOf bank) (sectorSize * n) fresh (lines text) m ≡ Data start count
+      textRead text bank n before .answer ≡ Accepted → (i : ℕ) → i < sectorSize * n
+      → ((m start count : ℕ) → m < length (lines text) → saysAt (startOf bank) (sectorSize * n) atStart (lines text) m ≡ Data start count
       → startOf bank + i < start ⊎ start + count ≤ startOf bank + i)
-      → getD (readOf text bank n before .image) i 0 ≡ 0xFF
+      → getD (textRead text bank n before .image) i 0 ≡ 0xFF
   accepted-rest a i h u =
       let t = accepted-lined a in
-      rw (t .1) (rest-stays (startOf bank) (sectorSize * n) fresh 1 blank (lines text) (t .0) i u ∙ getD-replicate (sectorSize * n) i 0xFF 0 h)
+      rw (t .1) (rest-stays (startOf bank) (sectorSize * n) atStart 1 blank (lines text) (t .0) i u ∙ getD-replicate (sectorSize * n) i 0xFF 0 h)
 
   -- a refusal names the first faulty line, and leaves all 0xFF
   pub refused-lined :
-      (r : Refusal) → readOf text bank n before .answer ≡ Refused r
-      → Faulted (startOf bank) (sectorSize * n) fresh 1 (lines text) r × (readOf text bank n before .image ≡ replicate (length before) 0xFF)
+      (r : Refusal) → textRead text bank n before .answer ≡ Refused r
+      → Faulted (startOf bank) (sectorSize * n) atStart 1 (lines text) r × (textRead text bank n before .image ≡ replicate (length before) 0xFF)
   refused-lined r a = by way
     where
-      out : (o : Outcome) → answerOf o ≡ Refused r → o ≡ Stopped r
-      out (Stopped x) z = let y : x ≡ r = cc in rw y
-      out Through z = no-way (cc)
+      out : (o : Outcome) (image : List ℕ) → readingOf (sectorSize * n) o image .answer ≡ Refused r → (o ≡ Stopped r) × (readingOf (sectorSize * n) o image .image ≡ replicate (sectorSize * n) 0xFF)
+      out (Stopped x) image z = let y : x ≡ r = cc in (rw y, refl)
+      out Through image z = no-way (cc)
 
-      by : Way → Faulted (startOf bank) (sectorSize * n) fresh 1 (lines text) r × (readOf text bank n before .image ≡ replicate (length before) 0xFF)
+      by : Way → Faulted (startOf bank) (sectorSize * n) atStart 1 (lines text) r × (textRead text bank n before .image ≡ replicate (length before) 0xFF)
       by (bad-n e) = let z : BadN ≡ Refused r = sym (ap (λ (d : Reading). d .answer) e) ∙ a in no-way (cc)
       by (bad-length e) = let z : BadLength ≡ Refused r = sym (ap (λ (d : Reading). d .answer) e) ∙ a in no-way (cc)
       by (lined-up w e) =
-          let o : lined .outcome ≡ Stopped r = out (lined .outcome) (sym (ap (λ (d : Reading). d .answer) e) ∙ a) in (
-            refused-faulted (startOf bank) (sectorSize * n) fresh 1 blank (lines text) r o,
-            ap (λ (d : Reading). d .image) e ∙ erased (startOf bank) (sectorSize * n) fresh 1 blank (lines text) (λ z. let y : Stopped r ≡ Through = sym o ∙ z in no-way (cc)) ∙ rw w,
+          let o = out (lined .outcome) (lined .image) (sym (ap (λ (d : Reading). d .answer) e) ∙ a) in (
+            refused-faulted (startOf bank) (sectorSize * n) atStart 1 blank (lines text) r (o .0),
+            ap (λ (d : Reading). d .image) e ∙ o .1 ∙ rw w,
           )
 
   -- 3 and 2 leave the image as it was
-  pub unread : (answerNumber (readOf text bank n before .answer) ≡ 0 → ⊥) → readOf text bank n before .image ≡ before
+  pub unread : (answerNumber (textRead text bank n before .answer) ≡ 0 → ⊥) → textRead text bank n before .image ≡ before
   unread z = by way
     where
-      none : (o : Outcome) → answerNumber (answerOf o) ≡ 0
-      none (Stopped r) = refl
-      none Through = refl
+      none : (o : Outcome) (image : List ℕ) → answerNumber (readingOf (sectorSize * n) o image .answer) ≡ 0
+      none (Stopped r) image = refl
+      none Through image = refl
 
-      by : Way → readOf text bank n before .image ≡ before
+      by : Way → textRead text bank n before .image ≡ before
       by (bad-n e) = rw e
       by (bad-length e) = rw e
-      by (lined-up w e) = absurd (z (rw e (none (lined .outcome))))
+      by (lined-up w e) = absurd (z (rw e (none (lined .outcome) (lined .image))))

@@ -1,52 +1,92 @@
--- A line and its record: what the code's tests on positions say of the definitions.
+-- A line and its record: digit by digit as it is said, from left to right as the definition reads it, and by the code's tests.
 -- Assumes nothing.
 use mathlib.Core.Path.{_≡_, refl, sym, ap, _∙_}
 use mathlib.Core.List.{List, [], _∷_, _++_}
-use mathlib.Core.Bool.{Bool, true, false, _&&_, false≢true}
+use mathlib.Core.Bool.{Bool, true, false, _&&_, cond}
 use Prim.Native.Nat.{ℕ, zero, suc, _+_, _-_, _*_, _/_, _%_, _<_, _≤_}
-use native.Mathlib.Nat.{zero-add}
+use native.Mathlib.Nat.{zero-add, not-suc-le-zero, le-of-suc-le-suc}
 use native.Mathlib.Numerals.{add-one}
 use native.Mathlib.Omega.{arith}
-use lib.Dec.{eqb, leb, ltb}
-use lib.ListN.{length, getD, take, drop, length-take, length-drop, List·getD-append}
-use lib.Seq.{take-append-le, drop-append-le, take-at, sets, sets-eq, slice, slice-cons, slice-empty, length-slice}
-use borrow.Author.Tests.{eq-eqb, ne-eqb, eqb-true, eqb-false, lt-ltb, ltb-true, leb-true}
-use Rattle.buffer.proofs.Bools.{and-left, and-right, and-both, not-so, same-tests, split, no-way}
-use Rattle.buffer.proofs.Numbers.{number-two}
-use Rattle.buffer.specs.Number.{numberAt}
-use Rattle.hex.specs.declared.fault.Kind.{Kind}
-use Rattle.hex.specs.declared.fault.Kind.the-variants.{H1, H2, H3, H4, H5, H6}
-use Rattle.hex.specs.declared.record.State.{State}
-use Rattle.hex.specs.declared.record.Found.{Found}
-use Rattle.hex.specs.declared.record.Found.the-variants.{Fault, Data, Upper, End, Other}
-use Rattle.hex.specs.Digit.{isDigit, byteOf, bytesOf}
-use Rattle.hex.specs.Record.{Whole, digitsIn, countOf, addressOf, typeOf, dataOf, dueOf, digitsWhole, recordOf, total, inBank, dataAt, typed, says, foundOf}
-use Rattle.hex.specs.Places.{bytesAt, allBytes, checkFrom, Looked}
-use Rattle.hex.proofs.Digits.{pair-small, pair-so}
+use lib.Dec.{eqb, ltb}
+use lib.ListN.{length, getD, take, drop, length-drop, drop-of-length-le, List·getD-append}
+use lib.Seq.{drop-cons, take-append-le, drop-append-le, take-at, sets, sets-eq}
+use borrow.Author.Tests.{eq-eqb, eqb-true, eqb-false, lt-ltb, ltb-true}
+use Rattle.buffer.proofs.Bools.{and-left, and-right, and-both, no-way}
+use Rattle.digits.specs.Digit.{valueOf, isDigit}
+use Rattle.hex.specs.Spell.{byteOf, digitBytes, lineBytes}
+use Rattle.hex.specs.Record.{Spelled, Whole, Broken, digitsIn, recordCount, recordData, digitsDue, digitsWhole, recordOf, total}
+use Rattle.hex.specs.Meaning.{spells, lineCount, IsRecord}
+use Rattle.hex.specs.Places.{pairByte, bytesAt, allBytes, checkFrom, sumOf, Summed}
+use Rattle.hex.proofs.Pairs.{first-small, second-small, spelled, pair-small, two-digits, pair-so}
 
-not-both : (a b c d : ℕ) → (a ≡ b → c ≡ d → ⊥) → (eqb a b && eqb c d) ≡ false
-not-both a b c d h = not-so _ (λ e. h (eqb-true a b (and-left (eqb a b) (eqb c d) e)) (eqb-true c d (and-right (eqb a b) (eqb c d) e)))
+-- DIGITS IN A ROW
 
--- what the digits of a line spell
-abbrev pub spelledBy : List ℕ → List ℕ
-spelledBy line = bytesOf (drop 1 line)
+digit-is : (c : ℕ) → isDigit c ≡ true → valueOf c < 16
+unfolding isDigit
+digit-is c e = ltb-true (valueOf c) 16 e
 
--- THE BYTES OF A RECORD, BY POSITION
+-- digits alone are all found
+digits-found : (n : ℕ) (ds : List ℕ) → n ≤ length ds → ((i : ℕ) → i < n → valueOf (getD ds i 0) < 16) → digitsIn n ds ≡ n
+unfolding digitsIn isDigit
+digits-found zero ds h f = refl
+digits-found (suc n) [] h f = absurd (not-suc-le-zero h)
+digits-found (suc n) (c ∷ ds) h f =
+    rw (lt-ltb (valueOf c) 16 (f 0 (omega arith))) (ap suc (digits-found n ds (le-of-suc-le-suc h) (λ i l. f (suc i) (omega arith))))
+
+-- and what is found are digits
+digit-first : (n c : ℕ) (ds : List ℕ) → digitsIn (suc n) (c ∷ ds) ≡ suc n → (valueOf c < 16) × (digitsIn n ds ≡ n)
+unfolding digitsIn
+digit-first n c ds e = by (isDigit c) refl
+  where
+    by : (b : Bool) → isDigit c ≡ b → (valueOf c < 16) × (digitsIn n ds ≡ n)
+    by true d = let f = rw d at e in (digit-is c d, omega arith)
+    by false d = let f = rw d at e in absurd (omega arith)
+
+found-digits : (n : ℕ) (ds : List ℕ) → digitsIn n ds ≡ n → (i : ℕ) → i < n → valueOf (getD ds i 0) < 16
+unfolding digitsIn
+found-digits zero ds e i h = absurd (not-suc-le-zero h)
+found-digits (suc n) [] e i h = absurd (omega arith)
+found-digits (suc n) (c ∷ ds) e zero h = digit-first n c ds e .0
+found-digits (suc n) (c ∷ ds) e (suc i) h = found-digits n ds (digit-first n c ds e .1) i (le-of-suc-le-suc h)
+
+-- one byte in front of them
+behind :
+    (c : ℕ) (ds : List ℕ) → ((i : ℕ) → i < length ds → valueOf (getD ds i 0) < 16)
+    → (i : ℕ) → 1 ≤ i → i < length (c ∷ ds) → valueOf (getD (c ∷ ds) i 0) < 16
+behind c ds f zero l h = absurd (not-suc-le-zero l)
+behind c ds f (suc i) l h = f i (le-of-suc-le-suc h)
+
+-- THE BYTES OF A LINE, BY POSITION
 
 bytes-length : (t : List ℕ) (p k : ℕ) → length (bytesAt t p k) ≡ k
 unfolding bytesAt
 bytes-length t p zero = refl
 bytes-length t p (suc k) = ap suc (bytes-length t (p + 2) k)
 
-bytes-slice : (t : List ℕ) (p k : ℕ) → p + 2 * k ≤ length t → bytesOf (slice p (p + 2 * k) t) ≡ bytesAt t p k
-unfolding bytesOf bytesAt
-bytes-slice t p zero h = let e : p + 2 * zero ≡ p = omega arith in rw (e, slice-empty p t)
-bytes-slice t p (suc k) h =
-    let e : p + 2 * suc k ≡ p + 2 + 2 * k = omega arith in
-    let a = slice-cons p (p + 2 + 2 * k) t 0 (omega arith) (omega arith) in
-    let b = slice-cons (suc p) (p + 2 + 2 * k) t 0 (omega arith) (omega arith) in
-    let f : suc (suc p) ≡ p + 2 = omega arith in
-    rw (e, a, b, add-one p, f) (ap (λ (l : List ℕ). byteOf (getD t p 0) (getD t (suc p) 0) ∷ l) (bytes-slice t (p + 2) k (omega arith)))
+bytes-drop : (t : List ℕ) (p k : ℕ) → length t ≡ p + 2 * k → digitBytes (drop p t) ≡ bytesAt t p k
+unfolding digitBytes bytesAt
+bytes-drop t p zero h = rw (drop-of-length-le t {i = p} (omega arith))
+bytes-drop t p (suc k) h =
+    let a = drop-cons t p 0 (omega arith) in
+    let b = drop-cons t (suc p) 0 (omega arith) in
+    let e : suc (suc p) ≡ p + 2 = omega arith in
+    rw (a, b, add-one p, e) (ap (λ (l : List ℕ). byteOf (getD t p 0) (getD t (suc p) 0) ∷ l) (bytes-drop t (p + 2) k (omega arith)))
+
+pub bytes-at : (t : List ℕ) (p k j : ℕ) → j < k → getD (bytesAt t p k) j 0 ≡ pairByte t (2 * j + p)
+unfolding bytesAt
+bytes-at t p zero j h = absurd (not-suc-le-zero h)
+bytes-at t p (suc k) zero h = let e : 2 * zero + p ≡ p = omega arith in rw e
+bytes-at t p (suc k) (suc j) h =
+    let e : 2 * suc j + p ≡ 2 * j + (p + 2) = omega arith in rw e (bytes-at t (p + 2) k j (le-of-suc-le-suc h))
+
+-- digits alone spell bytes
+all-bytes : (t : List ℕ) (p k : ℕ) → ((i : ℕ) → p ≤ i → i < p + 2 * k → valueOf (getD t i 0) < 16) → allBytes (bytesAt t p k) ≡ true
+unfolding allBytes bytesAt
+all-bytes t p zero f = refl
+all-bytes t p (suc k) f =
+    let two = two-digits (getD t p 0) (getD t (p + 1) 0) (f p (omega arith) (omega arith)) (f (p + 1) (omega arith) (omega arith)) in
+    and-both (ltb (pairByte t p) 256) (allBytes (bytesAt t (p + 2) k)) (lt-ltb (pairByte t p) 256 (pair-small _ _ two))
+    (all-bytes t (p + 2) k (λ i l h. f i (omega arith) (omega arith)))
 
 all-small : (bs : List ℕ) → allBytes bs ≡ true → (i : ℕ) → getD bs i 0 < 256
 unfolding allBytes
@@ -54,18 +94,108 @@ all-small [] e i = omega arith
 all-small (b ∷ bs) e zero = ltb-true b 256 (and-left (ltb b 256) (allBytes bs) e)
 all-small (b ∷ bs) e (suc i) = all-small bs (and-right (ltb b 256) (allBytes bs) e) i
 
--- digits that all spell bytes are two for each
-all-even : (ds : List ℕ) → allBytes (bytesOf ds) ≡ true → length ds ≡ 2 * length (bytesOf ds)
-unfolding bytesOf allBytes
-all-even [] e = refl
-all-even (a ∷ []) e = absurd (false≢true e)
-all-even (a ∷ b ∷ ds) e = let q = all-even ds (and-right (ltb (byteOf a b) 256) (allBytes (bytesOf ds)) e) in omega arith
+-- and what spells bytes are digits
+from-two : (P : ℕ → Type 0) (p i : ℕ) → p ≤ i → P p → P (p + 1) → (p + 2 ≤ i → P i) → P i
+from-two P p i l first second more = by (eqb i p) (eqb i (p + 1)) refl refl
+  where
+    by : (a b : Bool) → eqb i p ≡ a → eqb i (p + 1) ≡ b → P i
+    by true b x y = rw (eqb-true i p x) first
+    by false true x y = rw (eqb-true i (p + 1) y) second
+    by false false x y = let n = eqb-false i p x in let m = eqb-false i (p + 1) y in more (omega arith)
 
--- THE SUM
+bytes-all : (t : List ℕ) (p k : ℕ) → allBytes (bytesAt t p k) ≡ true → (i : ℕ) → p ≤ i → i < p + 2 * k → valueOf (getD t i 0) < 16
+unfolding allBytes bytesAt
+bytes-all t p zero e i l h = absurd (omega arith)
+bytes-all t p (suc k) e i l h =
+    let two = pair-so _ _ (ltb-true (pairByte t p) 256 (and-left (ltb (pairByte t p) 256) (allBytes (bytesAt t (p + 2) k)) e)) in
+    let more = bytes-all t (p + 2) k (and-right (ltb (pairByte t p) 256) (allBytes (bytesAt t (p + 2) k)) e) i in
+    from-two (λ (i : ℕ). valueOf (getD t i 0) < 16) p i l (first-small _ _ two) (second-small _ _ two) (λ m. more m (omega arith))
 
-sum-bad : (bs : List ℕ) → checkFrom 0 bs ≡ 256 → allBytes bs ≡ false
+-- WHETHER A LINE IS A RECORD
+
+module _ (line : List ℕ) (m : ℕ) (long : length line ≡ 2 * m + 1) where
+  pub line-bytes : lineBytes line ≡ bytesAt line 1 m
+  line-bytes = bytes-drop line 1 m (omega arith)
+
+  module _ (digits : (i : ℕ) → 1 ≤ i → i < length line → valueOf (getD line i 0) < 16) where
+    -- byte j of the record
+    pub byte-spelled : (j : ℕ) → j < m → getD (lineBytes line) j 0 ≡ spells line j
+    byte-spelled j h =
+        let e : 2 * j + 1 + 1 ≡ 2 * j + 2 = omega arith in
+        let high = digits (2 * j + 1) (omega arith) (omega arith) in
+        let low = digits (2 * j + 2) (omega arith) (omega arith) in
+        let two = two-digits (getD line (2 * j + 1) 0) (getD line (2 * j + 2) 0) high low in
+        rw line-bytes (bytes-at line 1 m j h ∙ rw e (spelled _ _ two))
+
+-- what the definition reads as whole is a record
+pub whole-record : (line bytes : List ℕ) → recordOf line ≡ Whole bytes → IsRecord line × (bytes ≡ lineBytes line)
+unfolding recordOf digitsWhole
+whole-record [] bytes e = no-way (cc)
+whole-record (c ∷ ds) bytes e = by (eqb c 0x3A) (eqb (digitsIn (digitsDue ds) ds) (digitsDue ds)) (eqb (length ds) (digitsDue ds)) refl refl refl
+  where
+    by :
+        (x y z : Bool) → eqb c 0x3A ≡ x → eqb (digitsIn (digitsDue ds) ds) (digitsDue ds) ≡ y → eqb (length ds) (digitsDue ds) ≡ z
+        → IsRecord (c ∷ ds) × (bytes ≡ lineBytes (c ∷ ds))
+    by false y z p q r = let f = rw p at e in no-way (cc)
+    by true false z p q r = let f = rw (p, q) at e in no-way (cc)
+    by true true false p q r = let f = rw (p, q, r) at e in no-way (cc)
+    by true true true p q r =
+        let f : Whole (digitBytes ds) ≡ Whole bytes = rw (p, q, r) at e in
+        let due : length ds ≡ digitsDue ds = eqb-true _ _ r in
+        let found = found-digits (digitsDue ds) ds (eqb-true _ _ q) in
+        let digits = behind c ds (λ i l. found i (omega arith)) in
+        let n = byte-spelled (c ∷ ds) (recordCount (digitBytes ds) + 5) (omega arith) digits 0 (omega arith) in
+        (record { colon = eqb-true c 0x3A p; digits = digits; counted = omega arith }, cc)
+
+-- and a record is read as whole
+pub record-whole : (line : List ℕ) → IsRecord line → recordOf line ≡ Whole (lineBytes line)
+unfolding recordOf digitsWhole
+record-whole [] r = absurd (omega (arith, r .colon))
+record-whole (c ∷ ds) r =
+    let n = byte-spelled (c ∷ ds) (lineCount (c ∷ ds) + 5) (r .counted) (r .digits) 0 (omega arith) in
+    let due : length ds ≡ digitsDue ds = omega (arith, r .counted) in
+    let found = digits-found (digitsDue ds) ds (omega arith) (λ i l. r .digits (suc i) (omega arith) (omega arith)) in
+    rw (eq-eqb c 0x3A (r .colon), eq-eqb _ _ found, eq-eqb _ _ due)
+
+-- a record's bytes: as many as it counts, and 5; the first is the count, and each is below 256
+module _ (line : List ℕ) (r : IsRecord line) where
+  pub record-half : length line / 2 ≡ lineCount line + 5
+  record-half = omega (arith, r .counted)
+
+  pub record-length : length (lineBytes line) ≡ lineCount line + 5
+  record-length = rw (line-bytes line _ (r .counted)) (bytes-length line 1 (lineCount line + 5))
+
+  pub byte-is : (j : ℕ) → j < lineCount line + 5 → getD (lineBytes line) j 0 ≡ spells line j
+  byte-is = byte-spelled line _ (r .counted) (r .digits)
+
+  pub byte-small : (j : ℕ) → getD (lineBytes line) j 0 < 256
+  byte-small j =
+      all-small (lineBytes line)
+      (rw (line-bytes line _ (r .counted)) (all-bytes line 1 (lineCount line + 5) (λ i l h. r .digits i l (omega (arith, r .counted))))) j
+
+-- THE SUM of a line that is a record, and of one that is none
+
+sum-none : (line : List ℕ) → (IsRecord line → ⊥) → sumOf (recordOf line) ≡ 256
+sum-none line n = by (recordOf line) refl
+  where
+    by : (r : Spelled) → recordOf line ≡ r → sumOf r ≡ 256
+    by (Whole bytes) e = absurd (n (whole-record line bytes e .0))
+    by (Broken place) e = refl
+
+pub sum-record : (line : List ℕ) → IsRecord line → sumOf (recordOf line) ≡ 256 → ⊥
+sum-record line r e = let f : total (lineBytes line) % 256 ≡ 256 = rw (record-whole line r) at e in omega arith
+
+pub sum-some : (line : List ℕ) → (sumOf (recordOf line) ≡ 256 → ⊥) → IsRecord line
+sum-some line n = by (recordOf line) refl
+  where
+    by : (r : Spelled) → recordOf line ≡ r → IsRecord line
+    by (Whole bytes) e = whole-record line bytes e .0
+    by (Broken place) e = absurd (n (rw e))
+
+-- all are bytes, or the sum says so
+sum-bad : (bs : List ℕ) → checkFrom 0 bs ≡ 256 → allBytes bs ≡ true → ⊥
 unfolding checkFrom
-sum-bad bs e = not-so _ (λ a. let f : (0 + total bs) % 256 ≡ 256 = (rw a at e) in omega arith)
+sum-bad bs e a = let f : (0 + total bs) % 256 ≡ 256 = rw a at e in omega arith
 
 sum-good : (bs : List ℕ) → (checkFrom 0 bs ≡ 256 → ⊥) → (allBytes bs ≡ true) × (checkFrom 0 bs ≡ total bs % 256)
 unfolding checkFrom
@@ -75,388 +205,84 @@ sum-good bs h = by (allBytes bs) refl
     by true e = (e, simp (e, zero-add))
     by false e = absurd (h (simp e))
 
--- WHETHER A LINE IS A RECORD, read from left to right or all at once
+-- THE BYTES AT THE FRONT of what was lent
 
--- a colon, digits alone, and as many bytes as counted
-unfoldable pub isRecord : List ℕ → Bool
-isRecord line = eqb (getD line 0 0) 0x3A && (allBytes (spelledBy line) && eqb (length (spelledBy line)) (countOf (spelledBy line) + 5))
+module _ (bytes before : List ℕ) {held : List ℕ} (room : length bytes ≤ length before) (put : held ≡ sets before 0 bytes) where
+  held-is : held ≡ bytes ++ drop (length bytes) before
+  held-is = put ∙ sets-eq bytes before 0 (omega arith) ∙ rw zero-add
 
--- digits that all spell bytes are all digits
-all-digits : (ds : List ℕ) → allBytes (bytesOf ds) ≡ true → digitsIn (length ds) ds ≡ length ds
-unfolding bytesOf allBytes digitsIn
-all-digits [] e = refl
-all-digits (a ∷ []) e = absurd (false≢true e)
-all-digits (a ∷ b ∷ ds) e =
-    let d = pair-so a b (ltb-true (byteOf a b) 256 (and-left (ltb (byteOf a b) 256) (allBytes (bytesOf ds)) e)) in
-    simp (and-left (isDigit a) (isDigit b) d, and-right (isDigit a) (isDigit b) d)
-    (ap (λ (n : ℕ). suc (suc n)) (all-digits ds (and-right (ltb (byteOf a b) 256) (allBytes (bytesOf ds)) e)))
+  pub front-is : take (length bytes) held ≡ bytes
+  front-is = rw held-is (take-at bytes _ (length bytes) refl)
 
--- one digit more
-digit-first : (k c : ℕ) (ds : List ℕ) → digitsIn (suc k) (c ∷ ds) ≡ suc k → (isDigit c ≡ true) × (digitsIn k ds ≡ k)
-unfolding digitsIn
-digit-first k c ds e = by (isDigit c) refl
-  where
-    by : (b : Bool) → isDigit c ≡ b → (isDigit c ≡ true) × (digitsIn k ds ≡ k)
-    by true d = let f = rw d at e in (d, omega arith)
-    by false d = let f = rw d at e in absurd (omega arith)
+  front-count : 0 < length bytes → recordCount held ≡ recordCount bytes
+  front-count h = rw held-is (List·getD-append bytes (drop (length bytes) before) 0 0 h)
 
--- two digits for each of k bytes, and nothing else, spell k bytes
-digits-all : (k : ℕ) (ds : List ℕ) → digitsIn (2 * k) ds ≡ 2 * k → length ds ≡ 2 * k → (allBytes (bytesOf ds) ≡ true) × (length (bytesOf ds) ≡ k)
-unfolding bytesOf allBytes
-digits-all zero [] e l = (refl, refl)
-digits-all zero (a ∷ ds) e l = absurd (omega arith)
-digits-all (suc k) [] e l = absurd (omega arith)
-digits-all (suc k) (a ∷ []) e l = absurd (omega arith)
-digits-all (suc k) (a ∷ b ∷ ds) e l =
-    let two : 2 * suc k ≡ suc (suc (2 * k)) = omega arith in
-    let f = digit-first (suc (2 * k)) a (b ∷ ds) (rw two at e) in
-    let g = digit-first (2 * k) b ds (f .1) in
-    let r = digits-all k ds (g .1) (omega arith) in
-    (and-both (ltb (byteOf a b) 256) (allBytes (bytesOf ds)) (lt-ltb (byteOf a b) 256 (pair-small a b (and-both (isDigit a) (isDigit b) (f .0) (g .0)))) (r .0), ap suc (r .1))
+  pub front-data : (n : ℕ) → 4 + n ≤ length bytes → recordData n held ≡ recordData n bytes
+  front-data n h =
+      rw (held-is, drop-append-le 4 bytes (drop (length bytes) before) (omega arith))
+      (take-append-le n (drop 4 bytes) (drop (length bytes) before) (simp length-drop (omega arith)))
 
-module _ (ds : List ℕ) where
-  abbrev found : Bool
-  found = eqb (digitsIn (dueOf ds) ds) (dueOf ds)
+-- WHAT WAS SUMMED, TEST BY TEST
 
-  abbrev long : Bool
-  long = eqb (length ds) (dueOf ds)
+module _ (line before after : List ℕ) where
+  summed-not : (IsRecord line → ⊥) → Summed line before after 256
+  summed-not n = record { sum = sym (sum-none line n); put = λ bytes e. absurd (n (whole-record line bytes e .0)) }
 
-  abbrev all : Bool
-  all = allBytes (bytesOf ds)
+  pub summed-short : length line < 11 → Summed line before after 256
+  summed-short h = summed-not (λ r. omega (arith, r .counted))
 
-  abbrev counted : Bool
-  counted = eqb (length (bytesOf ds)) (countOf (bytesOf ds) + 5)
-
-  whole-counted : (found && long) ≡ true → (all && counted) ≡ true
-  whole-counted e =
-      let r = digits-all (countOf (bytesOf ds) + 5) ds (eqb-true _ _ (and-left found long e)) (eqb-true _ _ (and-right found long e)) in
-      and-both all counted (r .0) (eq-eqb _ _ (r .1))
-
-  counted-whole : (all && counted) ≡ true → (found && long) ≡ true
-  counted-whole e =
-      let a = and-left all counted e in
-      let c : length (bytesOf ds) ≡ countOf (bytesOf ds) + 5 = eqb-true _ _ (and-right all counted e) in
-      let l : length ds ≡ dueOf ds = all-even ds a ∙ ap (λ (n : ℕ). 2 * n) c in
-      and-both found long (eq-eqb _ _ (ap (λ (n : ℕ). digitsIn n ds) (sym l) ∙ all-digits ds a ∙ l)) (eq-eqb _ _ l)
-
-  digits-whole : digitsWhole ds ≡ (all && counted)
-  unfolding digitsWhole
-  digits-whole = same-tests (found && long) (all && counted) whole-counted counted-whole
-
-spelled-whole : (line : List ℕ) → isRecord line ≡ true → recordOf line ≡ Whole (spelledBy line)
-unfolding isRecord recordOf
-spelled-whole [] e = absurd (false≢true e)
-spelled-whole (c ∷ ds) e =
-    let rest : Bool = allBytes (bytesOf ds) && eqb (length (bytesOf ds)) (countOf (bytesOf ds) + 5) in
-    simp (and-left (eqb c 0x3A) rest e, digits-whole ds ∙ and-right (eqb c 0x3A) rest e)
-
--- any other line has H1
-spelled-broken : (base size : ℕ) (s : State) (line : List ℕ) → isRecord line ≡ false → says base size s (recordOf line) ≡ Fault H1
-unfolding isRecord recordOf
-spelled-broken base size s [] e = refl
-spelled-broken base size s (c ∷ ds) e = by (eqb c 0x3A) refl
-  where
-    by : (b : Bool) → eqb c 0x3A ≡ b → says base size s (recordOf (c ∷ ds)) ≡ Fault H1
-    by false f = simp f
-    by true f = simp (f, digits-whole ds ∙ (rw f at e))
-
-record-fields : (line : List ℕ) → isRecord line ≡ true → (getD line 0 0 ≡ 0x3A) × ((allBytes (spelledBy line) ≡ true) × (length (spelledBy line) ≡ countOf (spelledBy line) + 5))
-unfolding isRecord
-record-fields line e =
-    let colon : Bool = eqb (getD line 0 0) 0x3A in
-    let all : Bool = allBytes (spelledBy line) in
-    let counted : Bool = eqb (length (spelledBy line)) (countOf (spelledBy line) + 5) in
-    let r = and-right colon (all && counted) e in
-    (eqb-true _ _ (and-left colon (all && counted) e), (and-left all counted r, eqb-true _ _ (and-right all counted r)))
-
-module _ (t : List ℕ) (from to : ℕ) (k : to ≤ length t) where
-  line-colon : from < to → getD (slice from to t) 0 0 ≡ getD t from 0
-  line-colon h = rw (slice-cons from to t 0 h k)
-
-  line-digits : from < to → drop 1 (slice from to t) ≡ slice (from + 1) to t
-  line-digits h = rw (add-one, slice-cons from to t 0 h k)
-
-  -- a record's line is as long as its count says
-  length-not : ((n : ℕ) → n < 256 → to - from ≡ 11 + 2 * n → ⊥) → isRecord (slice from to t) ≡ false
-  length-not d =
-      not-so _
+  pub summed-long : 521 < length line → Summed line before after 256
+  summed-long h =
+      summed-not
       (λ r.
-      let f = record-fields (slice from to t) r in
-      let a = all-even (drop 1 (slice from to t)) (f .1 .0) in
-      let b = length-drop 1 (slice from to t) in
-      let c = length-slice from to t k in
-      d (countOf (spelledBy (slice from to t))) (all-small (spelledBy (slice from to t)) (f .1 .0) 0) (omega (arith, f .1 .1)))
+      let high = r .digits 1 (omega arith) (omega arith) in
+      let low = r .digits 2 (omega arith) (omega arith) in
+      omega (arith, r .counted))
 
-  colon-not : from < to → (getD t from 0 ≡ 0x3A → ⊥) → isRecord (slice from to t) ≡ false
-  colon-not h n = not-so _ (λ e. n (sym (line-colon h) ∙ record-fields (slice from to t) e .0))
+  pub summed-even : length line % 2 ≡ 0 → Summed line before after 256
+  summed-even h = summed-not (λ r. omega (arith, r .counted))
 
-  module _ (m : ℕ) (len : to - from ≡ 2 * m + 1) where
-    record-at : spelledBy (slice from to t) ≡ bytesAt t (from + 1) m
-    record-at =
-        let e : to ≡ from + 1 + 2 * m = omega arith in
-        ap bytesOf (line-digits (omega arith)) ∙ rw e (bytes-slice t (from + 1) m (omega arith))
+  pub summed-colon : (getD line 0 0 ≡ 0x3A → ⊥) → Summed line before after 256
+  summed-colon h = summed-not (λ r. h (r .colon))
 
-    bytes-not : allBytes (bytesAt t (from + 1) m) ≡ false → isRecord (slice from to t) ≡ false
-    bytes-not a = not-so _ (λ r. let b = record-fields (slice from to t) r .1 .0 in let z : _≡_ {A = ℕ} 0 1 = cc record-at in omega arith)
+  -- the pairs of digits behind the colon
+  abbrev pairs : List ℕ
+  pairs = bytesAt line 1 (length line / 2)
 
-    count-not : (m ≡ countOf (bytesAt t (from + 1) m) + 5 → ⊥) → isRecord (slice from to t) ≡ false
-    count-not n = not-so _ (λ r. n (sym (bytes-length t (from + 1) m) ∙ (rw record-at at (record-fields (slice from to t) r .1 .1))))
+  module _ (odd : length line % 2 ≡ 0 → ⊥) {sum : ℕ} (added : sum ≡ checkFrom 0 pairs) where
+    halves : length line ≡ 2 * (length line / 2) + 1
+    halves = omega arith
 
-    is-record : getD t from 0 ≡ 0x3A → allBytes (bytesAt t (from + 1) m) ≡ true → m ≡ countOf (bytesAt t (from + 1) m) + 5 → isRecord (slice from to t) ≡ true
-    unfolding isRecord
-    is-record c a e = simp (eq-eqb _ 0x3A (line-colon (omega arith) ∙ c), record-at, a, eq-eqb _ _ (bytes-length t (from + 1) m ∙ e))
+    pub summed-bytes : sum ≡ 256 → Summed line before after 256
+    summed-bytes z =
+        summed-not
+        (λ r. sum-bad _ (sym added ∙ z) (all-bytes line 1 (length line / 2) (λ i l h. r .digits i l (omega arith))))
 
--- WHAT A LINE SAYS, CASE BY CASE
+    module _
+        (good : sum ≡ 256 → ⊥) (colon : getD line 0 0 ≡ 0x3A) (some : 11 ≤ length line) (few : length line ≤ 521)
+        (room : 260 ≤ length before) (put : after ≡ sets before 0 pairs) {n : ℕ} (count : n ≡ recordCount after) where
+      total-is : (allBytes pairs ≡ true) × (checkFrom 0 pairs ≡ total pairs % 256)
+      total-is = sum-good _ (λ z. good (added ∙ z))
 
-module _ (base size : ℕ) (s : State) (line : List ℕ) where
-  pub found-over : s .over ≡ true → foundOf base size s line ≡ Fault H6
-  unfolding foundOf
-  found-over o = rw o
+      digits : (i : ℕ) → 1 ≤ i → i < length line → valueOf (getD line i 0) < 16
+      digits i l h = bytes-all line 1 (length line / 2) (total-is .0) i l (omega arith)
 
-  module _ (o : s .over ≡ false) where
-    pub found-1 : isRecord line ≡ false → foundOf base size s line ≡ Fault H1
-    unfolding foundOf
-    found-1 r = rw (spelled-broken base size s line r, o)
+      count-is : n ≡ lineCount line
+      count-is =
+          let b = line-bytes line (length line / 2) halves in
+          let l = bytes-length line 1 (length line / 2) in
+          count ∙ front-count pairs before (omega arith) put (omega arith)
+          ∙ rw b at (byte-spelled line (length line / 2) halves digits 0 (omega arith))
 
-    pub found-2 : isRecord line ≡ true → (total (spelledBy line) % 256 ≡ 0 → ⊥) → foundOf base size s line ≡ Fault H2
-    unfolding foundOf
-    found-2 r n = rw (o, spelled-whole line r, ne-eqb (total (spelledBy line) % 256) 0 n)
+      pub summed-count : (length line / 2 ≡ n + 5 → ⊥) → Summed line before after 256
+      summed-count d = summed-not (λ r. let c = count-is in d (omega (arith, r .counted)))
 
-    pub found-typed : isRecord line ≡ true → total (spelledBy line) % 256 ≡ 0 → foundOf base size s line ≡ typed base size (s .upper) (s .last) (spelledBy line)
-    unfolding foundOf
-    found-typed r z = rw (o, spelled-whole line r, eq-eqb (total (spelledBy line) % 256) 0 z)
-
--- a record's type, case by case
-module _ (base size upper last : ℕ) (r : List ℕ) (counted : countOf r + 5 ≤ length r) {a : ℕ} (read : a ≡ numberAt 2 r 1) where
-  ea : a ≡ addressOf r
-  ea = read ∙ number-two r 1 (omega arith)
-
-  pub typed-data : typeOf r ≡ 0 → typed base size upper last r ≡ dataAt base size last (upper * 65536 + a) (countOf r)
-  unfolding typed
-  typed-data z = simp (eq-eqb (typeOf r) 0 z, ea)
-
-  module _ (nz : typeOf r ≡ 0 → ⊥) where
-    pub typed-field : (a ≡ 0 → ⊥) → typed base size upper last r ≡ Fault H3
-    unfolding typed
-    typed-field n = simp (ne-eqb (typeOf r) 0 nz, ne-eqb (addressOf r) 0 (λ z. n (ea ∙ z)))
-
-    module _ (az : a ≡ 0) where
-      pub typed-end : typeOf r ≡ 1 → countOf r ≡ 0 → typed base size upper last r ≡ End
-      unfolding typed
-      typed-end e f = simp (ne-eqb (typeOf r) 0 nz, eq-eqb (addressOf r) 0 (sym ea ∙ az), eq-eqb (typeOf r) 1 e, eq-eqb (countOf r) 0 f)
-
-      pub typed-upper : {u : ℕ} → u ≡ numberAt 2 r 4 → typeOf r ≡ 4 → countOf r ≡ 2 → typed base size upper last r ≡ Upper u
-      unfolding typed
-      typed-upper high e f =
-          simp (
-            ne-eqb (typeOf r) 0 nz,
-            eq-eqb (addressOf r) 0 (sym ea ∙ az),
-            not-both (typeOf r) 1 (countOf r) 0 (λ x y. omega arith),
-            eq-eqb (typeOf r) 4 e,
-            eq-eqb (countOf r) 2 f,
-            high ∙ number-two r 4 (omega arith),
-          )
-
-      pub typed-other : typeOf r ≡ 5 → countOf r ≡ 4 → typed base size upper last r ≡ Other
-      unfolding typed
-      typed-other e f =
-          simp (
-            ne-eqb (typeOf r) 0 nz,
-            eq-eqb (addressOf r) 0 (sym ea ∙ az),
-            not-both (typeOf r) 1 (countOf r) 0 (λ x y. omega arith),
-            not-both (typeOf r) 4 (countOf r) 2 (λ x y. omega arith),
-            eq-eqb (typeOf r) 5 e,
-            eq-eqb (countOf r) 4 f,
-          )
-
-      pub typed-bad :
-          (typeOf r ≡ 1 → countOf r ≡ 0 → ⊥) → (typeOf r ≡ 4 → countOf r ≡ 2 → ⊥) → (typeOf r ≡ 5 → countOf r ≡ 4 → ⊥)
-          → typed base size upper last r ≡ Fault H3
-      unfolding typed
-      typed-bad x y z =
-          simp (
-            ne-eqb (typeOf r) 0 nz,
-            eq-eqb (addressOf r) 0 (sym ea ∙ az),
-            not-both (typeOf r) 1 (countOf r) 0 x,
-            not-both (typeOf r) 4 (countOf r) 2 y,
-            not-both (typeOf r) 5 (countOf r) 4 z,
-          )
-
-in-bank : (base size start n : ℕ) → inBank base size start n ≡ true → (base ≤ start) × (start + n ≤ base + size)
-unfolding inBank
-in-bank base size start n e =
-    (leb-true base start (and-left (leb base start) (leb (start + n) (base + size)) e), leb-true (start + n) (base + size) (and-right (leb base start) (leb (start + n) (base + size)) e))
-
--- what holds of each thing that a record may say holds of what it says
-module _ (P : Found → Type 0) (faulty : (k : Kind) → P (Fault k)) (other : P Other) (base size last : ℕ) where
-  data-by :
-      (start n : ℕ) → (base ≤ start → start + n ≤ base + size → last ≤ start → P (Data start n)) → P (dataAt base size last start n)
-  unfolding dataAt
-  data-by start n f =
-      split P (eqb n 0) (λ x. other)
-      (λ x. split P (inBank base size start n)
-      (λ y. split P (leb last start) (λ z. f (in-bank base size start n y .0) (in-bank base size start n y .1) (leb-true last start z)) (λ z. faulty H5))
-      (λ y. faulty H4))
-
-  typed-by :
-      (upper : ℕ) (r : List ℕ) → P End → P (Upper (getD r 4 0 * 256 + getD r 5 0))
-      → ((start : ℕ) → base ≤ start → start + countOf r ≤ base + size → last ≤ start → P (Data start (countOf r))) → P (typed base size upper last r)
-  unfolding typed
-  typed-by upper r end high f =
-      split P (eqb (typeOf r) 0) (λ x. data-by (upper * 65536 + addressOf r) (countOf r) (f (upper * 65536 + addressOf r)))
-      (λ x. split P (eqb (addressOf r) 0)
-      (λ y. split P (eqb (typeOf r) 1 && eqb (countOf r) 0) (λ z. end)
-      (λ z. split P (eqb (typeOf r) 4 && eqb (countOf r) 2) (λ u. high)
-      (λ u. split P (eqb (typeOf r) 5 && eqb (countOf r) 4) (λ v. other) (λ v. faulty H3))))
-      (λ y. faulty H3))
-
--- WHAT DATA AND AN UPPER HALF TELL OF THE LINE THAT SAYS THEM
-
-pub record DataIn (base size last : ℕ) (line : List ℕ) (start n : ℕ) : Type 0 where
-  pub low : base ≤ start
-  pub high : start + n ≤ base + size
-  pub after : last ≤ start
-  pub whole : length (dataOf n (spelledBy line)) ≡ n
-
-abbrev Told : ℕ → ℕ → ℕ → List ℕ → Found → Type 0
-Told base size last line (Fault k) = Unit {0}
-Told base size last line (Data start n) = DataIn base size last line start n
-Told base size last line (Upper u) = u < 65536
-Told base size last line End = Unit {0}
-Told base size last line Other = Unit {0}
-
-told-typed :
-    (base size upper last : ℕ) (line : List ℕ) → allBytes (spelledBy line) ≡ true → length (spelledBy line) ≡ countOf (spelledBy line) + 5
-    → Told base size last line (typed base size upper last (spelledBy line))
-told-typed base size upper last line all w =
-    typed-by (Told base size last line) (λ k. tt) tt base size last upper (spelledBy line) tt
-    (let a = all-small (spelledBy line) all 4 in let b = all-small (spelledBy line) all 5 in omega arith)
-    (λ start low high after. record { low = low; high = high; after = after; whole = simp (length-take, length-drop) (omega arith) })
-
-told : (base size : ℕ) (s : State) (line : List ℕ) → Told base size (s .last) line (foundOf base size s line)
-told base size s line = by (s .over) refl
-  where
-    sum : s .over ≡ false → isRecord line ≡ true → (b : Bool) → eqb (total (spelledBy line) % 256) 0 ≡ b → Told base size (s .last) line (foundOf base size s line)
-    sum o q false e = rw (found-2 base size s line o q (eqb-false _ 0 e)) tt
-    sum o q true e = rw (found-typed base size s line o q (eqb-true _ 0 e)) (told-typed base size (s .upper) (s .last) line (record-fields line q .1 .0) (record-fields line q .1 .1))
-
-    spelt : s .over ≡ false → (b : Bool) → isRecord line ≡ b → Told base size (s .last) line (foundOf base size s line)
-    spelt o false q = rw (found-1 base size s line o q) tt
-    spelt o true q = sum o q (eqb (total (spelledBy line) % 256) 0) refl
-
-    by : (b : Bool) → s .over ≡ b → Told base size (s .last) line (foundOf base size s line)
-    by true o = rw (found-over base size s line o) tt
-    by false o = spelt o (isRecord line) refl
-
-pub data-in : (base size : ℕ) (s : State) (line : List ℕ) (start n : ℕ) → foundOf base size s line ≡ Data start n → DataIn base size (s .last) line start n
-data-in base size s line start n e = rw e at (told base size s line)
-
-pub upper-in : (base size : ℕ) (s : State) (line : List ℕ) (u : ℕ) → foundOf base size s line ≡ Upper u → u < 65536
-upper-in base size s line u e = rw e at (told base size s line)
-
--- WHAT WAS LOOKED AT, CASE BY CASE
-
--- the bytes of a record at the front of what the code holds
-module _ (t : List ℕ) (p m : ℕ) {held : List ℕ} (before : List ℕ) (room : m ≤ length before) (put : held ≡ sets before 0 (bytesAt t p m)) where
-  held-is : held ≡ bytesAt t p m ++ drop m before
-  held-is = let l = bytes-length t p m in put ∙ sets-eq (bytesAt t p m) before 0 (omega arith) ∙ rw (zero-add, l)
-
-  front-is : take m held ≡ bytesAt t p m
-  front-is = rw held-is (take-at (bytesAt t p m) _ m (bytes-length t p m))
-
-  front-count : 0 < m → countOf held ≡ countOf (bytesAt t p m)
-  front-count h = let l = bytes-length t p m in rw held-is (List·getD-append (bytesAt t p m) (drop m before) 0 0 (omega arith))
-
-  front-data : (n : ℕ) → 4 ≤ m → length (dataOf n (bytesAt t p m)) ≡ n → dataOf n held ≡ dataOf n (bytesAt t p m)
-  front-data n h w =
-      let l = bytes-length t p m in
-      let w' = simp (length-take, length-drop) at w in
-      rw (held-is, drop-append-le 4 (bytesAt t p m) (drop m before) (omega arith))
-      (take-append-le n (drop 4 (bytesAt t p m)) (drop m before) (simp length-drop (omega arith)))
-
--- how many pairs of digits a line of odd length has behind its colon
-abbrev pairs : ℕ → ℕ → ℕ
-pairs from to = (to - from) / 2
-
-module _ (t : List ℕ) (from to : ℕ) (k : to ≤ length t) (base size : ℕ) (s : State) (held : List ℕ) where
-  looked-fault : (f : Kind) → foundOf base size s (slice from to t) ≡ Fault f → Looked t from to base size s held (Fault f)
-  looked-fault f e = record { is = sym e; holds = λ start n z. no-way (cc) }
-
-  pub looked-over : s .over ≡ true → Looked t from to base size s held (Fault H6)
-  looked-over o = looked-fault H6 (found-over base size s (slice from to t) o)
-
-  module _ (o : s .over ≡ false) where
-    looked-1 : isRecord (slice from to t) ≡ false → Looked t from to base size s held (Fault H1)
-    looked-1 r = looked-fault H1 (found-1 base size s (slice from to t) o r)
-
-    pub looked-short : to - from < 11 → Looked t from to base size s held (Fault H1)
-    looked-short h = looked-1 (length-not t from to k (λ n l e. omega arith))
-
-    pub looked-long : 521 < to - from → Looked t from to base size s held (Fault H1)
-    looked-long h = looked-1 (length-not t from to k (λ n l e. omega arith))
-
-    pub looked-even : (to - from) % 2 ≡ 0 → Looked t from to base size s held (Fault H1)
-    looked-even h = looked-1 (length-not t from to k (λ n l e. omega arith))
-
-    module _ (short : 11 ≤ to - from) where
-      pub looked-colon : (getD t from 0 ≡ 0x3A → ⊥) → Looked t from to base size s held (Fault H1)
-      looked-colon n = looked-1 (colon-not t from to k (omega arith) n)
-
-      module _ (odd : (to - from) % 2 ≡ 0 → ⊥) {sum : ℕ} (added : sum ≡ checkFrom 0 (bytesAt t (from + 1) (pairs from to))) where
-        record-is : spelledBy (slice from to t) ≡ bytesAt t (from + 1) (pairs from to)
-        record-is = record-at t from to k (pairs from to) (omega arith)
-
-        pub looked-bytes : sum ≡ 256 → Looked t from to base size s held (Fault H1)
-        looked-bytes z = looked-1 (bytes-not t from to k (pairs from to) (omega arith) (sum-bad _ (sym added ∙ z)))
-
-        module _
-            (g : sum ≡ 256 → ⊥) (long : to - from ≤ 521) (before : List ℕ) (wide : 260 ≤ length before)
-            (put : held ≡ sets before 0 (bytesAt t (from + 1) (pairs from to))) {n : ℕ} (e : n ≡ countOf held) where
-          room : pairs from to ≤ length before
-          room = omega arith
-
-          count-is : n ≡ countOf (bytesAt t (from + 1) (pairs from to))
-          count-is = e ∙ front-count t (from + 1) (pairs from to) before room put (omega arith)
-
-          pub looked-count : (pairs from to ≡ n + 5 → ⊥) → Looked t from to base size s held (Fault H1)
-          looked-count d = looked-1 (count-not t from to k (pairs from to) (omega arith) (λ z. d (z ∙ ap (λ (c : ℕ). c + 5) (sym count-is))))
-
-          module _ (colon : getD t from 0 ≡ 0x3A) (fit : pairs from to ≡ n + 5) where
-            good : (allBytes (spelledBy (slice from to t)) ≡ true) × (checkFrom 0 (spelledBy (slice from to t)) ≡ total (spelledBy (slice from to t)) % 256)
-            good = sum-good (spelledBy (slice from to t)) (λ z. g (added ∙ (rw record-is at z)))
-
-            whole : isRecord (slice from to t) ≡ true
-            whole = is-record t from to k (pairs from to) (omega arith) colon (rw record-is at (good .0)) (fit ∙ ap (λ (c : ℕ). c + 5) count-is)
-
-            added-is : sum ≡ total (spelledBy (slice from to t)) % 256
-            added-is = added ∙ sym (ap (checkFrom 0) record-is) ∙ good .1
-
-            pub looked-sum : (sum ≡ 0 → ⊥) → Looked t from to base size s held (Fault H2)
-            looked-sum h = looked-fault H2 (found-2 base size s (slice from to t) o whole (λ z. h (added-is ∙ z)))
-
-            pub looked-counted : countOf (take (pairs from to) held) + 5 ≤ length (take (pairs from to) held)
-            looked-counted =
-                let l = bytes-length t (from + 1) (pairs from to) in
-                let c = count-is in
-                rw (front-is t (from + 1) (pairs from to) before room put) (omega arith)
-
-            pub looked-typed :
-                {r : Found} → sum ≡ 0 → r ≡ typed base size (s .upper) (s .last) (take (pairs from to) held) → Looked t from to base size s held r
-            looked-typed z q =
-                let f = q ∙ ap (typed base size (s .upper) (s .last)) (front-is t (from + 1) (pairs from to) before room put ∙ sym record-is) ∙ sym (found-typed base size s (slice from to t) o whole (sym added-is ∙ z)) in
-                record {
-                  is = f;
-                  holds =
-                      λ start n h.
-                      rw record-is
-                      (front-data t (from + 1) (pairs from to) before room put n (omega arith)
-                      (rw record-is at (data-in base size s (slice from to t) start n (sym f ∙ h) .whole)));
-                }
-
--- data that were found: where they belong, and that they lie within the record
-module _ {t : List ℕ} {from to base size : ℕ} {s : State} {held : List ℕ} {start n : ℕ} (l : Looked t from to base size s held (Data start n)) where
-  pub looked-in : DataIn base size (s .last) (slice from to t) start n
-  looked-in = data-in base size s (slice from to t) start n (sym (l .is))
-
-  pub data-held : 4 ≤ length held → 4 + n ≤ length held
-  data-held h = let e = ap length (l .holds start n refl) ∙ looked-in .whole in omega (arith, simp (length-take, length-drop) at e)
+      pub summed : length line / 2 ≡ n + 5 → Summed line before after sum
+      summed d =
+          let b = line-bytes line (length line / 2) halves in
+          let c = count-is in
+          let r : IsRecord line = record { colon = colon; digits = digits; counted = omega arith } in
+          record {
+            sum = added ∙ total-is .1 ∙ rw (record-whole line r, b);
+            put = λ bytes e. put ∙ ap (sets before 0) (sym b ∙ sym (whole-record line bytes e .1));
+          }

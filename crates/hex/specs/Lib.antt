@@ -1,4 +1,4 @@
-pub mod Digit
+pub mod Spell
 pub mod Meaning
 pub mod Places
 pub mod Read

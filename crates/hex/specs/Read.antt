@@ -4,7 +4,7 @@ use Prim.Native.Nat.{ℕ, _+_, _-_, _*_}
 use mathlib.Core.Path.{_≡_}
 use mathlib.Core.List.{List, [], _∷_}
 use mathlib.Core.Bool.{true, false, cond}
-use lib.ListN.{length, drop, replicate}
+use lib.ListN.{length, replicate}
 use lib.Seq.{sets}
 use lib.Dec.{eqb}
 use Rattle.layout.specs.declared.Bank.{Bank}
@@ -19,8 +19,8 @@ use Rattle.hex.specs.declared.read.Answer.{Answer}
 use Rattle.hex.specs.declared.read.Answer.the-variants.{BadN, BadLength, Refused, Accepted}
 use Rattle.hex.specs.declared.read.Outcome.{Outcome}
 use Rattle.hex.specs.declared.read.Outcome.the-variants.{Stopped, Through}
-use Rattle.hex.specs.Digit.{bytesOf}
-use Rattle.hex.specs.Record.{dataOf, foundOf}
+use Rattle.hex.specs.Spell.{lineBytes}
+use Rattle.hex.specs.Record.{recordData, foundOf}
 
 -- WHAT A LINE CHANGES: the upper half, the end of the data, whether the end record was seen
 abbrev pub stateAfter : Found → State → State
@@ -33,25 +33,24 @@ stateAfter Other s = s
 -- and the image: the data go to their addresses
 abbrev pub imageAfter : ℕ → List ℕ → Found → List ℕ → List ℕ
 imageAfter base line (Fault k) image = image
-imageAfter base line (Data start n) image = sets image (start - base) (dataOf n (bytesOf (drop 1 line)))
+imageAfter base line (Data start n) image = sets image (start - base) (recordData n (lineBytes line))
 imageAfter base line (Upper u) image = image
 imageAfter base line End image = image
 imageAfter base line Other image = image
 
--- LINE AFTER LINE
-pub record Done : Type 0 where
+-- LINE AFTER LINE: what comes of them, and the image by then
+pub record LinesRead : Type 0 where
   pub outcome : Outcome
   pub image : List ℕ
 
--- a text that is refused leaves nothing but 0xFF
-abbrev pub refused : ℕ → Kind → ℕ → Done
-refused size k line = record { outcome = Stopped (record { kind = k; line = line }); image = replicate size 0xFF }
+abbrev pub stoppedAt : Kind → ℕ → List ℕ → LinesRead
+stoppedAt k line image = record { outcome = Stopped (record { kind = k; line = line }); image = image }
 
 -- behind the last line: no end record, told with the number "one past the last"
-abbrev pub finishOf : State → ℕ → Outcome
-finishOf s line = cond (s .over) Through (Stopped (record { kind = H6; line = line }))
+abbrev pub afterLast : State → ℕ → Outcome
+afterLast s line = cond (s .over) Through (Stopped (record { kind = H6; line = line }))
 
-abbrev pub goes : Found → (Kind → Done) → Done → Done
+abbrev pub goes : Found → (Kind → LinesRead) → LinesRead → LinesRead
 goes (Fault k) stop d = stop k
 goes (Data start n) stop d = d
 goes (Upper u) stop d = d
@@ -59,34 +58,36 @@ goes End stop d = d
 goes Other stop d = d
 
 -- from line number k on, up to the first fault
-unfoldable pub readLines : ℕ → ℕ → State → ℕ → List ℕ → List (List ℕ) → Done
-readLines base size s k image [] = cond (s .over) (record { outcome = Through; image = image }) (refused size H6 k)
+unfoldable pub readLines : ℕ → ℕ → State → ℕ → List ℕ → List (List ℕ) → LinesRead
+readLines base size s k image [] = record { outcome = afterLast s k; image = image }
 readLines base size s k image (l ∷ ls) =
-    goes (foundOf base size s l) (λ f. refused size f k)
+    goes (foundOf base size s l) (λ f. stoppedAt f k image)
     (readLines base size (stateAfter (foundOf base size s l) s) (k + 1) (imageAfter base l (foundOf base size s l) image) ls)
 
 -- the upper half is 0 at first
-abbrev pub fresh : State
-fresh = record { upper = 0; last = 0; over = false }
+abbrev pub atStart : State
+atStart = record { upper = 0; last = 0; over = false }
 
 -- THE TEXT
 pub record Reading : Type 0 where
   pub answer : Answer
   pub image : List ℕ
 
-abbrev pub answerOf : Outcome → Answer
-answerOf (Stopped r) = Refused r
-answerOf Through = Accepted
+-- a text that is refused leaves nothing but 0xFF
+abbrev pub readingOf : ℕ → Outcome → List ℕ → Reading
+readingOf size (Stopped r) image = record { answer = Refused r; image = replicate size 0xFF }
+readingOf size Through image = record { answer = Accepted; image = image }
 
-abbrev pub answered : Done → Reading
-answered d = record { answer = answerOf (d .outcome); image = d .image }
+-- the lines of a text for a bank of n sectors, whose image is all 0xFF at first
+abbrev pub linesRead : List ℕ → Bank → ℕ → LinesRead
+linesRead text bank n = readLines (startOf bank) (sectorSize * n) atStart 1 (replicate (sectorSize * n) 0xFF) (lines text)
 
 -- "Hex reader: 3, 2, then the H faults"; the first two leave the image as it was
-unfoldable pub readOf : List ℕ → Bank → ℕ → List ℕ → Reading
-readOf text bank n image =
+unfoldable pub textRead : List ℕ → Bank → ℕ → List ℕ → Reading
+textRead text bank n image =
     cond (goodN n)
     (cond (eqb (length image) (sectorSize * n))
-    (answered (readLines (startOf bank) (sectorSize * n) fresh 1 (replicate (sectorSize * n) 0xFF) (lines text)))
+    (readingOf (sectorSize * n) (linesRead text bank n .outcome) (linesRead text bank n .image))
     (record { answer = BadLength; image = image }))
     (record { answer = BadN; image = image })
 
@@ -109,5 +110,5 @@ answerNumber (Refused r) = 0
 answerNumber Accepted = 0
 
 pub record Read·Is (text : List ℕ) (bank : Bank) (n : ℕ) (before after : List ℕ) (r : Answer) : Type 0 where
-  pub answer : r ≡ readOf text bank n before .answer
-  pub image : after ≡ readOf text bank n before .image
+  pub answer : r ≡ textRead text bank n before .answer
+  pub image : after ≡ textRead text bank n before .image

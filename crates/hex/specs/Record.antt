@@ -9,7 +9,8 @@ use Rattle.hex.specs.declared.fault.Kind.the-variants.{H1, H2, H3, H4, H
 use Rattle.hex.specs.declared.record.State.{State}
 use Rattle.hex.specs.declared.record.Found.{Found}
 use Rattle.hex.specs.declared.record.Found.the-variants.{Fault, Data, Upper, End, Other}
-use Rattle.hex.specs.Digit.{isDigit, bytesOf}
+use Rattle.digits.specs.Digit.{isDigit}
+use Rattle.hex.specs.Spell.{digitBytes}
 
 -- A LINE, READ FROM LEFT TO RIGHT: a whole record's bytes, or the place, counted from 1, of the first byte that does not belong. A line
 -- that stops early has that place one past its end.
@@ -24,32 +25,32 @@ digitsIn (suc due) [] = 0
 digitsIn (suc due) (c ∷ l) = cond (isDigit c) (suc (digitsIn due l)) 0
 
 -- THE BYTES OF A RECORD: count, address (2), type, as many data bytes as the count says, checksum
-abbrev pub countOf : List ℕ → ℕ
-countOf r = getD r 0 0
+abbrev pub recordCount : List ℕ → ℕ
+recordCount r = getD r 0 0
 
-abbrev pub addressOf : List ℕ → ℕ
-addressOf r = getD r 1 0 * 256 + getD r 2 0
+abbrev pub recordAddress : List ℕ → ℕ
+recordAddress r = getD r 1 0 * 256 + getD r 2 0
 
-abbrev pub typeOf : List ℕ → ℕ
-typeOf r = getD r 3 0
+abbrev pub recordType : List ℕ → ℕ
+recordType r = getD r 3 0
 
-abbrev pub dataOf : ℕ → List ℕ → List ℕ
-dataOf n r = take n (drop 4 r)
+abbrev pub recordData : ℕ → List ℕ → List ℕ
+recordData n r = take n (drop 4 r)
 
 -- the digits "of the counted length" behind the colon (a count that isn't spelled says 256, and the digits stop within it)
-abbrev pub dueOf : List ℕ → ℕ
-dueOf digits = 2 * (countOf (bytesOf digits) + 5)
+abbrev pub digitsDue : List ℕ → ℕ
+digitsDue digits = 2 * (recordCount (digitBytes digits) + 5)
 
 -- all that are due, and nothing behind them
 unfoldable pub digitsWhole : List ℕ → Bool
-digitsWhole digits = eqb (digitsIn (dueOf digits) digits) (dueOf digits) && eqb (length digits) (dueOf digits)
+digitsWhole digits = eqb (digitsIn (digitsDue digits) digits) (digitsDue digits) && eqb (length digits) (digitsDue digits)
 
 -- byte 1 is a colon, and the digits start at byte 2
 unfoldable pub recordOf : List ℕ → Spelled
 recordOf [] = Broken 1
 recordOf (c ∷ digits) =
     cond (eqb c 0x3A)
-    (cond (digitsWhole digits) (Whole (bytesOf digits)) (Broken (digitsIn (dueOf digits) digits + 2)))
+    (cond (digitsWhole digits) (Whole (digitBytes digits)) (Broken (digitsIn (digitsDue digits) digits + 2)))
     (Broken 1)
 
 unfoldable pub total : List ℕ → ℕ
@@ -70,11 +71,11 @@ dataAt base size last start n =
 -- by its type; `upper` and `last` come from the lines before
 unfoldable pub typed : ℕ → ℕ → ℕ → ℕ → List ℕ → Found
 typed base size upper last r =
-    cond (eqb (typeOf r) 0) (dataAt base size last (upper * 65536 + addressOf r) (countOf r))
-    (cond (eqb (addressOf r) 0)
-    (cond (eqb (typeOf r) 1 && eqb (countOf r) 0) End
-    (cond (eqb (typeOf r) 4 && eqb (countOf r) 2) (Upper (getD r 4 0 * 256 + getD r 5 0))
-    (cond (eqb (typeOf r) 5 && eqb (countOf r) 4) Other (Fault H3))))
+    cond (eqb (recordType r) 0) (dataAt base size last (upper * 65536 + recordAddress r) (recordCount r))
+    (cond (eqb (recordAddress r) 0)
+    (cond (eqb (recordType r) 1 && eqb (recordCount r) 0) End
+    (cond (eqb (recordType r) 4 && eqb (recordCount r) 2) (Upper (getD r 4 0 * 256 + getD r 5 0))
+    (cond (eqb (recordType r) 5 && eqb (recordCount r) 4) Other (Fault H3))))
     (Fault H3))
 
 -- "the record's bytes don't add to 0 modulo 256"

@@ -1,5 +1,5 @@
 // Intel hex text, read into the image of a bank.
-mod digit;
 pub mod fault;
+mod pair;
 pub mod read;
 pub mod record;

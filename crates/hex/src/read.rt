@@ -8,9 +8,8 @@ use lines::line::Ahead;
 ghost use mathlib.Core.Path.{_≡_};
 ghost use Prim.Native.Nat.{_<_};
 ghost use lib.ListN.{length};
-ghost use lib.Seq.{slice};
 ghost use Rattle.lines.specs.Line.{lines};
-ghost use Rattle.hex.specs.Read.{readLines, fresh, finishOf, Read·Is};
+ghost use Rattle.hex.specs.Read.{readLines, atStart, afterLast, Read·Is};
 ghost use Rattle.hex.specs.Places.{LookFits, Took, Came};
 
 // What comes back of a text.
@@ -36,19 +35,12 @@ pub(crate) enum Step {
 }
 
 // One line: looked at, and what it says done.
-fn take_line(
-    text: &[u8],
-    from: usize,
-    to: usize,
-    base: usize,
-    state: State,
-    image: &mut [u8],
-) -> Step
-    requires { ⌜ LookFits (now text) from to base (length (now image)) state ⌝ }
-    ensures { λ r. ⌜ Took base state (slice from to (now (text .entry))) (now (image .entry)) (now (image .exit)) r ⌝ }
+fn take_line(line: &[u8], base: usize, state: State, image: &mut [u8]) -> Step
+    requires { ⌜ LookFits base (length (now image)) state ⌝ }
+    ensures { λ r. ⌜ Took base state (now (line .entry)) (now (image .entry)) (now (image .exit)) r ⌝ }
 {
     let mut bytes = [0u8; crate::record::LONGEST];
-    let seen = crate::record::look(text, from, to, base, image.len(), state, &mut bytes);
+    let seen = crate::record::look(line, base, image.len(), state, &mut bytes);
     match seen {
         Found::Fault(kind) => Step::Stop(kind),
         Found::Data { start, n } => {
@@ -75,7 +67,7 @@ fn take_line(
 
 // After the last line: whether the end record was seen.
 fn finish(state: State, line: usize) -> Outcome
-    ensures { λ r. ⌜ r ≡ finishOf state line ⌝ }
+    ensures { λ r. ⌜ r ≡ afterLast state line ⌝ }
 {
     if state.over {
         return Outcome::Through;
@@ -89,7 +81,7 @@ fn finish(state: State, line: usize) -> Outcome
 // Line after line, up to the first fault.
 fn read_lines(text: &[u8], base: usize, image: &mut [u8]) -> Outcome
     requires { ⌜ (base < 4294967296) × (length (now image) < 4294967296) ⌝ }
-    ensures { λ r. ⌜ Came (readLines base (length (now (image .entry))) fresh 1 (now (image .entry)) (lines (now (text .entry)))) r (now (image .exit)) ⌝ }
+    ensures { λ r. ⌜ Came (readLines base (length (now (image .entry))) atStart 1 (now (image .entry)) (lines (now (text .entry)))) r (now (image .exit)) ⌝ }
 {
     let mut state = State {
         upper: 0,
@@ -103,7 +95,8 @@ fn read_lines(text: &[u8], base: usize, image: &mut [u8]) -> Outcome
         match found {
             Ahead::Nothing => return finish(state, line),
             Ahead::One(l) => {
-                let step = take_line(text, at, l.end, base, state, image);
+                let end = l.end;
+                let step = take_line(&text[at..end], base, state, image);
                 match step {
                     Step::Stop(kind) => return Outcome::Stopped(Refusal { kind, line }),
                     Step::On(s) => state = s,

@@ -1,17 +1,20 @@
 // The record of a line, and what it says.
-use crate::digit::pair_at;
-use crate::digit::value_at;
-use crate::digit::wide;
 use crate::fault::Kind;
+use crate::pair::pair_at;
+use crate::pair::value_at;
+use crate::pair::wide;
 use buffer::number::number2;
 ghost use mathlib.Core.Path.{_≡_};
 ghost use Prim.Native.Nat.{_+_, _*_, _<_, _≤_};
 ghost use lib.ListN.{length};
-ghost use Rattle.hex.specs.Record.{countOf, dataAt, typed};
-ghost use Rattle.hex.specs.Places.{SpelledAt, LookFits, Looked};
+ghost use Rattle.hex.specs.Record.{recordCount, dataAt, typed};
+ghost use Rattle.hex.specs.Places.{bytesAt, SpelledAt, Summed, LookFits, Looked};
 
 // As many bytes as a record has at most: a count of 255, and 5 beside the data.
 pub(crate) const LONGEST: usize = 260;
+
+// Stands for the sum of what is no record.
+const NO_SUM: usize = 256;
 
 // Where the reading stands: the upper half of addresses, the end of earlier data, whether the end record was seen.
 pub struct State {
@@ -29,20 +32,20 @@ pub enum Found {
     Other,
 }
 
-// What `k` pairs of digits from `at` on spell, to the front of `bytes`, and their sum modulo 256; 256 where one pair is no byte.
-// The loop has no way out, so that the compiler takes many at once.
-fn spell(text: &[u8], at: usize, k: usize, bytes: &mut [u8]) -> usize
-    requires { ⌜ (at + 2 * k ≤ length (now text)) × (k ≤ length (now bytes)) ⌝ }
-    ensures { λ r. ⌜ SpelledAt (now (text .entry)) at k (now (bytes .entry)) (now (bytes .exit)) r ⌝ }
+// What `k` pairs of digits behind the line's first byte spell, to the front of `bytes`, and their sum modulo 256; `NO_SUM` where one pair is no
+// byte. The loop has no way out, so that the compiler takes many at once.
+fn spell(line: &[u8], k: usize, bytes: &mut [u8]) -> usize
+    requires { ⌜ (1 + 2 * k ≤ length (now line)) × (k ≤ length (now bytes)) ⌝ }
+    ensures { λ r. ⌜ SpelledAt (bytesAt (now (line .entry)) 1 k) (now (bytes .entry)) (now (bytes .exit)) r ⌝ }
 {
     let mut sum: u8 = 0;
     let mut good = true;
-    let mut p = at;
+    let mut p: usize = 1;
     let mut j = 0;
     let mut left = k;
     while 0 < left {
-        let g = pair_at(text, p);
-        let b = value_at(text, p);
+        let g = pair_at(line, p);
+        let b = value_at(line, p);
         bytes[j] = b;
         good = good & g;
         sum = std::num::wrapping_add_u8(sum, b);
@@ -53,7 +56,36 @@ fn spell(text: &[u8], at: usize, k: usize, bytes: &mut [u8]) -> usize
     if good {
         return wide(sum);
     }
-    256
+    NO_SUM
+}
+
+// The bytes of the line's record, to the front of `bytes`, and their sum modulo 256; `NO_SUM` where the line is no record.
+fn record_sum(line: &[u8], bytes: &mut [u8]) -> usize
+    requires { ⌜ 260 ≤ length (now bytes) ⌝ }
+    ensures { λ r. ⌜ Summed (now (line .entry)) (now (bytes .entry)) (now (bytes .exit)) r ⌝ }
+{
+    let len = line.len();
+    if len < 11 {
+        return NO_SUM;
+    }
+    if 2 * LONGEST + 1 < len {
+        return NO_SUM;
+    }
+    if len % 2 == 0 {
+        return NO_SUM;
+    }
+    if line[0] != b':' {
+        return NO_SUM;
+    }
+    let k = len / 2;
+    let sum = spell(line, k, bytes);
+    if sum == NO_SUM {
+        return NO_SUM;
+    }
+    if k != wide(bytes[0]) + 5 {
+        return NO_SUM;
+    }
+    sum
 }
 
 // `n` data bytes from `start` on: inside the bank, and not below the end of earlier data.
@@ -78,7 +110,7 @@ fn data_at(base: usize, size: usize, last: usize, start: usize, n: usize) -> Fou
 
 // What a record of these bytes says.
 fn typed_at(bytes: &[u8], base: usize, size: usize, state: State) -> Found
-    requires { ⌜ (countOf (now bytes) + 5 ≤ length (now bytes)) × ((state .upper < 65536) × ((base < 4294967296) × (size < 4294967296))) ⌝ }
+    requires { ⌜ (recordCount (now bytes) + 5 ≤ length (now bytes)) × ((state .upper < 65536) × ((base < 4294967296) × (size < 4294967296))) ⌝ }
     ensures { λ r. ⌜ r ≡ typed base size (state .upper) (state .last) (now (bytes .entry)) ⌝ }
 {
     let n = bytes[0];
@@ -116,45 +148,21 @@ fn typed_at(bytes: &[u8], base: usize, size: usize, state: State) -> Found
     Found::Fault(Kind::H3)
 }
 
-// What the line from `from` to `to` says; its record's bytes go to the front of `bytes`.
-pub(crate) fn look(
-    text: &[u8],
-    from: usize,
-    to: usize,
-    base: usize,
-    size: usize,
-    state: State,
-    bytes: &mut [u8],
-) -> Found
-    requires { ⌜ LookFits (now text) from to base size state × (260 ≤ length (now bytes)) ⌝ }
-    ensures { λ r. ⌜ Looked (now (text .entry)) from to base size state (now (bytes .exit)) r ⌝ }
+// What a line says; its record's bytes go to the front of `bytes`.
+pub(crate) fn look(line: &[u8], base: usize, size: usize, state: State, bytes: &mut [u8]) -> Found
+    requires { ⌜ LookFits base size state × (260 ≤ length (now bytes)) ⌝ }
+    ensures { λ r. ⌜ Looked (now (line .entry)) base size state (now (bytes .exit)) r ⌝ }
 {
     if state.over {
         return Found::Fault(Kind::H6);
     }
-    let len = to - from;
-    if len < 11 {
-        return Found::Fault(Kind::H1);
-    }
-    if 2 * LONGEST + 1 < len {
-        return Found::Fault(Kind::H1);
-    }
-    if len % 2 == 0 {
-        return Found::Fault(Kind::H1);
-    }
-    if text[from] != b':' {
-        return Found::Fault(Kind::H1);
-    }
-    let k = len / 2;
-    let sum = spell(text, from + 1, k, bytes);
-    if sum == 256 {
-        return Found::Fault(Kind::H1);
-    }
-    if k != wide(bytes[0]) + 5 {
+    let sum = record_sum(line, bytes);
+    if sum == NO_SUM {
         return Found::Fault(Kind::H1);
     }
     if sum != 0 {
         return Found::Fault(Kind::H2);
     }
+    let k = line.len() / 2;
     typed_at(&bytes[..k], base, size, state)
 }

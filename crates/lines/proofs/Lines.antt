@@ -4,12 +4,11 @@ use mathlib.Core.Path.{_≡_, refl, sym, ap, _∙_}
 use mathlib.Core.List.{List, [], _∷_}
 use mathlib.Core.Bool.{Bool, true, false, _&&_, cond, false≢true}
 use Prim.Native.Nat.{ℕ, zero, suc, _+_, _-_, _<_, _≤_}
-use native.Mathlib.Nat.{suc-add, zero-add}
 use native.Mathlib.Numerals.{add-one}
 use native.Mathlib.Omega.{arith}
 use lib.Dec.{eqb, leb, ltb}
 use lib.ListN.{length, getD, take, drop, drop-of-length-le, length-drop}
-use lib.Seq.{drop-cons, drop-drop, take-nil, slice}
+use lib.Seq.{drop-cons, drop-drop}
 use borrow.Author.Tests.{eq-eqb, ne-eqb, eqb-false, ltb-true, ltb-false, leb-true}
 use Rattle.buffer.proofs.Bools.{and-left, and-right, and-false, no-way}
 use Rattle.lines.specs.declared.line.Line.{Line}
@@ -117,14 +116,13 @@ pub lines-none : (t : List ℕ) (at : ℕ) → length t ≤ at → lines (drop a
 unfolding lines
 lines-none t at h = rw (drop-of-length-le t {i = at} h)
 
-slice-take : (f n : ℕ) (l : List ℕ) → slice f (f + n) l ≡ take n (drop f l)
-slice-take zero n l = rw zero-add
-slice-take (suc f) n [] = rw suc-add (sym (take-nil n))
-slice-take (suc f) n (x ∷ l) = rw suc-add (slice-take f n l)
-
 -- the line that the code found is the first of the lines that are left
-pub lines-here : (t : List ℕ) (at end next : ℕ) → at < length t → LineAt t at end next → lines (drop at t) ≡ slice at end t ∷ lines (drop next t)
-lines-here t at end next h l = lines-at t at h ∙ rw (l .end-is, l .next-is, slice-take at (lineLen (drop at t)) t, drop-drop (lineAll (drop at t)) at t)
+pub lines-here :
+    (t : List ℕ) (at end next : ℕ) → at < length t → LineAt t at end next
+    → lines (drop at t) ≡ take (end - at) (drop at t) ∷ lines (drop next t)
+lines-here t at end next h l =
+    let e : end - at ≡ lineLen (drop at t) = omega (arith, l .end-is) in
+    lines-at t at h ∙ rw (e, l .next-is, drop-drop (lineAll (drop at t)) at t)
 
 -- ---- what a line reader finds is the line there
 

@@ -13,7 +13,9 @@ good-n-requires : tie.Need-good-n-requires
 good-n-requires c κs = search needs
 
 returns : tie.Need-returns
-returns c = let a = (c .before .before .before .before .args) in read-3 (a .text .now) (a .bank) (a .n) (a .image .now) (sym (c .before .good-n .ensures) ∙ not-true _ (c .if1 .taken))
+returns c =
+    let c4 = c .before .before .before .before in
+    let a = c4 .args in read-3 (a .text .now) (a .bank) (a .n) (a .image .now) (sym (c .before .good-n .ensures) ∙ not-true _ (c .if1 .taken))
 
 mul-if2 : tie.Need-mul-if2
 mul-if2 c =
@@ -39,11 +41,16 @@ wide4-requires c κs = search needs
 
 read-lines-requires : tie.Need-read-lines-requires
 read-lines-requires c κs =
-    let a = (c .before .before .before .before .before .before .before .before .before .before .before .before .args) in
-    let g = sym (c .before .before .before .before .before .before .before .before .before .good-n .ensures) ∙ not-false _ (c .before .before .before .before .before .before .before .before .if1 .left) in
+    let c5 = c .before .before .before .before .before in
+    let c7 = c5 .before .before in
+    let c8 = c7 .before in
+    let c9 = c8 .before in
+    let c12 = c9 .before .before .before in
+    let a = c12 .args in
+    let g = sym (c9 .good-n .ensures) ∙ not-false _ (c8 .if1 .left) in
     let h = good-high (a .n) g in
     let b = start-small (a .bank) in
-    (omega arith, omega (arith, (c .before .before .before .before .before .fill .kept .0), (c .before .before .before .before .before .before .before .if2 .left)))
+    (omega arith, omega (arith, (c5 .fill .kept .0), (c7 .if2 .left)))
 
 enum-known-outcome : tie.Need-enum-known-outcome
 enum-known-outcome c = search needs
@@ -59,20 +66,40 @@ same-length c = search needs
 
 returns-3 : tie.Need-returns-3
 returns-3 c =
-    let a = (c .before .before .before .before .before .before .before .before .before .before .before .before .before .before .before .before .before .before .before .before .before .before .args) in
-    let g = sym (c .before .before .before .before .before .before .before .before .before .before .before .before .before .before .before .before .before .before .before .good-n .ensures) ∙ not-false _ (c .before .before .before .before .before .before .before .before .before .before .before .before .before .before .before .before .before .before .if1 .left) in
-    read-refused (a .text .now) (a .bank) (a .n) (a .image .now) g (c .before .before .before .before .before .before .before .before .before .before .before .before .before .before .before .before .before .if2 .left) ((c .before .before .before .before .before .before .before .before .before .before .before .wide4 .ensures .0) ∙ (c .before .before .before .before .before .before .before .before .before .before .before .before .start-address .ensures)) (c .before .before .before .before .before .before .before .before .before .before .before .before .before .before .before .fill .ensures)
-    _ (c .before .before .before .before .before .before .before .before .before .read-lines .last .1 .1 .0) (rw (c .before .before .before .before .before .outcome .given .1) at (c .before .before .before .before .before .before .before .before .before .read-lines .ensures)) (c .before .before .before .before .before .before .before .before .before .read-lines .kept .1 .1 .0) (c .before .before .fill2 .ensures)
+    let c5 = c .before .before .before .before .before in
+    let c9 = c5 .before .before .before .before in
+    let c11 = c9 .before .before in
+    let c12 = c11 .before in
+    let c15 = c12 .before .before .before in
+    let c17 = c15 .before .before in
+    let c18 = c17 .before in
+    let c19 = c18 .before in
+    let c22 = c19 .before .before .before in
+    let a = c22 .args in
+    let g = sym (c19 .good-n .ensures) ∙ not-false _ (c18 .if1 .left) in
+    read-refused (a .text .now) (a .bank) (a .n) (a .image .now) g (c17 .if2 .left) ((c11 .wide4 .ensures .0) ∙ (c12 .start-address .ensures))
+    (c15 .fill .ensures)
+    _ (c9 .read-lines .last .1 .1 .0) (rw (c5 .outcome .given .1) at (c9 .read-lines .ensures)) (c9 .read-lines .kept .1 .1 .0)
+    (c .before .before .fill2 .ensures)
 
 same-length-2 : tie.Need-same-length-2
 same-length-2 c = search needs
 
 returns-4 : tie.Need-returns-4
 returns-4 c =
-    let a = (c .before .before .before .before .before .before .before .before .before .before .before .before .before .before .before .before .before .args) in
-    let g = sym (c .before .before .before .before .before .before .before .before .before .before .before .before .before .before .good-n .ensures) ∙ not-false _ (c .before .before .before .before .before .before .before .before .before .before .before .before .before .if1 .left) in
-    read-accepted (a .text .now) (a .bank) (a .n) (a .image .now) g (c .before .before .before .before .before .before .before .before .before .before .before .before .if2 .left) ((c .before .before .before .before .before .before .wide4 .ensures .0) ∙ (c .before .before .before .before .before .before .before .start-address .ensures)) (c .before .before .before .before .before .before .before .before .before .before .fill .ensures)
-    (rw (c .enum-told .given .1) at (c .before .before .before .before .read-lines .ensures))
+    let c4 = c .before .before .before .before in
+    let c6 = c4 .before .before in
+    let c7 = c6 .before in
+    let c10 = c7 .before .before .before in
+    let c12 = c10 .before .before in
+    let c13 = c12 .before in
+    let c14 = c13 .before in
+    let c17 = c14 .before .before .before in
+    let a = c17 .args in
+    let g = sym (c14 .good-n .ensures) ∙ not-false _ (c13 .if1 .left) in
+    read-accepted (a .text .now) (a .bank) (a .n) (a .image .now) g (c12 .if2 .left) ((c6 .wide4 .ensures .0) ∙ (c7 .start-address .ensures))
+    (c10 .fill .ensures)
+    (rw (c .enum-told .given .1) at (c4 .read-lines .ensures))
 
 pub read-spec : {M : Type 1} → statement M
 read-spec =

@@ -2,7 +2,7 @@
 -- Assumes nothing.
 use native.Mathlib.Omega.{arith}
 use borrow.Author.Needs.{needs}
-use Rattle.hex.proofs.Records.{looked-in, data-held}
+use Rattle.hex.proofs.Says.{looked-in, data-held}
 use Rattle.hex.proofs.Steps.{took-fault, took-data, took-upper, took-end, took-other}
 use Rattle.hex.proofs.read.take_line.Statement.{statement}
 use Rattle.hex.proofs.read.take_line.Tie as tie
@@ -23,7 +23,9 @@ sub-put-at : tie.Need-sub-put-at
 sub-put-at c = looked-in (rw (c .before .before .seen2 .given .1) at (c .before .before .before .before .before .look .ensures)) .low
 
 add-put-at : tie.Need-add-put-at
-add-put-at c = let h = c .before .before .before .before .before .look .kept .1 .1 .1 .1 .1 .1 .0 in omega (arith, data-held (rw (c .before .before .seen2 .given .1) at (c .before .before .before .before .before .look .ensures)) (omega arith))
+add-put-at c =
+    let h = (c .before .before .before .before .before .look .kept .1 .1 .1 .1 .0) in
+    omega (arith, data-held (rw (c .before .before .seen2 .given .1) at (c .before .before .before .before .before .look .ensures)) (omega arith))
 
 sub-put-at-2 : tie.Need-sub-put-at-2
 sub-put-at-2 c = search needs
@@ -32,13 +34,22 @@ part-put-at-start : tie.Need-part-put-at-start
 part-put-at-start c = search needs
 
 part-put-at-end : tie.Need-part-put-at-end
-part-put-at-end c = let h = c .before .before .before .before .before .before .look .kept .1 .1 .1 .1 .1 .1 .0 in omega (arith, data-held (rw (c .before .before .before .seen2 .given .1) at (c .before .before .before .before .before .before .look .ensures)) (omega arith))
+part-put-at-end c =
+    let c3 = c .before .before .before in
+    let c6 = c3 .before .before .before in
+    let h = c6 .look .kept .1 .1 .1 .1 .0 in
+    omega (arith, data-held (rw (c3 .seen2 .given .1) at (c6 .look .ensures)) (omega arith))
 
 put-at-requires : tie.Need-put-at-requires
 put-at-requires c κs = search needs
 
-add-t20 : tie.Need-add-t20
-add-t20 c = let q = c .before .before .before .before .before .before .before .before .before .before .before .before .before .before .pre in omega (arith, q .base-small, q .size-small, looked-in (rw (c .before .before .before .before .before .before .before .seen2 .given .1) at (c .before .before .before .before .before .before .before .before .before .before .look .ensures)) .high)
+add-t18 : tie.Need-add-t18
+add-t18 c =
+    let c7 = c .before .before .before .before .before .before .before in
+    let c10 = c7 .before .before .before in
+    let c14 = c10 .before .before .before .before in
+    let q = c14 .pre in
+    omega (arith, q .base-small, q .size-small, looked-in (rw (c7 .seen2 .given .1) at (c10 .look .ensures)) .high)
 
 enum-known-seen-3 : tie.Need-enum-known-seen-3
 enum-known-seen-3 c = search needs
@@ -56,7 +67,10 @@ same-length : tie.Need-same-length
 same-length c = search needs
 
 returns-2 : tie.Need-returns-2
-returns-2 c = took-data (rw (c .before .before .before .before .before .before .before .seen2 .given .1) at (c .before .before .before .before .before .before .before .before .before .before .look .ensures)) (c .before .before .put-at .ensures)
+returns-2 c =
+    let c7 = c .before .before .before .before .before .before .before in
+    let c10 = c7 .before .before .before in
+    took-data (rw (c7 .seen2 .given .1) at (c10 .look .ensures)) (c .before .before .put-at .ensures)
 
 returns-3 : tie.Need-returns-3
 returns-3 c = took-upper (rw (c .before .seen3 .given .1) at (c .before .before .before .before .look .ensures))
@@ -81,7 +95,7 @@ take-line-spec =
     part-put-at-start
     part-put-at-end
     put-at-requires
-    add-t20
+    add-t18
     enum-known-seen-3
     enum-told
     enum-told-2

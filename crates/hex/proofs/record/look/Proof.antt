@@ -4,141 +4,89 @@ use mathlib.Core.Path.{sym}
 use native.Mathlib.Omega.{arith}
 use lib.Seq.{length-take-le}
 use borrow.Author.Needs.{needs}
-use Rattle.hex.proofs.Records.{looked-over, looked-short, looked-long, looked-even, looked-colon, looked-bytes, looked-count, looked-sum, looked-counted, looked-typed}
+use Rattle.hex.proofs.Says.{looked-over, looked-1, looked-2, looked-fits, looked-counted, looked-typed}
 use Rattle.hex.proofs.record.look.Statement.{statement}
 use Rattle.hex.proofs.record.look.Tie as tie
 
 returns : tie.Need-returns
-returns c =
-    let a = c .before .before .before .args in
-    let q = c .before .before .before .pre .0 in
-    looked-over (a .text .now) (a .from) (a .to) (q .within) (a .base) (a .size) (a .state) _ (c .if1 .taken)
+returns c = looked-over _ _ _ _ _ (c .if1 .taken)
 
-sub-len : tie.Need-sub-len
-sub-len c = search needs
-
-returns-2 : tie.Need-returns-2
-returns-2 c =
-    let a = c .before .before .before .before .args in
-    let q = c .before .before .before .before .pre in
-    looked-short (a .text .now) (a .from) (a .to) (q .0 .within) (a .base) (a .size) (a .state) _ (c .before .if1 .left) (c .if2 .taken)
-
-mul-if3 : tie.Need-mul-if3
-mul-if3 c = search needs
-
-add-if3 : tie.Need-add-if3
-add-if3 c = search needs
-
-returns-3 : tie.Need-returns-3
-returns-3 c =
-    let a = c .before .before .before .before .before .args in
-    let q = c .before .before .before .before .before .pre in
-    looked-long (a .text .now) (a .from) (a .to) (q .0 .within) (a .base) (a .size) (a .state) _ (c .before .before .if1 .left) (c .if3 .taken)
-
-returns-4 : tie.Need-returns-4
-returns-4 c =
-    let a = c .before .before .before .before .before .before .args in
-    let q = c .before .before .before .before .before .before .pre in
-    looked-even (a .text .now) (a .from) (a .to) (q .0 .within) (a .base) (a .size) (a .state) _ (c .before .before .before .if1 .left) (c .if4 .taken)
-
-shared-slice-read-if5 : tie.Need-shared-slice-read-if5
-shared-slice-read-if5 c = search needs
-
-returns-5 : tie.Need-returns-5
-returns-5 c =
-    let a = c .before .before .before .before .before .before .before .before .args in
-    let q = c .before .before .before .before .before .before .before .before .pre in
-    looked-colon (a .text .now) (a .from) (a .to) (q .0 .within) (a .base) (a .size) (a .state) _ (c .before .before .before .before .before .if1 .left) (c .before .before .before .before .if2 .left) (c .if5 .taken)
-
-add-spell : tie.Need-add-spell
-add-spell c = search needs
-
-spell-requires : tie.Need-spell-requires
-spell-requires c κs = search needs
+record-sum-requires : tie.Need-record-sum-requires
+record-sum-requires c κs = search needs
 
 same-length : tie.Need-same-length
 same-length c = search needs
 
-returns-6 : tie.Need-returns-6
-returns-6 c =
-    let a = c .before .before .before .before .before .before .before .before .before .before .before .before .before .args in
-    let q = c .before .before .before .before .before .before .before .before .before .before .before .before .before .pre in
-    looked-bytes (a .text .now) (a .from) (a .to) (q .0 .within) (a .base) (a .size) (a .state) _ (c .before .before .before .before .before .before .before .before .before .before .if1 .left) (c .before .before .before .before .before .before .before .before .before .if2 .left) (c .before .before .before .before .before .before .before .if4 .left) (c .before .before .before .spell .ensures .sum) (c .if6 .taken)
-
-slice-read-wide : tie.Need-slice-read-wide
-slice-read-wide c = search needs
-
-wide-requires : tie.Need-wide-requires
-wide-requires c κs = search needs
-
-add-if7 : tie.Need-add-if7
-add-if7 c = search needs
+returns-2 : tie.Need-returns-2
+returns-2 c =
+    let c3 = c .before .before .before in
+    let c5 = c3 .before .before in
+    looked-1 _ _ _ _ _ (c5 .if1 .left) (c3 .record-sum .ensures) (c .if2 .taken)
 
 same-length-2 : tie.Need-same-length-2
 same-length-2 c = search needs
 
-returns-7 : tie.Need-returns-7
-returns-7 c =
-    let a = c .before .before .before .before .before .before .before .before .before .before .before .before .before .before .before .before .args in
-    let q = c .before .before .before .before .before .before .before .before .before .before .before .before .before .before .before .before .pre in
-    looked-count (a .text .now) (a .from) (a .to) (q .0 .within) (a .base) (a .size) (a .state) _ (c .before .before .before .before .before .before .before .before .before .before .before .before .before .if1 .left) (c .before .before .before .before .before .before .before .before .before .before .before .before .if2 .left) (c .before .before .before .before .before .before .before .before .before .before .if4 .left) (c .before .before .before .before .before .before .spell .ensures .sum) (c .before .before .before .if6 .left) (c .before .before .before .before .before .before .before .before .before .before .before .if3 .left) (a .bytes .now) (q .1) ((c .before .before .before .before .before .before .spell .ensures .bytes) (c .before .before .before .if6 .left)) (c .before .wide .ensures .0) (c .if7 .taken)
+returns-3 : tie.Need-returns-3
+returns-3 c =
+    let c4 = c .before .before .before .before in
+    let c6 = c4 .before .before in
+    looked-2 _ _ _ _ _ (c6 .if1 .left) (c4 .record-sum .ensures) (c .before .if2 .left) (c .if3 .taken)
+
+slice-reshare-prefix-typed-at : tie.Need-slice-reshare-prefix-typed-at
+slice-reshare-prefix-typed-at c =
+    let c4 = c .before .before .before .before in
+    let c6 = c4 .before .before in
+    let c9 = c6 .before .before .before in
+    let a = c9 .args in
+    let f = looked-fits (a .line .now) (a .base) (a .size) (a .state) _ (c6 .if1 .left) (c4 .record-sum .ensures) (c .before .if2 .left)
+    (c9 .pre .1) in
+    omega (arith, f, (c4 .record-sum .kept .1 .0))
+
+slice-aggregate-typed-at : tie.Need-slice-aggregate-typed-at
+slice-aggregate-typed-at c =
+    let c5 = c .before .before .before .before .before in
+    let c7 = c5 .before .before in
+    let c10 = c7 .before .before .before in
+    let a = c10 .args in
+    let f = looked-fits (a .line .now) (a .base) (a .size) (a .state) _ (c7 .if1 .left) (c5 .record-sum .ensures) (c .before .before .if2 .left)
+    (c10 .pre .1) in
+    sym (length-take-le _ _ (omega (arith, f, (c5 .record-sum .kept .1 .0))))
+
+typed-at-requires : tie.Need-typed-at-requires
+typed-at-requires c κs =
+    let c5 = c .before .before .before .before .before in
+    let c7 = c5 .before .before in
+    let c10 = c7 .before .before .before in
+    let a = c10 .args in
+    let q = c10 .pre in (
+      looked-counted (a .line .now) (a .base) (a .size) (a .state) _ (c7 .if1 .left) (c5 .record-sum .ensures) (c .before .before .if2 .left) (q .1),
+      (q .0 .upper-small, (q .0 .base-small, q .0 .size-small)),
+    )
 
 same-length-3 : tie.Need-same-length-3
 same-length-3 c = search needs
 
-returns-8 : tie.Need-returns-8
-returns-8 c =
-    let a = c .before .before .before .before .before .before .before .before .before .before .before .before .before .before .before .before .before .args in
-    let q = c .before .before .before .before .before .before .before .before .before .before .before .before .before .before .before .before .before .pre in
-    looked-sum (a .text .now) (a .from) (a .to) (q .0 .within) (a .base) (a .size) (a .state) _ (c .before .before .before .before .before .before .before .before .before .before .before .before .before .before .if1 .left) (c .before .before .before .before .before .before .before .before .before .before .before .before .before .if2 .left) (c .before .before .before .before .before .before .before .before .before .before .before .if4 .left) (c .before .before .before .before .before .before .before .spell .ensures .sum) (c .before .before .before .before .if6 .left) (c .before .before .before .before .before .before .before .before .before .before .before .before .if3 .left) (a .bytes .now) (q .1) ((c .before .before .before .before .before .before .before .spell .ensures .bytes) (c .before .before .before .before .if6 .left)) (c .before .before .wide .ensures .0) (c .before .before .before .before .before .before .before .before .before .if5 .left) (c .before .if7 .left) (c .if8 .taken)
-
-slice-reshare-prefix-typed-at : tie.Need-slice-reshare-prefix-typed-at
-slice-reshare-prefix-typed-at c = search needs
-
-slice-aggregate-typed-at : tie.Need-slice-aggregate-typed-at
-slice-aggregate-typed-at c = let l = c .before .before .before .before .before .before .before .before .spell .kept .1 .1 .1 .0 in sym (length-take-le _ _ (omega arith))
-
-typed-at-requires : tie.Need-typed-at-requires
-typed-at-requires c κs =
-    let a = c .before .before .before .before .before .before .before .before .before .before .before .before .before .before .before .before .before .before .args in
-    let q = c .before .before .before .before .before .before .before .before .before .before .before .before .before .before .before .before .before .before .pre in
-    (looked-counted (a .text .now) (a .from) (a .to) (q .0 .within) (a .base) (a .size) (a .state) _ (c .before .before .before .before .before .before .before .before .before .before .before .before .before .before .before .if1 .left) (c .before .before .before .before .before .before .before .before .before .before .before .before .before .before .if2 .left) (c .before .before .before .before .before .before .before .before .before .before .before .before .if4 .left) (c .before .before .before .before .before .before .before .before .spell .ensures .sum) (c .before .before .before .before .before .if6 .left) (c .before .before .before .before .before .before .before .before .before .before .before .before .before .if3 .left) (a .bytes .now) (q .1) ((c .before .before .before .before .before .before .before .before .spell .ensures .bytes) (c .before .before .before .before .before .if6 .left)) (c .before .before .before .wide .ensures .0) (c .before .before .before .before .before .before .before .before .before .before .if5 .left) (c .before .before .if7 .left), (q .0 .upper-small, (q .0 .base-small, q .0 .size-small)))
-
-same-length-4 : tie.Need-same-length-4
-same-length-4 c = search needs
-
-returns-9 : tie.Need-returns-9
-returns-9 c =
-    let a = c .before .before .before .before .before .before .before .before .before .before .before .before .before .before .before .before .before .before .before .args in
-    let q = c .before .before .before .before .before .before .before .before .before .before .before .before .before .before .before .before .before .before .before .pre in
-    looked-typed (a .text .now) (a .from) (a .to) (q .0 .within) (a .base) (a .size) (a .state) _ (c .before .before .before .before .before .before .before .before .before .before .before .before .before .before .before .before .if1 .left) (c .before .before .before .before .before .before .before .before .before .before .before .before .before .before .before .if2 .left) (c .before .before .before .before .before .before .before .before .before .before .before .before .before .if4 .left) (c .before .before .before .before .before .before .before .before .before .spell .ensures .sum) (c .before .before .before .before .before .before .if6 .left) (c .before .before .before .before .before .before .before .before .before .before .before .before .before .before .if3 .left) (a .bytes .now) (q .1) ((c .before .before .before .before .before .before .before .before .before .spell .ensures .bytes) (c .before .before .before .before .before .before .if6 .left)) (c .before .before .before .before .wide .ensures .0) (c .before .before .before .before .before .before .before .before .before .before .before .if5 .left) (c .before .before .before .if7 .left) (c .before .before .if8 .left) (c .typed-at .ensures)
+returns-4 : tie.Need-returns-4
+returns-4 c =
+    let c3 = c .before .before .before in
+    let c6 = c3 .before .before .before in
+    let c8 = c6 .before .before in
+    let c11 = c8 .before .before .before in
+    looked-typed _ _ _ _ _ (c8 .if1 .left) (c6 .record-sum .ensures) (c3 .if2 .left) (c11 .pre .1) (c .before .before .if3 .left)
+    (c .typed-at .ensures)
 
 pub look-spec : {M : Type 1} → statement M
 look-spec =
     tie.close
     (tie.spec
     returns
-    sub-len
-    returns-2
-    mul-if3
-    add-if3
-    returns-3
-    returns-4
-    shared-slice-read-if5
-    returns-5
-    add-spell
-    spell-requires
+    record-sum-requires
     same-length
-    returns-6
-    slice-read-wide
-    wide-requires
-    add-if7
+    returns-2
     same-length-2
-    returns-7
-    same-length-3
-    returns-8
+    returns-3
     slice-reshare-prefix-typed-at
     slice-aggregate-typed-at
     typed-at-requires
-    same-length-4
-    returns-9)
+    same-length-3
+    returns-4)

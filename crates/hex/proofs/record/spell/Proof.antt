@@ -9,15 +9,21 @@ use lib.ListN.{length, length-set}
 use lib.Seq.{sets}
 use borrow.Author.Needs.{needs}
 use Rattle.hex.specs.Places.{bytesAt, checkFrom}
-use Rattle.hex.proofs.Digits.{check-step, check-ends, sets-step, sets-none}
+use Rattle.hex.proofs.Pairs.{check-step, check-ends, sets-step, sets-none}
 use Rattle.hex.proofs.record.spell.Statement.{statement}
 use Rattle.hex.proofs.record.spell.Tie as tie
 
 abbrev Inv-loop : tie.InvT-loop
-Inv-loop text at k bytes₀ sum₀ good₀ p₀ j₀ left₀ bytes sum good p j left = (p + 2 * left ≡ at + 2 * k) × (j + left ≡ k) × (length bytes ≡ length bytes₀) × (sum < 256) × (checkFrom 0 (bytesAt text at k) ≡ cond good (checkFrom sum (bytesAt text p left)) 256) × (good ≡ true → sets bytes₀ 0 (bytesAt text at k) ≡ sets bytes j (bytesAt text p left))
+Inv-loop line k bytes₀ sum₀ good₀ p₀ j₀ left₀ bytes sum good p j left =
+    (p + 2 * left ≡ 1 + 2 * k)
+    × (j + left ≡ k)
+    × (length bytes ≡ length bytes₀)
+    × (sum < 256)
+    × (checkFrom 0 (bytesAt line 1 k) ≡ cond good (checkFrom sum (bytesAt line p left)) 256)
+    × (good ≡ true → sets bytes₀ 0 (bytesAt line 1 k) ≡ sets bytes j (bytesAt line p left))
 
 abbrev μ-loop : tie.MeasureT-loop
-μ-loop text at k bytes₀ sum₀ good₀ p₀ j₀ left₀ bytes sum good p j left = left
+μ-loop line k bytes₀ sum₀ good₀ p₀ j₀ left₀ bytes sum good p j left = left
 
 loop-holds : tie.Need-loop-holds Inv-loop μ-loop
 loop-holds c = (omega arith, omega arith, refl, omega arith, refl, λ _. refl)
@@ -48,8 +54,10 @@ loop-less c = omega arith
 
 loop-again : tie.Need-loop-again Inv-loop μ-loop
 loop-again c =
-    let t = c .before .before .before .before .before .before .before .args .text .now in
-    let l = c .before .before .before .before .loop in
+    let c4 = c .before .before .before .before in
+    let c7 = c4 .before .before .before in
+    let t = c7 .args .line .now in
+    let l = c4 .loop in
     let v = l .inv in
     let w = c .wrapping-add-u8 .ensures in
     let g = c .before .before .pair-at .ensures in
@@ -58,8 +66,10 @@ loop-again c =
       omega arith,
       simp length-set (v .2),
       omega arith,
-      v .4 ∙ check-step (l .good) (c .before .before .pair-at .result) (l .sum) (c .before .value-at .result) t (l .p) (l .left) (omega arith) g b ∙ rw w,
-      sets-step (l .good) (c .before .before .pair-at .result) _ (l .bytes) (l .j) (c .before .value-at .result) t (l .p) (l .left) (omega arith) g b (v .5),
+      v .4 ∙ check-step (l .good) (c .before .before .pair-at .result) (l .sum) (c .before .value-at .result) t (l .p) (l .left) (omega arith) g b
+          ∙ rw w,
+      sets-step (l .good) (c .before .before .pair-at .result) _ (l .bytes) (l .j) (c .before .value-at .result) t (l .p) (l .left) (omega arith) g b
+          (v .5),
     )
 
 wide-requires : tie.Need-wide-requires Inv-loop μ-loop
@@ -70,14 +80,14 @@ same-length c = search needs
 
 returns : tie.Need-returns Inv-loop μ-loop
 returns c =
-    let t = c .before .before .before .before .before .before .args .text .now in
+    let t = c .before .before .before .before .before .before .args .line .now in
     let l = c .before .before .before .loop in
     let v = l .inv in
     let z : l .left ≡ 0 = omega arith in
     let m : l .sum % 256 ≡ l .sum = omega arith in
     record {
       sum = c .wide .ensures .0 ∙ sym (v .4 ∙ rw (z, (c .before .if1 .taken)) (check-ends (l .sum) t (l .p) ∙ m));
-      bytes = λ _. sym (v .5 (c .before .if1 .taken) ∙ rw z (sets-none (l .bytes) (l .j) t (l .p)));
+      put = λ _. sym (v .5 (c .before .if1 .taken) ∙ rw z (sets-none (l .bytes) (l .j) t (l .p)));
     }
 
 same-length-2 : tie.Need-same-length-2 Inv-loop μ-loop
@@ -86,7 +96,7 @@ same-length-2 c = search needs
 returns-2 : tie.Need-returns-2 Inv-loop μ-loop
 returns-2 c =
     let l = c .before .before .loop in
-    record { sum = sym (l .inv .4 ∙ rw (c .if1 .left)); bytes = λ n. absurd (n refl) }
+    record { sum = sym (l .inv .4 ∙ rw (c .if1 .left)); put = λ n. absurd (n refl) }
 
 pub spell-spec : {M : Type 1} → statement M
 spell-spec =

@@ -1,9 +1,9 @@
--- `hex::digit::within` meets its contract: by whether the byte lies between.
+-- `digits::within` meets its contract: by whether the byte lies between.
 -- Assumes nothing.
 use native.Mathlib.Omega.{arith}
-use Rattle.hex.proofs.Digits.{in-range}
-use Rattle.hex.proofs.digit.within.Statement.{statement}
-use Rattle.hex.proofs.digit.within.Tie as tie
+use Rattle.digits.proofs.Digits.{in-range}
+use Rattle.digits.proofs.within.Statement.{statement}
+use Rattle.digits.proofs.within.Tie as tie
 
 sub-result : tie.Need-sub-result
 sub-result c = let a = (c .before .args) in let h = in-range (a .first) (a .last) (a .x) (c .if1 .taken) in omega arith

@@ -1,4 +1,4 @@
--- Digits, the bytes that two of them spell, and sums of such bytes, by their positions in a text.
+-- Pairs of digits, the bytes that they spell, and sums of such bytes, by their positions in a line.
 -- Assumes nothing.
 use mathlib.Core.Path.{_≡_, refl, sym, _∙_}
 use mathlib.Core.List.{List, _∷_}
@@ -7,25 +7,14 @@ use Prim.Native.Nat.{ℕ, zero, suc, _+_, _-_, _*_, _%_, _<_, _≤_}
 use native.Mathlib.Nat.{add-assoc, add-zero}
 use native.Mathlib.Numerals.{add-one}
 use native.Mathlib.Omega.{arith}
-use lib.Dec.{leb}
 use lib.ListN.{getD, set}
 use lib.Seq.{sets}
-use borrow.Author.Tests.{lt-ltb, le-ltb, ltb-true, leb-true}
+use borrow.Author.Tests.{lt-ltb, le-ltb, ltb-true}
 use Rattle.buffer.proofs.Bools.{and-left, and-right}
-use Rattle.hex.specs.Digit.{digitOf, isDigit, byteOf}
+use Rattle.digits.specs.Digit.{valueOf, isDigit}
+use Rattle.hex.specs.Spell.{byteOf}
 use Rattle.hex.specs.Record.{total}
 use Rattle.hex.specs.Places.{pairAt, pairByte, bytesAt, allBytes, checkFrom}
-
--- ---- a digit, by the range in which it lies
-
--- a number is counted from 0 on
-pub digit-is : (c : ℕ) → cond (leb 0x30 c && leb c 0x39) (c - 0x30 + 0) (cond (leb 0x41 c && leb c 0x46) (c - 0x41 + 10) (cond (leb 0x61 c && leb c 0x66) (c - 0x61 + 10) 16)) ≡ digitOf c
-unfolding digitOf
-digit-is c = rw (add-zero (c - 0x30))
-
--- a number between two others, by the joined test
-pub in-range : (a b c : ℕ) → (leb a c && leb c b) ≡ true → (a ≤ c) × (c ≤ b)
-in-range a b c e = (leb-true a c (and-left (leb a c) (leb c b) e), leb-true c b (and-right (leb a c) (leb c b) e))
 
 -- ---- two digits
 
@@ -35,23 +24,27 @@ module _ (a b : ℕ) where
   pair-none e = rw e
 
   module _ (e : (isDigit a && isDigit b) ≡ true) where
-    first-small : digitOf a < 16
+    pub first-small : valueOf a < 16
     unfolding isDigit
-    first-small = ltb-true (digitOf a) 16 (and-left (isDigit a) (isDigit b) e)
+    first-small = ltb-true (valueOf a) 16 (and-left (isDigit a) (isDigit b) e)
 
-    second-small : digitOf b < 16
+    pub second-small : valueOf b < 16
     unfolding isDigit
-    second-small = ltb-true (digitOf b) 16 (and-right (isDigit a) (isDigit b) e)
+    second-small = ltb-true (valueOf b) 16 (and-right (isDigit a) (isDigit b) e)
 
-    spelled : byteOf a b ≡ digitOf a * 16 + digitOf b
+    pub spelled : byteOf a b ≡ valueOf a * 16 + valueOf b
     unfolding byteOf
     spelled = rw e
 
-    pub pair-is : digitOf a % 16 * 16 + digitOf b % 16 ≡ byteOf a b
+    pub pair-is : valueOf a % 16 * 16 + valueOf b % 16 ≡ byteOf a b
     pair-is = let p = first-small in let q = second-small in let s = spelled in omega arith
 
     pub pair-small : byteOf a b < 256
     pair-small = let p = first-small in let q = second-small in let s = spelled in omega arith
+
+  pub two-digits : valueOf a < 16 → valueOf b < 16 → (isDigit a && isDigit b) ≡ true
+  unfolding isDigit
+  two-digits p q = rw (lt-ltb (valueOf a) 16 p, lt-ltb (valueOf b) 16 q)
 
   pub pair-so : byteOf a b < 256 → (isDigit a && isDigit b) ≡ true
   pair-so h = by (isDigit a && isDigit b) refl
@@ -67,7 +60,9 @@ unfolding bytesAt
 bytes-one t p zero h = absurd (omega arith)
 bytes-one t p (suc k) h = let e : suc k - 1 ≡ k = omega arith in rw e
 
-check-goes : (s : ℕ) (t : List ℕ) (p k : ℕ) → 0 < k → pairByte t p < 256 → checkFrom s (bytesAt t p k) ≡ checkFrom (s + pairByte t p) (bytesAt t (p + 2) (k - 1))
+check-goes :
+    (s : ℕ) (t : List ℕ) (p k : ℕ) → 0 < k → pairByte t p < 256
+    → checkFrom s (bytesAt t p k) ≡ checkFrom (s + pairByte t p) (bytesAt t (p + 2) (k - 1))
 unfolding checkFrom total allBytes
 check-goes s t p k h b = rw (bytes-one t p k h) (simp (lt-ltb _ _ b, add-assoc))
 
@@ -91,10 +86,13 @@ check-step false g s b t p k h e f = refl
 check-step true false s b t p k h e f = check-stops s t p k h (rw (pair-none (getD t p 0) (getD t (p + 1) 0) (sym e)) (omega arith))
 check-step true true s b t p k h e f =
     let i = f (sym e) in
-    check-goes s t p k h (pair-small (getD t p 0) (getD t (p + 1) 0) (sym e)) ∙ rw (sym i) (sym (check-mod (s + b) (bytesAt t (p + 2) (k - 1))))
+    check-goes s t p k h (pair-small (getD t p 0) (getD t (p + 1) 0) (sym e))
+    ∙ rw (sym i) (sym (check-mod (s + b) (bytesAt t (p + 2) (k - 1))))
 
 -- one byte more is stored
-sets-one : (l : List ℕ) (a : ℕ) (t : List ℕ) (p k : ℕ) → 0 < k → sets l a (bytesAt t p k) ≡ sets (set l a (pairByte t p)) (a + 1) (bytesAt t (p + 2) (k - 1))
+sets-one :
+    (l : List ℕ) (a : ℕ) (t : List ℕ) (p k : ℕ) → 0 < k
+    → sets l a (bytesAt t p k) ≡ sets (set l a (pairByte t p)) (a + 1) (bytesAt t (p + 2) (k - 1))
 sets-one l a t p k h = rw (add-one a, bytes-one t p k h)
 
 pub sets-none : (l : List ℕ) (a : ℕ) (t : List ℕ) (p : ℕ) → sets l a (bytesAt t p 0) ≡ l
