@@ -9,15 +9,18 @@ use native.Mathlib.Omega.{arith}
 use lib.ListN.{length, set}
 use Rattle.buffer.proofs.Bools.{split, and-left}
 use Rattle.crc.specs.Crc.{crcOf}
-use Rattle.frame.specs.Read.{readOf, bytesIn}
+use Rattle.frame.specs.Read.{readOf, dataIn}
 use Rattle.flash.specs.Sector.{paddedOf}
 use Rattle.layout.proofs.Layouts.{good-high}
 use Rattle.exchange.specs.declared.answer.Answer.{Answer}
 use Rattle.client.specs.declared.record.Client.{Client}
 use Rattle.exchange.specs.Answer.{answerBytes}
 use Rattle.client.specs.Record.{noneReceived}
-use Rattle.client.specs.Step.{targetOf}
-use Rattle.demands.proofs.Courses.{Course, still, begins, stores, ends, step-course}
+use Rattle.layout.specs.Layout.{mostSectors, otherOf}
+use Rattle.layout.specs.Pair.{bankIn}
+use Rattle.commands.specs.declared.Command.the-variants.{WriteStart, WriteEnd}
+use Rattle.calls.proofs.Courses.{Course, still, begins, stores, ends}
+use Rattle.calls.proofs.Beside.{step-course}
 use Rattle.decision.proofs.Planning.{values-low, values-high}
 use Rattle.demands.specs.Board.{Board, Call, Input, Datagram, Outcome, said, after, lentTarget, called, stepMachine}
 use Rattle.demands.specs.Demand1.{isPacket}
@@ -43,31 +46,31 @@ module _ (b : Board) (call : Call) where
 
   begun-none : isBegin (said (stepMachine b (Datagram call))) ≡ true → next .client .received ≡ noneReceived
   begun-none e =
-      by (step-course (b .client) _ _ (call .marks) (call .address) (call .buffer) (call .datagram)) (sym (ap isBegin (said-is b call)) ∙ e)
+      by (step-course (b .client) _ (lentTarget b call) (call .marks) (call .address) (call .buffer) (call .datagram)) (sym (ap isBegin (said-is b call)) ∙ e)
     where
       by : Course (b .client) (lentTarget b call) (call .datagram) (called b call) → isBegin (answerBytes (called b call .answer)) ≡ true
           → next .client .received ≡ noneReceived
       by (still q t w) f = absurd (false≢true (sym (quiet-begin (called b call .answer) q) ∙ f))
       by (begins a t m h) f = m
-      by (stores sector m write h v a t k) f =
+      by (stores sector write h v a t k) f =
           absurd
           (false≢true
-          (sym (ap (λ (x : Answer). isBegin (answerBytes x)) a ∙ written-begin sector 0x06 write (crcOf (paddedOf (bytesIn (call .datagram) m)))) ∙ f))
+          (sym (ap (λ (x : Answer). isBegin (answerBytes x)) a ∙ written-begin sector 0x06 write (crcOf (paddedOf (dataIn (call .datagram))))) ∙ f))
       by (ends result u a t x h) f = absurd (false≢true (sym (ap (λ (y : Answer). isBegin (answerBytes y)) a ∙ ended-begin result) ∙ f))
 
-  stored-some : length (b .client .received) ≡ 491 → isStored (said (stepMachine b (Datagram call))) ≡ true → Some next
+  stored-some : length (b .client .received) ≡ mostSectors → isStored (said (stepMachine b (Datagram call))) ≡ true → Some next
   stored-some l e =
-      by (step-course (b .client) _ _ (call .marks) (call .address) (call .buffer) (call .datagram)) (sym (ap isStored (said-is b call)) ∙ e)
+      by (step-course (b .client) _ (lentTarget b call) (call .marks) (call .address) (call .buffer) (call .datagram)) (sym (ap isStored (said-is b call)) ∙ e)
     where
       by : Course (b .client) (lentTarget b call) (call .datagram) (called b call) → isStored (answerBytes (called b call .answer)) ≡ true → Some next
       by (still q t w) f = absurd (false≢true (sym (quiet-stored (called b call .answer) q) ∙ f))
-      by (begins a t m h) f = absurd (false≢true (sym (ap (λ (x : Answer). isStored (answerBytes x)) a ∙ response-stored 0x70 0x06) ∙ f))
-      by (stores sector m write h v a t k) f =
-          let most = good-high (b .client .n) (h .good) in
-          let low = values-low (b .client .n) sector m (h .values) in
-          let high = values-high (b .client .n) sector m (h .values) in
+      by (begins a t m h) f = absurd (false≢true (sym (ap (λ (x : Answer). isStored (answerBytes x)) a ∙ response-stored WriteStart 0x06) ∙ f))
+      by (stores sector write h v a t k) f =
+          let most = good-high (b .client .fixed .n) (h .good) in
+          let low = values-low (b .client .fixed .n) sector (h .m) (h .values) in
+          let high = values-high (b .client .fixed .n) sector (h .m) (h .values) in
           ap (λ (c : Client). anyOf (c .received)) k ∙ any-set (b .client .received) (sector - 1) (omega arith)
-      by (ends result u a t x h) f = absurd (false≢true (sym (ap (λ (y : Answer). isStored (answerBytes y)) a ∙ response-stored 0x75 result) ∙ f))
+      by (ends result u a t x h) f = absurd (false≢true (sym (ap (λ (y : Answer). isStored (answerBytes y)) a ∙ response-stored WriteEnd result) ∙ f))
 
 -- ---- the machine
 
@@ -112,6 +115,5 @@ acknowledging-first-only b start first end is js h asks same =
     let r = rest-left _ (handled begun first (started b start (h .begins)) (h .packet) (h .handled)) same in
     ap
     (λ (x : Board).
-    let last : Board = acknowledging x (Datagram end) .board in
-    targetOf (b .client .running) (last .bank0) (last .bank1))
+    bankIn (otherOf (b .client .fixed .running)) (acknowledging x (Datagram end) .board .pair))
     (r .0 ∙ sym (r .1))

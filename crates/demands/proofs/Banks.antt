@@ -11,13 +11,14 @@ use borrow.Author.Tests.{eqb-true, eq-eqb, lt-ltb, le-ltb}
 use Rattle.buffer.proofs.Bools.{and-left, and-right, and-false, split}
 use Rattle.layout.specs.declared.Bank.{Bank}
 use Rattle.layout.specs.declared.Bank.the-variants.{Zero, One}
-use Rattle.layout.specs.Layout.{sectorSize, goodN, wholeLength}
+use Rattle.layout.specs.Layout.{goodN, bankSize, wholeLength}
+use Rattle.layout.specs.Pair.{banks, bankIn}
 use Rattle.bank.specs.Meaning.{Kept}
 use Rattle.bank.specs.Sound.{soundOf, stretchBytes, verdictOf, bodyOf}
 use Rattle.bank.specs.Table.{countOf, entryAt}
 use Rattle.bank.proofs.Meaning.{kept-back, unsound}
 use Rattle.client.specs.declared.record.Client.{Client}
-use Rattle.client.specs.Body.{banksGood, chosen, nextBody}
+use Rattle.client.specs.Body.{banksGood, nextBody}
 use Rattle.demands.specs.Banks.{MeetsCheck, MeetsBody}
 
 pub check-meets : MeetsCheck verdictOf
@@ -31,7 +32,7 @@ check-meets =
 
 -- ---- bodies
 
-whole-good : (n size : ℕ) → goodN n ≡ true → size ≡ n * sectorSize → wholeLength size ≡ true
+whole-good : (n size : ℕ) → goodN n ≡ true → size ≡ bankSize n → wholeLength size ≡ true
 unfolding wholeLength
 whole-good n size g e =
     let r : size % 512 ≡ 0 = omega arith in
@@ -39,47 +40,47 @@ whole-good n size g e =
     rw (eq-eqb (size % 512) 0 r, q) g
 
 module _ (c : Client) (bank0 bank1 : List ℕ) where
-  whole-chosen : banksGood (c .n) (length bank0) (length bank1) ≡ true → wholeLength (length (chosen (c .next) bank0 bank1)) ≡ true
+  whole-chosen : banksGood (c .fixed .n) (length bank0) (length bank1) ≡ true → wholeLength (length (bankIn (c .next) (banks bank0 bank1))) ≡ true
   unfolding banksGood
   whole-chosen e =
-      let s : Bool = eqb (length bank0) (c .n * sectorSize) in
-      let t : Bool = eqb (length bank1) (c .n * sectorSize) in
-      let g = and-left (goodN (c .n)) (s && t) e in
-      let r = and-right (goodN (c .n)) (s && t) e in
+      let s : Bool = eqb (length bank0) (bankSize (c .fixed .n)) in
+      let t : Bool = eqb (length bank1) (bankSize (c .fixed .n)) in
+      let g = and-left (goodN (c .fixed .n)) (s && t) e in
+      let r = and-right (goodN (c .fixed .n)) (s && t) e in
       by (c .next) g (eqb-true _ _ (and-left s t r)) (eqb-true _ _ (and-right s t r))
     where
-      by : (x : Bank) → goodN (c .n) ≡ true → length bank0 ≡ c .n * sectorSize → length bank1 ≡ c .n * sectorSize → wholeLength (length (chosen x bank0 bank1)) ≡ true
-      by Zero g z o = whole-good (c .n) (length bank0) g z
-      by One g z o = whole-good (c .n) (length bank1) g o
+      by : (x : Bank) → goodN (c .fixed .n) ≡ true → length bank0 ≡ bankSize (c .fixed .n) → length bank1 ≡ bankSize (c .fixed .n) → wholeLength (length (bankIn x (banks bank0 bank1))) ≡ true
+      by Zero g z o = whole-good (c .fixed .n) (length bank0) g z
+      by One g z o = whole-good (c .fixed .n) (length bank1) g o
 
 empty-body : (b : List ℕ) (i : ℕ) → (wholeLength (length b) && (soundOf b && ltb i (countOf b))) ≡ false → bodyOf b i ≡ []
 unfolding bodyOf
 empty-body b i e = rw e
 
-no-body : (c : Client) (bank0 bank1 : List ℕ) (i : ℕ) → bodyOf (chosen (c .next) bank0 bank1) i ≡ [] → nextBody c bank0 bank1 i ≡ []
+no-body : (c : Client) (bank0 bank1 : List ℕ) (i : ℕ) → bodyOf (bankIn (c .next) (banks bank0 bank1)) i ≡ [] → nextBody c bank0 bank1 i ≡ []
 unfolding nextBody
-no-body c bank0 bank1 i e = split (λ (l : List ℕ). l ≡ []) (banksGood (c .n) (length bank0) (length bank1)) (λ _. e) (λ _. refl)
+no-body c bank0 bank1 i e = split (λ (l : List ℕ). l ≡ []) (banksGood (c .fixed .n) (length bank0) (length bank1)) (λ _. e) (λ _. refl)
 
-body-there : (c : Client) (bank0 bank1 : List ℕ) (i : ℕ) → banksGood (c .n) (length bank0) (length bank1) ≡ true → Kept (chosen (c .next) bank0 bank1)
-    → i < countOf (chosen (c .next) bank0 bank1)
-    → nextBody c bank0 bank1 i ≡ stretchBytes (chosen (c .next) bank0 bank1) (entryAt (chosen (c .next) bank0 bank1) i)
+body-there : (c : Client) (bank0 bank1 : List ℕ) (i : ℕ) → banksGood (c .fixed .n) (length bank0) (length bank1) ≡ true → Kept (bankIn (c .next) (banks bank0 bank1))
+    → i < countOf (bankIn (c .next) (banks bank0 bank1))
+    → nextBody c bank0 bank1 i ≡ stretchBytes (bankIn (c .next) (banks bank0 bank1)) (entryAt (bankIn (c .next) (banks bank0 bank1)) i)
 unfolding nextBody bodyOf
 body-there c bank0 bank1 i g k h =
-    rw (g, whole-chosen c bank0 bank1 g, kept-back (chosen (c .next) bank0 bank1) k, lt-ltb i (countOf (chosen (c .next) bank0 bank1)) h)
+    rw (g, whole-chosen c bank0 bank1 g, kept-back (bankIn (c .next) (banks bank0 bank1)) k, lt-ltb i (countOf (bankIn (c .next) (banks bank0 bank1))) h)
 
-body-wrong : (c : Client) (bank0 bank1 : List ℕ) (i : ℕ) → banksGood (c .n) (length bank0) (length bank1) ≡ false → nextBody c bank0 bank1 i ≡ []
+body-wrong : (c : Client) (bank0 bank1 : List ℕ) (i : ℕ) → banksGood (c .fixed .n) (length bank0) (length bank1) ≡ false → nextBody c bank0 bank1 i ≡ []
 unfolding nextBody
 body-wrong c bank0 bank1 i g = rw g
 
-body-unsound : (c : Client) (bank0 bank1 : List ℕ) (i : ℕ) → (Kept (chosen (c .next) bank0 bank1) → ⊥) → nextBody c bank0 bank1 i ≡ []
+body-unsound : (c : Client) (bank0 bank1 : List ℕ) (i : ℕ) → (Kept (bankIn (c .next) (banks bank0 bank1)) → ⊥) → nextBody c bank0 bank1 i ≡ []
 body-unsound c bank0 bank1 i k =
-    let b : List ℕ = chosen (c .next) bank0 bank1 in
+    let b : List ℕ = bankIn (c .next) (banks bank0 bank1) in
     no-body c bank0 bank1 i
     (empty-body b i (ap (λ (t : Bool). wholeLength (length b) && (t && ltb i (countOf b))) (unsound b k) ∙ and-false (wholeLength (length b))))
 
-body-past : (c : Client) (bank0 bank1 : List ℕ) (i : ℕ) → countOf (chosen (c .next) bank0 bank1) ≤ i → nextBody c bank0 bank1 i ≡ []
+body-past : (c : Client) (bank0 bank1 : List ℕ) (i : ℕ) → countOf (bankIn (c .next) (banks bank0 bank1)) ≤ i → nextBody c bank0 bank1 i ≡ []
 body-past c bank0 bank1 i h =
-    let b : List ℕ = chosen (c .next) bank0 bank1 in
+    let b : List ℕ = bankIn (c .next) (banks bank0 bank1) in
     no-body c bank0 bank1 i
     (empty-body b i
     (ap (λ (t : Bool). wholeLength (length b) && (soundOf b && t)) (le-ltb i (countOf b) h)

@@ -175,20 +175,20 @@ module _ (fixed : Fixed) (next : Bank) (latest : Latest) (received : List Bool) 
     Tells r =
         (r .told ≡ toldLength (answerBytes (r .answer)) (length (call .buffer))) × (r .buffer ≡ frontOf (call .buffer) (answerBytes (r .answer)))
 
-    says : (r : Carried) (answer : Answer) → r .answer ≡ answer → Tells r → Said (at state.Idle) call r answer
+    says : (s : State) (r : Carried) (answer : Answer) → r .answer ≡ answer → Tells r → Said (at s) call r answer
     unfolding Tells
-    says r answer a f =
+    says s r answer a f =
         let short = answer-short (r .answer) in
         record { answers = a; tells = f .0 ∙ told-whole (r .answer) (length (call .buffer)) (omega arith); fills = f .1 }
 
     -- what was said of a target that was left alone, and of one that was not
     kept : (s : State) (answer : Answer) (r : Carried) → r .answer ≡ answer → Tells r → r .target ≡ lentTarget (at s) call → answerNumber answer ≡ 0
         → some (changed (at s) call (r .client) (r .notice) (answerBytes answer)) ≡ some (callOutcome (at s) call r)
-    kept s answer r a f t z = ap some (sym (changed-is (at s) call r (r .client) (r .notice) answer (says r answer a f) refl t refl z))
+    kept s answer r a f t z = ap some (sym (changed-is (at s) call r (r .client) (r .notice) answer (says s r answer a f) refl t refl z))
 
     left : (s : State) (answer : Answer) (r : Carried) → r .answer ≡ answer → Tells r → r .notice ≡ noNotice → answerNumber answer ≡ 0
         → some (stored (at s) call (r .client) (r .target) (answerBytes answer)) ≡ some (callOutcome (at s) call r)
-    left s answer r a f n z = ap some (sym (stored-is (at s) call r (r .client) (r .target) answer (says r answer a f) refl refl n z))
+    left s answer r a f n z = ap some (sym (stored-is (at s) call r (r .client) (r .target) answer (says s r answer a f) refl refl n z))
 
     code-61 : (m : ℕ) (t : Bool) (s : State) → eqb m 0 ≡ t → isClosed s ≡ false → Holds s (Control 0x61 m)
     unfolding Tells askedBy codedBy counted planAsked planRequest planGood planControl carriedOf servedOf answerBytes
@@ -314,7 +314,7 @@ module _ (fixed : Fixed) (next : Bank) (latest : Latest) (received : List Bool) 
           (ap some
           (sym
           (stored-is (at state.Write) call _ (marked sector (c state.Write)) (withSector before sector (paddedOf bytes)) answer
-          (says _ answer
+          (says state.Write _ answer
           (ap₂ (Written sector 0x06) (ap (storeResult (blankOf bytes)) (already-same before sector bytes (fits a)))
           (ap crcOf (written-here before sector bytes (fits a))))
           (refl, refl))

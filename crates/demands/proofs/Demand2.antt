@@ -9,14 +9,15 @@ use native.Mathlib.Decide.{ℕ-discrete}
 use native.Mathlib.Omega.{arith}
 use lib.ListN.{length, getD, take, replicate, length-replicate, getD-replicate}
 use lib.Seq.{length-take-le, take-all}
-use borrow.Author.Tests.{le-leb}
+use borrow.Author.Tests.{eq-eqb}
 use Rattle.buffer.specs.Compare.{sameOf, blankOf}
 use Rattle.buffer.specs.Place.{frontOf}
 use Rattle.buffer.proofs.Places.{front-take}
-use Rattle.frame.specs.Checksum.{checksumOf}
+use Rattle.frame.specs.Checksum.{takenAway, checksumOf}
 use Rattle.crc.specs.Crc.{crcOf}
 use Rattle.frame.specs.Frame.{framed, controlFrame, writeFrame}
-use Rattle.frame.specs.Read.{readOf, bytesIn}
+use Rattle.frame.specs.Read.{readOf, dataIn}
+use Rattle.frame.proofs.Writing.{length-control}
 use Rattle.frame.specs.declared.read.Footer.the-variants.{End}
 use Rattle.frame.specs.declared.read.Read.the-variants.{Control, Write}
 use Rattle.flash.specs.Bank.{withSector}
@@ -25,53 +26,68 @@ use Rattle.flash.proofs.Blanks.{blank-whole, sector-blanks}
 use Rattle.flash.proofs.Sectors.{Has, ext-sector, with-here, with-other}
 use Rattle.flash.proofs.Sweeps.{length-sweep}
 use Rattle.layout.specs.declared.Bank.{Bank}
-use Rattle.layout.specs.declared.Bank.the-variants.{Zero, One}
-use Rattle.layout.specs.Layout.{sectorSize, goodN, otherOf, sectorOf}
+use Rattle.layout.specs.Layout.{goodN, bankSize, otherOf, sectorOf}
+use Rattle.layout.specs.Pair.{Banks, bankIn}
 use Rattle.sender.specs.declared.request.Request.the-variants.{WriteStart, WriteEnd}
 use Rattle.sender.specs.Packet.{packetCount, packetSector, footerOf, packetFrame}
 use Rattle.sender.specs.Request.{requestFrame}
-use Rattle.sender.proofs.Image.{SentAt, used-sent, packet-read, packet-bytes}
+use Rattle.sender.proofs.Image.{SentAt, used-sent, packet-read, packet-data}
 use Rattle.sender.proofs.Packets.{Sent, sent-in, sector-length}
-use Rattle.exchange.specs.declared.answer.Answer.the-variants.{Response, Written}
+use Rattle.commands.specs.declared.Command.{Command}
+use Rattle.commands.specs.declared.Command.the-variants as command
+use Rattle.commands.specs.Command.{responseCode, errorCode}
+use Rattle.exchange.specs.declared.answer.Answer.the-variants.{Error, Response, Written}
 use Rattle.client.specs.declared.record.Latest.the-variants.{Good}
 use Rattle.exchange.specs.declared.state.State.the-variants as state
 use Rattle.exchange.specs.Answer.{writtenBytes, answerBytes}
 use Rattle.exchange.specs.State.{isClosed}
 use Rattle.client.specs.Notice.{noNotice}
 use Rattle.client.specs.Perform.{Accepted, fitOf, storeResult}
-use Rattle.decision.specs.Plan.{isWorn, anyWorn, valuesGood, addressesGood}
-use Rattle.client.specs.Record.{begun, ended}
-use Rattle.client.specs.Step.{targetOf}
-use Rattle.demands.proofs.Courses.{accepted, not-write}
+use Rattle.decision.specs.declared.plan.Fixed.{Fixed}
+use Rattle.decision.specs.Plan.{isWorn, anyWorn, valuesGood}
+use Rattle.client.specs.Record.{starting, begun, ended}
+use Rattle.calls.proofs.Courses.{accepted, not-write}
 use Rattle.exchange.proofs.Saying.{answer-short}
-use Rattle.decision.proofs.Planning.{lent-buffer, values-words}
-use Rattle.demands.specs.Board.{Board, board, Call, Input, Datagram, Outcome, said, after, outcomes, targetBank, sectorsIn, lentTarget, stepMachine}
+use Rattle.decision.proofs.Planning.{lent-good, values-words}
+use Rattle.demands.specs.Board.{Board, board, Call, Input, Datagram, Outcome, said, after, outcomes, targetBank, sectorsIn, lentOf, lentTarget, stepMachine}
 use Rattle.demands.specs.Session.{isEnd, allBlank, exchanged, noted}
 use Rattle.demands.specs.Demand1.{changed, stored, packetStored, sweptTarget}
 use Rattle.demands.specs.Demand2.{Lends, Packets, none, more, Ready, Fit, Delivery, Taken, AllTaken, none-taken, more-taken, Meets2}
-use Rattle.demands.proofs.Asking.{request-read, start-read, start-addressed}
+use Rattle.demands.proofs.Asking.{request-read, start-read, pairGood, start-addressed}
 use Rattle.demands.proofs.Bytes.{response-begin, written-begin, written-stored}
+use Rattle.demands.proofs.Lending.{lent-in}
 use Rattle.demands.proofs.Rows.{Heard, write-start, packet, write-end}
 use Rattle.demands.proofs.Sessions.{Session, Shows, lent-shows, step-shows, step-closes}
-use Rattle.demands.proofs.Steps.{machine-stays, zero-kept, one-kept}
+use Rattle.demands.proofs.Steps.{machine-stays, lengths-kept}
 
 -- ---- what a call lends
 
-module _ (b : Board) (call : Call) (good : goodN (b .client .n) ≡ true) (l : Lends (b .client .n) call)
-    (zero-size : length (b .bank0) ≡ b .client .n * sectorSize) (one-size : length (b .bank1) ≡ b .client .n * sectorSize) where
+abbrev pub Whole : ℕ → Banks → Type 0
+Whole n pair = (x : Bank) → length (bankIn x pair) ≡ bankSize n
+
+-- each bank is lent whole
+pub lent-whole : (b : Board) (call : Call) (n : ℕ) → Lends n call → Whole n (b .pair) → (x : Bank) → length (bankIn x (lentOf (call .lent) (b .pair))) ≡ bankSize n
+lent-whole b call n l whole x =
+    ap length (lent-in (call .lent) (b .pair) x)
+    ∙ length-take-le (call .lent x) (bankIn x (b .pair)) (omega (arith, l .banks x, whole x))
+    ∙ l .banks x
+
+module _ (b : Board) (call : Call) (good : goodN (b .client .fixed .n) ≡ true) (l : Lends (b .client .fixed .n) call) (whole : Whole (b .client .fixed .n) (b .pair)) where
   pub heard : isClosed (b .client .state) ≡ false → Heard b call
   heard live =
-      let n : ℕ = b .client .n in
-      let z : length (take (call .lent0) (b .bank0)) ≡ n * sectorSize =
-      length-take-le (call .lent0) (b .bank0) (omega (arith, l .zero, zero-size)) ∙ l .zero in
-      let o : length (take (call .lent1) (b .bank1)) ≡ n * sectorSize =
-      length-take-le (call .lent1) (b .bank1) (omega (arith, l .one, one-size)) ∙ l .one in
-      let m : length (call .marks) ≡ n = ap length (l .marks) ∙ length-replicate {A = ℕ} n 0 in
+      let n : ℕ = b .client .fixed .n in
+      let lengths = lent-whole b call n l whole in
       record {
         good = good;
+        runs = eq-eqb _ _ (lengths (b .client .fixed .running));
         lengths =
-            sym (lent-buffer n _ _ (length (call .marks)) (length (call .address)) (length (call .buffer)) z o m (l .address))
-            ∙ le-leb 14 (length (call .buffer)) (l .room);
+            lent-good n (length (lentTarget b call)) (length (call .marks)) (length (call .address)) (length (call .buffer))
+            (record {
+              whole-target = lengths (otherOf (b .client .fixed .running));
+              marked = ap length (l .marks) ∙ length-replicate {A = ℕ} n 0;
+              addressed = l .address;
+              roomy = l .room;
+            });
         live = live;
       }
 
@@ -86,8 +102,7 @@ pub said-back : (call : Call) (answer : List ℕ) → length answer ≤ 14 → 1
 said-back call answer s r = front-take (call .buffer) answer (omega arith)
 
 pub control-short : (code result : ℕ) → length (controlFrame code (result ∷ [])) ≤ 14
-unfolding answerBytes
-control-short code result = answer-short (Response code result)
+control-short code result = omega (arith, length-control code (result ∷ []))
 
 pub written-short : (sector result write crc : ℕ) → length (writeFrame sector (writtenBytes result write crc) End) ≤ 14
 unfolding answerBytes
@@ -101,36 +116,38 @@ padded-whole bytes e = rw e (append-nil bytes)
 
 -- ---- a session under way on a board
 
-pub record Busy (n : ℕ) (running : Bank) (b : Board) (image : List ℕ) : Type 0 where
-  pub sectors : b .client .n ≡ n
-  pub runs : b .client .running ≡ running
+pub record Busy (fixed : Fixed) (b : Board) (image : List ℕ) : Type 0 where
+  pub stays : b .client .fixed ≡ fixed
   pub writing : b .client .state ≡ state.Write
-  pub zero-size : length (b .bank0) ≡ n * sectorSize
-  pub one-size : length (b .bank1) ≡ n * sectorSize
+  pub whole : Whole (fixed .n) (b .pair)
   pub session : Session b image
 
-busy-size : (n : ℕ) (running : Bank) (b : Board) (image : List ℕ) → Busy n running b image → length image ≡ n * sectorSize
-busy-size n running b image h =
+busy-size : (fixed : Fixed) (b : Board) (image : List ℕ) → Busy fixed b image → length image ≡ bankSize (fixed .n)
+busy-size fixed b image h =
     let s = h .session in
     sym (ap length (s .shows))
-    ∙ length-sweep (sectorsIn (b .client .n) b) (b .client .n) (b .client .received)
-    ∙ length-take-le (b .client .n * sectorSize) (targetBank b) (s .room)
-    ∙ ap (λ (x : ℕ). x * sectorSize) (h .sectors)
+    ∙ length-sweep (sectorsIn (b .client .fixed .n) b) (b .client .fixed .n) (b .client .received)
+    ∙ length-take-le (bankSize (b .client .fixed .n)) (targetBank b) (s .room)
+    ∙ ap (λ (f : Fixed). bankSize (f .n)) (h .stays)
 
 -- a step that goes on writing: what it notes is shown
-goes-on : (n : ℕ) (running : Bank) (b : Board) (image now : List ℕ) (i : Input) → b .client .n ≡ n → b .client .running ≡ running
-    → length (b .bank0) ≡ n * sectorSize → length (b .bank1) ≡ n * sectorSize → Shows b image
-    → stepMachine b i .board .client .state ≡ state.Write → noted (b .client .n) image i (stepMachine b i) ≡ now
-    → Busy n running (stepMachine b i .board) now
-goes-on n running b image now i en er z o shows w e =
+goes-on : (fixed : Fixed) (b : Board) (image now : List ℕ) (i : Input) → b .client .fixed ≡ fixed → Whole (fixed .n) (b .pair) → Shows b image
+    → stepMachine b i .board .client .state ≡ state.Write → noted (b .client .fixed .n) image i (stepMachine b i) ≡ now
+    → Busy fixed (stepMachine b i .board) now
+goes-on fixed b image now i stays whole shows w e =
     record {
-      sectors = machine-stays b i .sectors ∙ en;
-      runs = machine-stays b i .runs ∙ er;
+      stays = machine-stays b i ∙ stays;
       writing = w;
-      zero-size = zero-kept b i ∙ z;
-      one-size = one-kept b i ∙ o;
+      whole = λ x. lengths-kept b i x ∙ whole x;
       session = subst (Session (stepMachine b i .board)) e (step-shows b image i shows w);
     }
+
+-- what is lent, and what is whole, by the board's own N
+own-lends : (fixed : Fixed) (b : Board) (call : Call) → b .client .fixed ≡ fixed → Lends (fixed .n) call → Lends (b .client .fixed .n) call
+own-lends fixed b call e l = subst (λ (f : Fixed). Lends (f .n) call) (sym e) l
+
+own-whole : (fixed : Fixed) (b : Board) → b .client .fixed ≡ fixed → Whole (fixed .n) (b .pair) → Whole (b .client .fixed .n) (b .pair)
+own-whole fixed b e w = subst (λ (f : Fixed). Whole (f .n) (b .pair)) (sym e) w
 
 -- ---- the start
 
@@ -138,35 +155,39 @@ pub begins-blank : (n : ℕ) (image datagram : List ℕ) → exchanged n image d
 unfolding answerBytes
 begins-blank n image datagram = rw response-begin
 
-module _ (b : Board) (r : Ready b) (call : Call) (sent : call .datagram ≡ requestFrame (WriteStart (otherOf (b .client .running)) (b .client .n)))
-    (l : Lends (b .client .n) call) where
-  pub begun-is : stepMachine b (Datagram call) ≡ changed b call (begun (b .client)) noNotice (controlFrame 0x70 (0x06 ∷ []))
+module _ (b : Board) (r : Ready b) (call : Call) (sent : call .datagram ≡ requestFrame (WriteStart (otherOf (b .client .fixed .running)) (b .client .fixed .n)))
+    (l : Lends (b .client .fixed .n) call) where
+  pub begun-is : stepMachine b (Datagram call)
+      ≡ changed b call (begun (starting (b .client .fixed .running) (b .client))) noNotice (controlFrame 0x70 (0x06 ∷ []))
   begun-is =
-      write-start b call (heard b call (r .good) l (r .zero) (r .one) (ap isClosed (r .control))) (r .control)
-      (ap readOf sent ∙ start-read (otherOf (b .client .running)) (b .client .n))
-      (ap (addressesGood (b .client .n) (b .client .running)) sent ∙ start-addressed (b .client) (r .good))
+      write-start b call (heard b call (r .good) l (r .whole) (ap isClosed (r .control))) (r .control)
+      (ap readOf sent ∙ start-read (otherOf (b .client .fixed .running)) (b .client .fixed .n))
+      (subst (pairGood (b .client .fixed)) (sym sent) (start-addressed (b .client .fixed) (r .good)))
 
   pub begun-said : said (stepMachine b (Datagram call)) ≡ controlFrame 0x70 (0x06 ∷ [])
   begun-said = ap said begun-is ∙ said-back call (controlFrame 0x70 (0x06 ∷ [])) (control-short 0x70 0x06) (l .room)
 
-  pub begun-busy : Busy (b .client .n) (b .client .running) (stepMachine b (Datagram call) .board) (allBlank (b .client .n))
+  pub begun-busy : Busy (b .client .fixed) (stepMachine b (Datagram call) .board) (allBlank (b .client .fixed .n))
   begun-busy =
-      goes-on (b .client .n) (b .client .running) b (allBlank (b .client .n)) (allBlank (b .client .n)) (Datagram call) refl refl (r .zero) (r .one)
+      goes-on (b .client .fixed) b (allBlank (b .client .fixed .n)) (allBlank (b .client .fixed .n)) (Datagram call) refl (r .whole)
       (λ w. absurd (not-write state.Control refl (sym (r .control) ∙ w)))
       (ap (λ (o : Outcome). o .board .client .state) begun-is)
-      (ap (exchanged (b .client .n) (allBlank (b .client .n)) (call .datagram)) begun-said ∙ begins-blank (b .client .n) (allBlank (b .client .n)) (call .datagram))
+      (ap (exchanged (b .client .fixed .n) (allBlank (b .client .fixed .n)) (call .datagram)) begun-said ∙ begins-blank (b .client .fixed .n) (allBlank (b .client .fixed .n)) (call .datagram))
 
 start-bytes : controlFrame 0x70 (0x06 ∷ []) ≡ 0x01 ∷ 0x02 ∷ 0x70 ∷ 0x06 ∷ 0x88 ∷ 0x03 ∷ []
-unfolding controlFrame framed checksumOf
+unfolding controlFrame framed checksumOf takenAway
 start-bytes = refl
 
 end-bytes : controlFrame 0x75 (0x06 ∷ []) ≡ 0x01 ∷ 0x02 ∷ 0x75 ∷ 0x06 ∷ 0x83 ∷ 0x03 ∷ []
-unfolding controlFrame framed checksumOf
+unfolding controlFrame framed checksumOf takenAway
 end-bytes = refl
 
 -- ---- a packet
 
-module _ (n : ℕ) (running : Bank) (good : goodN n ≡ true) (image : List ℕ) (size : length image ≡ n * sectorSize) (p : ℕ) (h : p < packetCount image n) where
+module _ (fixed : Fixed) (good : goodN (fixed .n) ≡ true) (image : List ℕ) (size : length image ≡ bankSize (fixed .n)) (p : ℕ) (h : p < packetCount image (fixed .n)) where
+  abbrev n : ℕ
+  n = fixed .n
+
   abbrev k : ℕ
   k = packetSector image n p
 
@@ -182,14 +203,14 @@ module _ (n : ℕ) (running : Bank) (good : goodN n ≡ true) (image : List ℕ)
   values : valuesGood n k 512 ≡ true
   values = sym (values-words n k 512 (sent .low) (sent .high) (omega arith) (omega arith))
 
-  module _ (b : Board) (g : List ℕ) (busy : Busy n running b g) (call : Call) (brings : call .datagram ≡ packetFrame image n p) (l : Lends n call) where
+  module _ (b : Board) (g : List ℕ) (busy : Busy fixed b g) (call : Call) (brings : call .datagram ≡ packetFrame image n p) (l : Lends n call) where
     reads : readOf (call .datagram) ≡ Write k 512 (footerOf (packetCount image n) p)
     reads = ap readOf brings ∙ sym (packet-read image n p good by-sectors h)
 
-    bytes-are : bytesIn (call .datagram) 512 ≡ sectorOf image k
-    bytes-are = ap (λ (d : List ℕ). bytesIn d 512) brings ∙ packet-bytes image n p good by-sectors h
+    bytes-are : dataIn (call .datagram) ≡ sectorOf image k
+    bytes-are = ap dataIn brings ∙ packet-data image n p
 
-    padded-are : paddedOf (bytesIn (call .datagram) 512) ≡ sectorOf image k
+    padded-are : paddedOf (dataIn (call .datagram)) ≡ sectorOf image k
     padded-are = ap paddedOf bytes-are ∙ padded-whole (sectorOf image k) whole
 
     unworn : isWorn (getD (call .marks) (k - 1) 0) ≡ false
@@ -198,59 +219,57 @@ module _ (n : ℕ) (running : Bank) (good : goodN n ≡ true) (image : List ℕ)
         let high = sent .high in
         ap (λ (m : List ℕ). isWorn (getD m (k - 1) 0)) (l .marks) ∙ ap isWorn (getD-replicate {A = ℕ} n (k - 1) 0 0 (omega arith))
 
-    own : Lends (b .client .n) call
-    own = subst (λ (x : ℕ). Lends x call) (sym (busy .sectors)) l
-
-    size-is : (x : ℕ) → x ≡ n * sectorSize → x ≡ b .client .n * sectorSize
-    size-is x e = e ∙ ap (λ (y : ℕ). y * sectorSize) (sym (busy .sectors))
-
     pub stored-is : stepMachine b (Datagram call) ≡ packetStored b call (Write k 512 (footerOf (packetCount image n) p))
     stored-is =
         packet b call
-        (heard b call (ap goodN (busy .sectors) ∙ good) own (size-is _ (busy .zero-size)) (size-is _ (busy .one-size)) (ap isClosed (busy .writing)))
-        k 512 (footerOf (packetCount image n) p) (busy .writing) reads (ap (λ (x : ℕ). valuesGood x k 512) (busy .sectors) ∙ values) unworn
+        (heard b call (ap (λ (f : Fixed). goodN (f .n)) (busy .stays) ∙ good) (own-lends fixed b call (busy .stays) l) (own-whole fixed b (busy .stays) (busy .whole))
+        (ap isClosed (busy .writing)))
+        k 512 (footerOf (packetCount image n) p) (busy .writing) reads (ap (λ (f : Fixed). valuesGood (f .n) k 512) (busy .stays) ∙ values) unworn
 
     abbrev result : ℕ
-    result = storeResult (blankOf (bytesIn (call .datagram) 512)) (sameOf (sectorOf (lentTarget b call) k) (paddedOf (bytesIn (call .datagram) 512)))
+    result = storeResult (blankOf (dataIn (call .datagram))) (sameOf (sectorOf (lentTarget b call) k) (paddedOf (dataIn (call .datagram))))
 
     is-accepted : Accepted result
-    is-accepted = accepted (blankOf (bytesIn (call .datagram) 512)) (sameOf (sectorOf (lentTarget b call) k) (paddedOf (bytesIn (call .datagram) 512)))
+    is-accepted = accepted (blankOf (dataIn (call .datagram))) (sameOf (sectorOf (lentTarget b call) k) (paddedOf (dataIn (call .datagram))))
 
     stored-said : said (stepMachine b (Datagram call)) ≡ writeFrame k (writtenBytes 0x06 result (crcOf (sectorOf image k))) End
     stored-said =
         ap said stored-is
-        ∙ said-back call (writeFrame k (writtenBytes 0x06 result (crcOf (paddedOf (bytesIn (call .datagram) 512)))) End)
-        (written-short k 0x06 result (crcOf (paddedOf (bytesIn (call .datagram) 512)))) (l .room)
+        ∙ said-back call (writeFrame k (writtenBytes 0x06 result (crcOf (paddedOf (dataIn (call .datagram))))) End)
+        (written-short k 0x06 result (crcOf (paddedOf (dataIn (call .datagram))))) (l .room)
         ∙ ap (λ (s : List ℕ). writeFrame k (writtenBytes 0x06 result (crcOf s)) End) padded-are
 
     pub taken : Taken image n p (stepMachine b (Datagram call))
     taken = record { write = result; accepted = is-accepted; answer = stored-said }
 
-    shown-next : exchanged (b .client .n) g (call .datagram) (writeFrame k (writtenBytes 0x06 result (crcOf (sectorOf image k))) End) ≡ withSector g k (sectorOf image k)
+    shown-next : exchanged (b .client .fixed .n) g (call .datagram) (writeFrame k (writtenBytes 0x06 result (crcOf (sectorOf image k))) End) ≡ withSector g k (sectorOf image k)
     unfolding answerBytes
     shown-next =
         rw (written-begin k 0x06 result (crcOf (sectorOf image k)), written-stored k result (crcOf (sectorOf image k)) is-accepted, reads)
         (ap (withSector g k) padded-are)
 
-    pub next-busy : Busy n running (stepMachine b (Datagram call) .board) (withSector g k (sectorOf image k))
+    pub next-busy : Busy fixed (stepMachine b (Datagram call) .board) (withSector g k (sectorOf image k))
     next-busy =
-        goes-on n running b g (withSector g k (sectorOf image k)) (Datagram call) (busy .sectors) (busy .runs) (busy .zero-size) (busy .one-size) (λ _. busy .session)
+        goes-on fixed b g (withSector g k (sectorOf image k)) (Datagram call) (busy .stays) (busy .whole) (λ _. busy .session)
         (ap (λ (o : Outcome). o .board .client .state) stored-is ∙ busy .writing)
-        (ap (exchanged (b .client .n) g (call .datagram)) stored-said ∙ shown-next)
+        (ap (exchanged (b .client .fixed .n) g (call .datagram)) stored-said ∙ shown-next)
 
 -- ---- all of them
 
-module _ (n : ℕ) (running : Bank) (good : goodN n ≡ true) (image : List ℕ) (size : length image ≡ n * sectorSize) where
+module _ (fixed : Fixed) (good : goodN (fixed .n) ≡ true) (image : List ℕ) (size : length image ≡ bankSize (fixed .n)) where
+  abbrev sectors : ℕ
+  sectors = fixed .n
+
   -- the packet of sector k is among those to come
   record Coming (sector : ℕ) (ps : List ℕ) : Type 0 where
     number : ℕ
-    brings : packetSector image n number ≡ sector
+    brings : packetSector image sectors number ≡ sector
     among : List·Memᴰ number ps
 
   abbrev Due : List ℕ → List ℕ → Type 0
-  Due shown ps = (j : ℕ) → 1 ≤ j → j ≤ n → (sectorOf shown j ≡ sectorOf image j) ⊎ Coming j ps
+  Due shown ps = (j : ℕ) → 1 ≤ j → j ≤ sectors → (sectorOf shown j ≡ sectorOf image j) ⊎ Coming j ps
 
-  got : (shown : List ℕ) → Due shown [] → (j : ℕ) → 1 ≤ j → j ≤ n → sectorOf shown j ≡ sectorOf image j
+  got : (shown : List ℕ) → Due shown [] → (j : ℕ) → 1 ≤ j → j ≤ sectors → sectorOf shown j ≡ sectorOf image j
   got shown due j a l = by (due j a l)
     where
       by : (sectorOf shown j ≡ sectorOf image j) ⊎ Coming j [] → sectorOf shown j ≡ sectorOf image j
@@ -258,15 +277,15 @@ module _ (n : ℕ) (running : Bank) (good : goodN n ≡ true) (image : List ℕ)
       by (inr c) = absurd (List·Memᴰ·not-nil (c .among))
 
   -- one of them has come
-  due-next : (p : ℕ) (ps shown : List ℕ) → p < packetCount image n → length shown ≡ n * sectorSize → Due shown (p ∷ ps)
-      → Due (withSector shown (packetSector image n p) (sectorOf image (packetSector image n p))) ps
+  due-next : (p : ℕ) (ps shown : List ℕ) → p < packetCount image sectors → length shown ≡ bankSize sectors → Due shown (p ∷ ps)
+      → Due (withSector shown (packetSector image sectors p) (sectorOf image (packetSector image sectors p))) ps
   due-next p ps shown h size-shown due j a l = by (ℕ-discrete j s) (due j a l)
     where
       s : ℕ
-      s = packetSector image n p
+      s = packetSector image sectors p
 
-      i : Sent image n s
-      i = sent-in image n p h
+      i : Sent image sectors s
+      i = sent-in image sectors p h
 
       has-s : Has (length shown) s
       has-s =
@@ -275,13 +294,13 @@ module _ (n : ℕ) (running : Bank) (good : goodN n ≡ true) (image : List ℕ)
           record { first = low; last = omega arith }
 
       w : length (sectorOf image s) ≡ 512
-      w = sector-length image n (omega (arith, size)) s (i .low) (i .high)
+      w = sector-length image sectors (omega (arith, size)) s (i .low) (i .high)
 
       later : Coming j (p ∷ ps) → (j ≡ s → ⊥) → Coming j ps
       later c ne = tail (List·Memᴰ·cases-cons (c .among))
         where
           tail : (c .number ≡ p) ⊎ List·Memᴰ (c .number) ps → Coming j ps
-          tail (inl e) = absurd (ne (sym (c .brings) ∙ ap (packetSector image n) e))
+          tail (inl e) = absurd (ne (sym (c .brings) ∙ ap (packetSector image sectors) e))
           tail (inr m) = record { number = c .number; brings = c .brings; among = m }
 
       by : Dec (j ≡ s) → (sectorOf shown j ≡ sectorOf image j) ⊎ Coming j (p ∷ ps) → (sectorOf (withSector shown s (sectorOf image s)) j ≡ sectorOf image j) ⊎ Coming j ps
@@ -294,112 +313,104 @@ module _ (n : ℕ) (running : Bank) (good : goodN n ≡ true) (image : List ℕ)
           inl (with-other shown s (sectorOf image s) has-s w j (record { first = a; last = omega arith }) ne ∙ e)
       by (no ne) (inr c) = inr (later c ne)
 
-  deliver : {ps : List ℕ} {is : List Input} → Packets image n ps is → (b : Board) (shown : List ℕ) → Busy n running b shown → Due shown ps
-      → Busy n running (after stepMachine b is) image × AllTaken image n ps (outcomes stepMachine b is)
+  deliver : {ps : List ℕ} {is : List Input} → Packets image sectors ps is → (b : Board) (shown : List ℕ) → Busy fixed b shown → Due shown ps
+      → Busy fixed (after stepMachine b is) image × AllTaken image sectors ps (outcomes stepMachine b is)
   deliver none b shown busy due =
-      (subst (Busy n running b) (ext-sector shown image n (busy-size n running b shown busy) size (got shown due)) busy, none-taken)
+      (subst (Busy fixed b) (ext-sector shown image sectors (busy-size fixed b shown busy) size (got shown due)) busy, none-taken)
   deliver (more {p} {ps} {call} {is} h e l rest) b shown busy due =
       let r =
-      deliver rest (stepMachine b (Datagram call) .board) _ (next-busy n running good image size p h b shown busy call e l)
-      (due-next p ps shown h (busy-size n running b shown busy) due) in
-      (r .0, more-taken (taken n running good image size p h b shown busy call e l) (r .1))
+      deliver rest (stepMachine b (Datagram call) .board) _ (next-busy fixed good image size p h b shown busy call e l)
+      (due-next p ps shown h (busy-size fixed b shown busy) due) in
+      (r .0, more-taken (taken fixed good image size p h b shown busy call e l) (r .1))
 
   -- at the start nothing but 0xFF is shown, and each sector that has another byte has its packet
-  due-first : (ps : List ℕ) → ((p : ℕ) → p < packetCount image n → List·Memᴰ p ps) → Due (allBlank n) ps
+  due-first : (ps : List ℕ) → ((p : ℕ) → p < packetCount image sectors → List·Memᴰ p ps) → Due (allBlank sectors) ps
   due-first ps each zero a l = absurd (omega arith)
   due-first ps each (suc j) a l = by (blankOf (sectorOf image (suc j))) refl
     where
-      by : (t : Bool) → blankOf (sectorOf image (suc j)) ≡ t → (sectorOf (allBlank n) (suc j) ≡ sectorOf image (suc j)) ⊎ Coming (suc j) ps
+      by : (t : Bool) → blankOf (sectorOf image (suc j)) ≡ t → (sectorOf (allBlank sectors) (suc j) ≡ sectorOf image (suc j)) ⊎ Coming (suc j) ps
       by true t =
           inl
-          (sector-blanks n (suc j) a l
-          ∙ sym (blank-whole (sectorOf image (suc j)) (sector-length image n (omega (arith, size)) (suc j) a l) t))
+          (sector-blanks sectors (suc j) a l
+          ∙ sym (blank-whole (sectorOf image (suc j)) (sector-length image sectors (omega (arith, size)) (suc j) a l) t))
       by false t =
-          let s : SentAt image n (suc j) (packetCount image j) = used-sent image n j l t in
+          let s : SentAt image sectors (suc j) (packetCount image j) = used-sent image sectors j l t in
           inr (record { number = packetCount image j; brings = s .sector; among = each (packetCount image j) (s .below) })
 
   -- ---- the end
 
-  module _ (b : Board) (busy : Busy n running b image) (sound : fitOf image ≡ true) (call : Call) (asks : call .datagram ≡ requestFrame WriteEnd) (l : Lends n call) where
-    own-lends : Lends (b .client .n) call
-    own-lends = subst (λ (x : ℕ). Lends x call) (sym (busy .sectors)) l
+  module _ (b : Board) (busy : Busy fixed b image) (sound : fitOf fixed image ≡ true) (call : Call) (asks : call .datagram ≡ requestFrame WriteEnd)
+      (l : Lends (fixed .n) call) where
+    lends : Lends (b .client .fixed .n) call
+    lends = own-lends fixed b call (busy .stays) l
 
-    own-size : (x : ℕ) → x ≡ n * sectorSize → x ≡ b .client .n * sectorSize
-    own-size x e = e ∙ ap (λ (y : ℕ). y * sectorSize) (sym (busy .sectors))
+    own : Whole (b .client .fixed .n) (b .pair)
+    own = own-whole fixed b (busy .stays) (busy .whole)
 
-    lent-size : length (lentTarget b call) ≡ b .client .n * sectorSize
-    lent-size = own-size _ (by (b .client .running))
-      where
-        by : (x : Bank) → length (targetOf x (take (call .lent0) (b .bank0)) (take (call .lent1) (b .bank1))) ≡ n * sectorSize
-        by Zero = length-take-le (call .lent1) (b .bank1) (omega (arith, l .one, busy .one-size)) ∙ l .one
-        by One = length-take-le (call .lent0) (b .bank0) (omega (arith, l .zero, busy .zero-size)) ∙ l .zero
+    good-own : goodN (b .client .fixed .n) ≡ true
+    good-own = ap (λ (f : Fixed). goodN (f .n)) (busy .stays) ∙ good
 
     swept-is : sweptTarget b call ≡ image
-    swept-is = lent-shows b call image (λ _. busy .session) (record { writing = busy .writing; good = ap goodN (busy .sectors) ∙ good; whole = lent-size })
+    swept-is =
+        lent-shows b call image (λ _. busy .session)
+        (record { writing = busy .writing; good = good-own; whole = lent-whole b call _ lends own (otherOf (b .client .fixed .running)) })
 
-    ended-is : stepMachine b (Datagram call) ≡ stored b call (ended (b .client) Good (otherOf (b .client .running))) (sweptTarget b call) (controlFrame 0x75 (0x06 ∷ []))
+    ended-is : stepMachine b (Datagram call)
+        ≡ stored b call (starting (otherOf (b .client .fixed .running)) (ended Good (b .client))) (sweptTarget b call) (controlFrame 0x75 (0x06 ∷ []))
     ended-is =
-        write-end b call
-        (heard b call (ap goodN (busy .sectors) ∙ good) own-lends (own-size _ (busy .zero-size)) (own-size _ (busy .one-size)) (ap isClosed (busy .writing)))
-        (busy .writing)
+        write-end b call (heard b call good-own lends own (ap isClosed (busy .writing))) (busy .writing)
         (ap readOf asks ∙ request-read WriteEnd)
-        (ap anyWorn (l .marks) ∙ no-mark n)
-        (ap fitOf swept-is ∙ sound)
+        (ap anyWorn (l .marks) ∙ no-mark (fixed .n))
+        (ap (fitOf (b .client .fixed)) swept-is ∙ ap (λ (f : Fixed). fitOf f image) (busy .stays) ∙ sound)
 
     ended-said : said (stepMachine b (Datagram call)) ≡ 0x01 ∷ 0x02 ∷ 0x75 ∷ 0x06 ∷ 0x83 ∷ 0x03 ∷ []
     ended-said = ap said ended-is ∙ said-back call (controlFrame 0x75 (0x06 ∷ [])) (control-short 0x75 0x06) (l .room) ∙ end-bytes
 
-    ended-next : stepMachine b (Datagram call) .board .client .next ≡ otherOf running
-    ended-next = ap (λ (o : Outcome). o .board .client .next) ended-is ∙ ap otherOf (busy .runs)
+    ended-next : stepMachine b (Datagram call) .board .client .next ≡ otherOf (fixed .running)
+    ended-next = ap (λ (o : Outcome). o .board .client .next) ended-is ∙ ap (λ (f : Fixed). otherOf (f .running)) (busy .stays)
 
-    ended-bank : targetOf running (stepMachine b (Datagram call) .board .bank0) (stepMachine b (Datagram call) .board .bank1) ≡ image
+    ended-bank : bankIn (otherOf (fixed .running)) (stepMachine b (Datagram call) .board .pair) ≡ image
     ended-bank =
         let next : Board = stepMachine b (Datagram call) .board in
-        ap (λ (x : Bank). targetOf x (next .bank0) (next .bank1)) (sym (machine-stays b (Datagram call) .runs ∙ busy .runs))
-        ∙ sym (take-all (b .client .n * sectorSize) (targetBank next) (whole-next (next .client .running)))
+        let size = lengths-kept b (Datagram call) (otherOf (next .client .fixed .running)) ∙ own (otherOf (next .client .fixed .running)) in
+        ap (λ (f : Fixed). bankIn (otherOf (f .running)) (next .pair)) (sym (machine-stays b (Datagram call) ∙ busy .stays))
+        ∙ sym (take-all (bankSize (b .client .fixed .n)) (targetBank next) (omega arith))
         ∙ step-closes b image (Datagram call) (λ _. busy .session) (ap isEnd ended-said)
-      where
-        whole-next : (x : Bank) → length (targetOf x (stepMachine b (Datagram call) .board .bank0) (stepMachine b (Datagram call) .board .bank1)) ≤ b .client .n * sectorSize
-        whole-next Zero = omega (arith, own-size _ (busy .one-size), one-kept b (Datagram call))
-        whole-next One = omega (arith, own-size _ (busy .zero-size), zero-kept b (Datagram call))
 
 -- the board behind the end: in control state, and the session ended with 06
-pub record Over (b : Board) (n : ℕ) : Type 0 where
-  pub sectors : b .client .n ≡ n
+pub record Over (b : Board) (fixed : Fixed) : Type 0 where
+  pub stays : b .client .fixed ≡ fixed
   pub control : b .client .state ≡ state.Control
   pub latest : b .client .latest ≡ Good
-  pub zero-size : length (b .bank0) ≡ n * sectorSize
-  pub one-size : length (b .bank1) ≡ n * sectorSize
+  pub whole : Whole (fixed .n) (b .pair)
 
-module _ (b : Board) (image : List ℕ) (ready : Ready b) (fit : Fit image (b .client .n)) (start : Call) (ps : List ℕ) (is : List Input) (end : Call)
+module _ (b : Board) (image : List ℕ) (ready : Ready b) (fit : Fit image (b .client .fixed)) (start : Call) (ps : List ℕ) (is : List Input) (end : Call)
     (d : Delivery b image start ps is end) where
-  all : Busy (b .client .n) (b .client .running) (after stepMachine b (Datagram start ∷ is)) image
-      × AllTaken image (b .client .n) ps (outcomes stepMachine (stepMachine b (Datagram start) .board) is)
+  all : Busy (b .client .fixed) (after stepMachine b (Datagram start ∷ is)) image
+      × AllTaken image (b .client .fixed .n) ps (outcomes stepMachine (stepMachine b (Datagram start) .board) is)
   all =
-      deliver (b .client .n) (b .client .running) (ready .good) image (fit .size) (d .packets) (stepMachine b (Datagram start) .board) (allBlank (b .client .n))
-      (begun-busy b ready start (d .start-sent) (d .start-lends)) (due-first (b .client .n) (b .client .running) (ready .good) image (fit .size) ps (d .each))
+      deliver (b .client .fixed) (ready .good) image (fit .size) (d .packets) (stepMachine b (Datagram start) .board) (allBlank (b .client .fixed .n))
+      (begun-busy b ready start (d .start-sent) (d .start-lends)) (due-first (b .client .fixed) (ready .good) image (fit .size) ps (d .each))
 
-  pub over : Over (stepMachine (after stepMachine b (Datagram start ∷ is)) (Datagram end) .board) (b .client .n)
+  pub over : Over (stepMachine (after stepMachine b (Datagram start ∷ is)) (Datagram end) .board) (b .client .fixed)
   over =
       let last : Board = after stepMachine b (Datagram start ∷ is) in
-      let e = ended-is (b .client .n) (b .client .running) (ready .good) image (fit .size) last (all .0) (fit .sound) end (d .end-sent) (d .end-lends) in
+      let e = ended-is (b .client .fixed) (ready .good) image (fit .size) last (all .0) (fit .sound) end (d .end-sent) (d .end-lends) in
       record {
-        sectors = machine-stays last (Datagram end) .sectors ∙ all .0 .sectors;
+        stays = machine-stays last (Datagram end) ∙ all .0 .stays;
         control = ap (λ (o : Outcome). o .board .client .state) e;
         latest = ap (λ (o : Outcome). o .board .client .latest) e;
-        zero-size = zero-kept last (Datagram end) ∙ all .0 .zero-size;
-        one-size = one-kept last (Datagram end) ∙ all .0 .one-size;
+        whole = λ x. lengths-kept last (Datagram end) x ∙ all .0 .whole x;
       }
 
 pub demand2 : Meets2 stepMachine
 demand2 b image ready fit start ps is end d =
-    let n : ℕ = b .client .n in
-    let running : Bank = b .client .running in
+    let fixed : Fixed = b .client .fixed in
     let done = all b image ready fit start ps is end d in
     record {
       started = begun-said b ready start (d .start-sent) (d .start-lends) ∙ start-bytes;
       taken = done .1;
-      ended = ended-said n running (ready .good) image (fit .size) _ (done .0) (fit .sound) end (d .end-sent) (d .end-lends);
-      bank = ended-bank n running (ready .good) image (fit .size) _ (done .0) (fit .sound) end (d .end-sent) (d .end-lends);
-      next = ended-next n running (ready .good) image (fit .size) _ (done .0) (fit .sound) end (d .end-sent) (d .end-lends);
+      ended = ended-said fixed (ready .good) image (fit .size) _ (done .0) (fit .sound) end (d .end-sent) (d .end-lends);
+      bank = ended-bank fixed (ready .good) image (fit .size) _ (done .0) (fit .sound) end (d .end-sent) (d .end-lends);
+      next = ended-next fixed (ready .good) image (fit .size) _ (done .0) (fit .sound) end (d .end-sent) (d .end-lends);
     }

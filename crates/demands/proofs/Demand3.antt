@@ -12,28 +12,32 @@ use Rattle.frame.specs.declared.read.Footer.the-variants.{End}
 use Rattle.exchange.specs.declared.answer.Answer.{Answer}
 use Rattle.exchange.specs.declared.answer.Answer.the-variants.{Written}
 use Rattle.client.specs.declared.record.Client.{Client}
-use Rattle.exchange.specs.Answer.{writtenBytes, answerBytes}
-use Rattle.client.specs.Step.{Carried, stepOf}
-use Rattle.demands.proofs.Courses.{Match, same, either, same-length, step-alike, step-told, step-said, step-fits}
-use Rattle.exchange.proofs.Saying.{written-long}
-use Rattle.demands.proofs.Courses.{Alike as AlikeSteps}
-use Rattle.demands.proofs.Leading.{Finishing}
-use Rattle.demands.specs.Board.{Board, board, Call, Input, Initiate, Terminate, Datagram, said, after, outcomes, sectorsIn, lentTarget, answerNumber, called, stepMachine}
+use Rattle.layout.specs.declared.Bank.{Bank}
+use Rattle.layout.specs.Layout.{otherOf}
+use Rattle.layout.specs.Pair.{Banks, bankIn}
+use Rattle.exchange.specs.Answer.{writtenBytes, answerBytes, answerNumber}
+use Rattle.client.specs.Step.{Carried, besideOf}
+use Rattle.exchange.proofs.Saying.{written-long, told-whole}
+use Rattle.decision.specs.declared.plan.Fixed.{Fixed}
+use Rattle.calls.proofs.Courses.{Match, same, either, Alike as AlikeSteps}
+use Rattle.calls.proofs.Leading.{Finishing}
+use Rattle.calls.proofs.Beside.{step-alike, step-told, step-said, step-fits}
+use Rattle.demands.specs.Board.{Board, board, Call, Input, Initiate, Terminate, Datagram, said, after, outcomes, sectorsIn, lentOf, lentTarget, called, stepMachine}
 use Rattle.demands.specs.Session.{isEnd, allBlank, exchanged, noted, shown}
 use Rattle.demands.specs.Demand3.{AlikeBytes, same as same-bytes, either as either-bytes, Alike, AllAlike, none, more, Meets3}
 use Rattle.demands.proofs.Bytes.{written-begin, written-end, written-stored}
-use Rattle.demands.proofs.Lending.{front-alike}
+use Rattle.demands.proofs.Lending.{front-alike, lent-in}
 use Rattle.demands.proofs.Sessions.{Shows, said-is, lent-shows, step-shows, step-closes}
-use Rattle.demands.proofs.Steps.{machine-stays, zero-kept, one-kept, run-stays, run-running}
+use Rattle.demands.proofs.Steps.{machine-stays, lengths-kept, run-stays, run-running}
 
 -- ---- two answers that match
 
-module _ (c : Client) (a0 a1 b0 b1 marks address buffer datagram : List ℕ) where
+module _ (c : Client) (running : ℕ) (a b marks address buffer datagram : List ℕ) where
   abbrev one : Carried
-  one = stepOf c a0 a1 marks address buffer datagram
+  one = besideOf c running a marks address buffer datagram
 
   abbrev two : Carried
-  two = stepOf c b0 b1 marks address buffer datagram
+  two = besideOf c running b marks address buffer datagram
 
   -- a write response fills the front; the rest is that of the buffer that was lent
   written-front : (r : Carried) (sector v crc : ℕ) → r .buffer ≡ frontOf buffer (answerBytes (r .answer)) → length (answerBytes (r .answer)) ≤ length buffer
@@ -48,16 +52,22 @@ module _ (c : Client) (a0 a1 b0 b1 marks address buffer datagram : List ℕ) whe
   matched : Match (one .answer) (two .answer) → AlikeBytes (one .buffer) (two .buffer)
   matched (same e) =
       same-bytes
-      (step-said c a0 a1 marks address buffer datagram
+      (step-said c running a marks address buffer datagram
       ∙ ap (λ (x : Answer). frontOf buffer (answerBytes x)) e
-      ∙ sym (step-said c b0 b1 marks address buffer datagram))
+      ∙ sym (step-said c running b marks address buffer datagram))
   matched (either sector crc v w p q e f) =
       either-bytes sector crc v w (drop 13 buffer) p q
-      (written-front one sector v crc (step-said c a0 a1 marks address buffer datagram) (step-fits c a0 a1 marks address buffer datagram) e)
-      (written-front two sector w crc (step-said c b0 b1 marks address buffer datagram) (step-fits c b0 b1 marks address buffer datagram) f)
+      (written-front one sector v crc (step-said c running a marks address buffer datagram) (step-fits c running a marks address buffer datagram) e)
+      (written-front two sector w crc (step-said c running b marks address buffer datagram) (step-fits c running b marks address buffer datagram) f)
 
   as-long : Match (one .answer) (two .answer) → one .told ≡ two .told
-  as-long m = step-told c a0 a1 marks address buffer datagram ∙ by m ∙ sym (step-told c b0 b1 marks address buffer datagram)
+  as-long m =
+      step-told c running a marks address buffer datagram
+      ∙ told-whole (one .answer) (length buffer) (step-fits c running a marks address buffer datagram)
+      ∙ by m
+      ∙ sym
+      (step-told c running b marks address buffer datagram
+      ∙ told-whole (two .answer) (length buffer) (step-fits c running b marks address buffer datagram))
     where
       by : Match (one .answer) (two .answer) → length (answerBytes (one .answer)) ≡ length (answerBytes (two .answer))
       by (same e) = ap (λ (x : Answer). length (answerBytes x)) e
@@ -87,31 +97,51 @@ match-end (either sector crc v w p q e f) =
 
 pub record Twins (a b : Board) (image : List ℕ) : Type 0 where
   pub client : a .client ≡ b .client
-  pub zero : length (a .bank0) ≡ length (b .bank0)
-  pub one : length (a .bank1) ≡ length (b .bank1)
+  pub lengths : (x : Bank) → length (bankIn x (a .pair)) ≡ length (bankIn x (b .pair))
   pub first : Shows a image
   pub second : Shows b image
 
 pub record Stepped (a b : Board) (image : List ℕ) (i : Input) : Type 0 where
   pub alike : Alike (stepMachine a i) (stepMachine b i)
-  pub shown-alike : noted (a .client .n) image i (stepMachine a i) ≡ noted (a .client .n) image i (stepMachine b i)
+  pub shown-alike : noted (a .client .fixed .n) image i (stepMachine a i) ≡ noted (a .client .fixed .n) image i (stepMachine b i)
   pub end-alike : isEnd (said (stepMachine a i)) ≡ isEnd (said (stepMachine b i))
 
-module _ (c : Client) (a0 a1 b0 b1 image : List ℕ) where
+module _ (c : Client) (pa pb : Banks) (image : List ℕ) where
   abbrev a : Board
-  a = board c a0 a1
+  a = board c pa
 
   abbrev b : Board
-  b = board c b0 b1
+  b = board c pb
 
-  lent-length : (call : Call) → Twins a b image → length (lentTarget a call) ≡ length (lentTarget b call)
-  lent-length call t =
-      same-length c _ _ _ _ (call .marks) (call .address) (call .buffer) (call .datagram)
-      (front-alike (call .lent0) a0 b0 (t .zero)) (front-alike (call .lent1) a1 b1 (t .one))
+  lent-length : (call : Call) → Twins a b image → (x : Bank) → length (bankIn x (lentOf (call .lent) pa)) ≡ length (bankIn x (lentOf (call .lent) pb))
+  lent-length call t x =
+      ap length (lent-in (call .lent) pa x)
+      ∙ front-alike (call .lent x) (bankIn x pa) (bankIn x pb) (t .lengths x)
+      ∙ sym (ap length (lent-in (call .lent) pb x))
 
-  other : (call : Call) → Twins a b image → Finishing c (length (lentTarget a call)) → Finishing c (length (lentTarget b call))
-  other call t f =
-      record { writing = f .writing; good = f .good; whole = sym (lent-length call t) ∙ f .whole }
+  abbrev runs : Call → Banks → ℕ
+  runs call p = length (bankIn (c .fixed .running) (lentOf (call .lent) p))
+
+  target-length : (call : Call) → Twins a b image → length (lentTarget a call) ≡ length (lentTarget b call)
+  target-length call t = lent-length call t (otherOf (c .fixed .running))
+
+  finishing : (call : Call) → Twins a b image → Finishing c (length (lentTarget a call)) → Finishing c (length (lentTarget b call))
+  finishing call t f = record { writing = f .writing; good = f .good; whole = sym (target-length call t) ∙ f .whole }
+
+  -- the call on the second board, seen with the first one's running bank: only its length counts
+  abbrev beside : Call → Carried
+  beside call = besideOf c (runs call pa) (lentTarget b call) (call .marks) (call .address) (call .buffer) (call .datagram)
+
+  same-runs : (call : Call) → Twins a b image → beside call ≡ called b call
+  same-runs call t =
+      ap (λ (n : ℕ). besideOf c n (lentTarget b call) (call .marks) (call .address) (call .buffer) (call .datagram))
+      (lent-length call t (c .fixed .running))
+
+  alike-steps : (call : Call) → Twins a b image → AlikeSteps (called a call) (beside call)
+  alike-steps call t =
+      step-alike c (runs call pa) (lentTarget a call) (lentTarget b call) (call .marks) (call .address) (call .buffer) (call .datagram)
+      (target-length call t)
+      (λ f. lent-shows a call image (t .first) f ∙ sym (lent-shows b call image (t .second) (finishing call t f)))
 
   stepped : Twins a b image → (i : Input) → Stepped a b image i
   stepped t Initiate =
@@ -119,41 +149,41 @@ module _ (c : Client) (a0 a1 b0 b1 image : List ℕ) where
   stepped t Terminate =
       record { alike = record { client = refl; number = refl; told = refl; notice = refl; buffer = same-bytes refl }; shown-alike = refl; end-alike = refl }
   stepped t (Datagram call) =
-      let s : AlikeSteps (called a call) (called b call) =
-      step-alike c _ _ _ _ (call .marks) (call .address) (call .buffer) (call .datagram)
-      (front-alike (call .lent0) a0 b0 (t .zero)) (front-alike (call .lent1) a1 b1 (t .one))
-      (λ f. lent-shows a call image (t .first) f ∙ sym (lent-shows b call image (t .second) (other call t f))) in
+      let q = same-runs call t in
+      let s = alike-steps call t in
+      let m : Match (called a call .answer) (called b call .answer) = subst (λ (r : Carried). Match (called a call .answer) (r .answer)) q (s .answer) in
+      let long = as-long c (runs call pa) (lentTarget a call) (lentTarget b call) (call .marks) (call .address) (call .buffer) (call .datagram) (s .answer) in
+      let bytes = matched c (runs call pa) (lentTarget a call) (lentTarget b call) (call .marks) (call .address) (call .buffer) (call .datagram) (s .answer) in
       record {
         alike = record {
-          client = s .client;
-          number = match-number (s .answer);
-          told = as-long c _ _ _ _ (call .marks) (call .address) (call .buffer) (call .datagram) (s .answer);
-          notice = s .notice;
-          buffer = matched c _ _ _ _ (call .marks) (call .address) (call .buffer) (call .datagram) (s .answer);
+          client = s .client ∙ ap (λ (r : Carried). r .client) q;
+          number = match-number m;
+          told = long ∙ ap (λ (r : Carried). r .told) q;
+          notice = s .notice ∙ ap (λ (r : Carried). r .notice) q;
+          buffer = subst (λ (r : Carried). AlikeBytes (called a call .buffer) (r .buffer)) q bytes;
         };
         shown-alike =
-            ap (exchanged (c .n) image (call .datagram)) (said-is a call)
-            ∙ match-shown (c .n) image (call .datagram) (s .answer)
-            ∙ sym (ap (exchanged (c .n) image (call .datagram)) (said-is b call));
-        end-alike = ap isEnd (said-is a call) ∙ match-end (s .answer) ∙ sym (ap isEnd (said-is b call));
+            ap (exchanged (c .fixed .n) image (call .datagram)) (said-is a call)
+            ∙ match-shown (c .fixed .n) image (call .datagram) m
+            ∙ sym (ap (exchanged (c .fixed .n) image (call .datagram)) (said-is b call));
+        end-alike = ap isEnd (said-is a call) ∙ match-end m ∙ sym (ap isEnd (said-is b call));
       }
 
 twins-step : (a b : Board) (image : List ℕ) (i : Input) → Twins a b image → Stepped a b image i
 twins-step a b image i t =
-    let e : board (a .client) (b .bank0) (b .bank1) ≡ b = λ k. record { client = t .client k; bank0 = b .bank0; bank1 = b .bank1 } in
-    let u : Twins a (board (a .client) (b .bank0) (b .bank1)) image =
-    record { client = refl; zero = t .zero; one = t .one; first = t .first; second = subst (λ (x : Board). Shows x image) (sym e) (t .second) } in
-    subst (λ (x : Board). Stepped a x image i) e (stepped (a .client) (a .bank0) (a .bank1) (b .bank0) (b .bank1) image u i)
+    let e : board (a .client) (b .pair) ≡ b = λ k. record { client = t .client k; pair = b .pair } in
+    let u : Twins a (board (a .client) (b .pair)) image =
+    record { client = refl; lengths = t .lengths; first = t .first; second = subst (λ (x : Board). Shows x image) (sym e) (t .second) } in
+    subst (λ (x : Board). Stepped a x image i) e (stepped (a .client) (a .pair) (b .pair) image u i)
 
 twins-next : (a b : Board) (image : List ℕ) (i : Input) → Twins a b image
-    → Twins (stepMachine a i .board) (stepMachine b i .board) (noted (a .client .n) image i (stepMachine a i))
+    → Twins (stepMachine a i .board) (stepMachine b i .board) (noted (a .client .fixed .n) image i (stepMachine a i))
 twins-next a b image i t =
     let s : Stepped a b image i = twins-step a b image i t in
-    let n : b .client .n ≡ a .client .n = ap (λ (c : Client). c .n) (sym (t .client)) in
+    let n : b .client .fixed .n ≡ a .client .fixed .n = ap (λ (c : Client). c .fixed .n) (sym (t .client)) in
     record {
       client = s .alike .client;
-      zero = zero-kept a i ∙ t .zero ∙ sym (zero-kept b i);
-      one = one-kept a i ∙ t .one ∙ sym (one-kept b i);
+      lengths = λ x. lengths-kept a i x ∙ t .lengths x ∙ sym (lengths-kept b i x);
       first = step-shows a image i (t .first);
       second =
           subst (Shows (stepMachine b i .board)) (ap (λ (m : ℕ). noted m image i (stepMachine b i)) n ∙ sym (s .shown-alike))
@@ -166,21 +196,20 @@ run-alike : (is : List Input) (a b : Board) (image : List ℕ) → Twins a b ima
 run-alike [] a b image t = none
 run-alike (i ∷ is) a b image t = more (twins-step a b image i t .alike) (run-alike is _ _ _ (twins-next a b image i t))
 
-run-twins : (n : ℕ) (is : List Input) (a b : Board) (image : List ℕ) → a .client .n ≡ n → Twins a b image
+run-twins : (n : ℕ) (is : List Input) (a b : Board) (image : List ℕ) → a .client .fixed .n ≡ n → Twins a b image
     → Twins (after stepMachine a is) (after stepMachine b is) (shown n image is (outcomes stepMachine a is))
 run-twins n [] a b image e t = t
 run-twins n (i ∷ is) a b image e t =
-    run-twins n is (stepMachine a i .board) (stepMachine b i .board) (noted n image i (stepMachine a i)) (machine-stays a i .sectors ∙ e)
+    run-twins n is (stepMachine a i .board) (stepMachine b i .board) (noted n image i (stepMachine a i)) (ap (λ (f : Fixed). f .n) (machine-stays a i) ∙ e)
     (subst (λ (m : ℕ). Twins (stepMachine a i .board) (stepMachine b i .board) (noted m image i (stepMachine a i))) e (twins-next a b image i t))
 
 pub demand3 : Meets3 stepMachine
 demand3 a b p is =
-    let n : ℕ = a .client .n in
+    let n : ℕ = a .client .fixed .n in
     let t : Twins a b (allBlank n) =
     record {
       client = p .client;
-      zero = p .zero;
-      one = p .one;
+      lengths = p .lengths;
       first = λ s. absurd (p .resting s);
       second = λ s. absurd (p .resting (ap (λ (c : Client). c .state) (p .client) ∙ s));
     } in
@@ -191,8 +220,8 @@ demand3 a b p is =
       second-kept = run-running is b;
       ended = λ i e.
           let f = sym (twins-step _ _ _ i u .end-alike) ∙ e in
-          let na : after stepMachine a is .client .n ≡ n = run-stays is a .sectors in
-          let nb : after stepMachine b is .client .n ≡ n = ap (λ (c : Client). c .n) (sym (u .client)) ∙ na in
+          let na : after stepMachine a is .client .fixed .n ≡ n = ap (λ (f : Fixed). f .n) (run-stays is a) in
+          let nb : after stepMachine b is .client .fixed .n ≡ n = ap (λ (c : Client). c .fixed .n) (sym (u .client)) ∙ na in
           record {
             other = f;
             first = ap (λ (m : ℕ). sectorsIn m (stepMachine (after stepMachine a is) i .board)) (sym na) ∙ step-closes _ _ i (u .first) e;

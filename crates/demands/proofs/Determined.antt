@@ -48,7 +48,7 @@ determined =
       next-line = λ reader. once _;
       kind-number = λ kind. once _;
       read-text = λ text bank n before x y u v p q. (p .image ∙ sym (q .image), p .answer ∙ sym (q .answer));
-      count = λ image n. once _;
+      count = λ image n x y p q. p .answered ∙ sym (q .answered);
       packet = λ image n number before x y u v p q. (p .answered ∙ sym (q .answered), p .stands ∙ sym (q .stands));
       request = λ request before x y u v p q. (p .answered ∙ sym (q .answered), p .stands ∙ sym (q .stands));
       read-response = λ datagram. once _;
@@ -65,30 +65,28 @@ determined =
       declined = λ request result. once _;
       refusal-number = λ why. once _;
       say = λ answer before x y u v p q. (p .said ∙ sym (q .said), p .told ∙ sym (q .told));
-      plan = λ standing bank0 bank1 marks address buffer datagram. once _;
-      new = λ n running major minor revision. once _;
-      initiate = λ c. once _;
-      terminate = λ c. once _;
-      step = λ c bank0 bank1 marks address buffer datagram r s zero zero′ one one′ answer answer′ p q.
-          record {
-            result = λ k. record {
-              client = (p .client ∙ sym (q .client)) k;
-              answer = (p .answered ∙ sym (q .answered)) k;
-              length = (p .told ∙ sym (q .told)) k;
-              notice = (p .notice ∙ sym (q .notice)) k;
-            };
-            zero-same = p .bank-zero ∙ sym (q .bank-zero);
-            one-same = p .bank-one ∙ sym (q .bank-one);
-            answer-same = p .said ∙ sym (q .said);
-          };
+      plan = λ standing target marks address buffer asked. once _;
+      told-number = λ told. once _;
+      new = λ n running major minor revision x y p q. p .is ∙ sym (q .is);
+      initiate = λ c x y p q. p .is ∙ sym (q .is);
+      terminate = λ c x y p q. p .is ∙ sym (q .is);
+      take = λ c target marks address buffer datagram x y u v s t p q. (
+        λ k. record {
+          client = (p .client ∙ sym (q .client)) k;
+          answer = (p .answer ∙ sym (q .answer)) k;
+          length = (p .told ∙ sym (q .told)) k;
+          notice = (p .notice ∙ sym (q .notice)) k;
+        },
+        (p .target-left ∙ sym (q .target-left), p .said ∙ sym (q .said)),
+      );
+      step = λ c bank0 bank1 marks address buffer datagram x y u v s t a b p q. (
+        λ k. record {
+          client = (p .client ∙ sym (q .client)) k;
+          answer = (p .answer ∙ sym (q .answer)) k;
+          length = (p .told ∙ sym (q .told)) k;
+          notice = (p .notice ∙ sym (q .notice)) k;
+        },
+        (p .bank-zero ∙ sym (q .bank-zero), (p .bank-one ∙ sym (q .bank-one), p .said ∙ sym (q .said))),
+      );
       next-body = λ c bank0 bank1 i. once _;
-      check-number = λ bank. once _;
-      hex-code = λ text n before x y u v p q. (p .image ∙ sym (q .image), p .code ∙ sym (q .code));
-      take = λ n slots bank0 bank1 marks address buffer r s zero zero′ one one′ answer answer′ p q.
-          record {
-            result = p .told ∙ sym (q .told);
-            zero-same = p .bank-zero ∙ sym (q .bank-zero);
-            one-same = p .bank-one ∙ sym (q .bank-one);
-            answer-same = p .answered ∙ sym (q .answered);
-          };
     }

@@ -14,7 +14,7 @@ use Rattle.crc.specs.Crc.{feed, crcBit, crcBits, crcByte, crcMore, crcOf}
 use Rattle.frame.specs.Read.{readOf}
 use Rattle.frame.specs.declared.read.Read.the-variants.{Write}
 use Rattle.frame.specs.declared.read.Footer.the-variants.{End, Continued}
-use Rattle.layout.specs.declared.Bank.the-variants.{One}
+use Rattle.layout.specs.declared.Bank.the-variants.{Zero, One}
 use Rattle.layout.specs.Layout.{goodN, wholeLength, sectorOf}
 use Rattle.bank.specs.Sound.{headerGood, tableGood, laidOutGood, bodyGood, allGood, bodiesGood, blankGood, listedGood, soundOf, verdictOf}
 use Rattle.bank.specs.Stretch.{fitsAt, laidOut, blankOutside}
@@ -23,6 +23,8 @@ use Rattle.sender.specs.declared.request.Request.the-variants.{WriteStart, Writ
 use Rattle.sender.specs.Packet.{sentOf, packetCount, packetSector, footerOf, packetFrame}
 use Rattle.sender.specs.Request.{requestFrame}
 use Rattle.sender.proofs.Image.{packet-read}
+use Rattle.decision.specs.declared.plan.Fixed.{Fixed}
+use Rattle.client.specs.Host.{fixedOf}
 use Rattle.client.specs.Perform.{fitOf}
 use Rattle.exchange.specs.Answer.{answerBytes}
 use Rattle.demands.specs.Board.{Call, Input, Datagram, Outcome, said, Machine}
@@ -44,9 +46,9 @@ longer-size : length longer ≡ 1024
 unfolding longer
 longer-size = refl
 
-longer-sound : fitOf longer ≡ true
+longer-sound : (fixed : Fixed) → fitOf fixed longer ≡ true
 unfolding longer verdictOf wholeLength goodN soundOf headerGood tableGood listedGood laidOutGood bodiesGood blankGood bodyGood allGood laidOut fitsAt blankOutside entryAt entriesFrom restOf stretchesOf blankOf numberAt numberOf crcOf crcMore crcByte crcBits crcBit feed
-longer-sound = refl
+longer-sound fixed = refl
 
 longer-packets : packetCount longer 2 ≡ 2
 unfolding longer sentOf sectorOf blankOf
@@ -88,8 +90,8 @@ taken-stored img n p o t = ap isStored (t .answer) ∙ written-stored (packetSec
 first-taken : (img : List ℕ) (n p : ℕ) (ps : List ℕ) (o : Outcome) (os : List Outcome) → AllTaken img n (p ∷ ps) (o ∷ os) → Taken img n p o
 first-taken img n p ps o os (more-taken t rest) = t
 
-longer-fit : Fit longer 2
-longer-fit = record { size = longer-size; sound = longer-sound }
+longer-fit : Fit longer (fixedOf 2 Zero 1 0 0)
+longer-fit = record { size = longer-size; sound = longer-sound (fixedOf 2 Zero 1 0 0) }
 
 -- what follows the first packet
 rest : List ℕ → List Input

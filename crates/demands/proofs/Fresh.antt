@@ -2,53 +2,59 @@
 -- Assumes nothing.
 use mathlib.Core.Path.{_≡_, refl, sym, ap, subst, _∙_}
 use mathlib.Core.List.{List, [], _∷_}
-use Prim.Native.Nat.{ℕ, _*_}
-use Rattle.frame.specs.Checksum.{checksumOf}
+use Prim.Native.Nat.{ℕ}
+use Rattle.frame.specs.Checksum.{takenAway, checksumOf}
 use Rattle.frame.specs.Frame.{framed, controlFrame}
 use Rattle.frame.specs.Read.{readOf}
 use Rattle.layout.specs.declared.Bank.{Bank}
-use Rattle.layout.specs.Layout.{sectorSize, goodN}
+use Rattle.layout.specs.Layout.{goodN}
+use Rattle.layout.specs.Pair.{Banks}
+use Rattle.decision.specs.declared.plan.Fixed.{Fixed}
 use Rattle.sender.specs.declared.request.Request.the-variants.{ModeStart, ModeEnd}
 use Rattle.sender.specs.Request.{requestFrame}
 use Rattle.client.specs.declared.notice.Kind.the-variants.{Started, Ended}
 use Rattle.client.specs.declared.record.Latest.{Latest}
 use Rattle.exchange.specs.State.{isClosed}
-use Rattle.client.specs.Host.{newOf}
+use Rattle.client.specs.declared.record.Client.{Client}
+use Rattle.client.specs.Host.{fixedOf, newOf}
 use Rattle.client.specs.Notice.{noticeWith, noticeBytes, latestNumber}
-use Rattle.client.specs.Record.{newClient, initiated, opened, modeEnded}
+use Rattle.client.specs.Record.{closedClient, initiated, opened, modeEnded}
 use Rattle.demands.specs.Board.{Board, board, Call, Input, Initiate, Datagram, Outcome, said, stepMachine}
 use Rattle.demands.specs.Demand1.{hostDone, changed}
 use Rattle.demands.specs.Demand2.{Lends, Ready, Fit, Delivery}
 use Rattle.demands.specs.Fresh.{Fresh, inMode, afterAll, Told, MeetsFresh}
 use Rattle.demands.proofs.Asking.{request-read}
-use Rattle.demands.proofs.Demand2.{heard, said-back, control-short, Over, over, demand2}
+use Rattle.demands.proofs.Demand2.{Whole, heard, said-back, control-short, Over, over, demand2}
 use Rattle.demands.proofs.Rows.{initiate, mode-start, mode-end}
 
 pub started-bytes : controlFrame 0x71 (0x06 ∷ []) ≡ 0x01 ∷ 0x02 ∷ 0x71 ∷ 0x06 ∷ 0x87 ∷ 0x03 ∷ []
-unfolding controlFrame framed checksumOf
+unfolding controlFrame framed checksumOf takenAway
 started-bytes = refl
 
 ended-bytes : controlFrame 0x74 (0x06 ∷ []) ≡ 0x01 ∷ 0x02 ∷ 0x74 ∷ 0x06 ∷ 0x84 ∷ 0x03 ∷ []
-unfolding controlFrame framed checksumOf
+unfolding controlFrame framed checksumOf takenAway
 ended-bytes = refl
 
-module _ (n : ℕ) (running : Bank) (major minor revision : ℕ) (bank0 bank1 : List ℕ) (fresh : Fresh n bank0 bank1) where
+module _ (n : ℕ) (running : Bank) (major minor revision : ℕ) (pair : Banks) (fresh : Fresh n pair) where
+  abbrev new : Client
+  new = closedClient (fixedOf n running major minor revision) running
+
   abbrev made : Board
-  made = board (newOf n running major minor revision .client) bank0 bank1
+  made = board (newOf n running major minor revision .client) pair
 
   abbrev hosted : Board
-  hosted = board (initiated (newClient n running major minor revision)) bank0 bank1
+  hosted = board (initiated new) pair
 
-  initiated-is : stepMachine made Initiate ≡ hostDone hosted (initiated (newClient n running major minor revision))
+  initiated-is : stepMachine made Initiate ≡ hostDone hosted (initiated new)
   unfolding newOf
-  initiated-is = initiate (board (newClient n running major minor revision) bank0 bank1) (fresh .good) refl
+  initiated-is = initiate (board new pair) (fresh .good) refl
 
   module _ (mode : Call) (sent : mode .datagram ≡ requestFrame ModeStart) (l : Lends n mode) where
     abbrev opened-board : Board
-    opened-board = board (opened (initiated (newClient n running major minor revision))) bank0 bank1
+    opened-board = board (opened (initiated new)) pair
 
     mode-is : stepMachine hosted (Datagram mode) ≡ changed hosted mode (opened (hosted .client)) (noticeWith Started 0 (mode .address)) (controlFrame 0x71 (0x06 ∷ []))
-    mode-is = mode-start hosted mode (heard hosted mode (fresh .good) l (fresh .zero) (fresh .one) refl) refl (ap readOf sent ∙ request-read ModeStart)
+    mode-is = mode-start hosted mode (heard hosted mode (fresh .good) l (fresh .whole) refl) refl (ap readOf sent ∙ request-read ModeStart)
 
     made-step : stepMachine (stepMachine made Initiate .board) (Datagram mode) ≡ stepMachine hosted (Datagram mode)
     made-step = ap (λ (o : Outcome). stepMachine (o .board) (Datagram mode)) initiated-is
@@ -57,31 +63,31 @@ module _ (n : ℕ) (running : Bank) (major minor revision : ℕ) (bank0 bank1 : 
     in-mode = ap (λ (o : Outcome). o .board) (made-step ∙ mode-is)
 
     opened-ready : Ready (inMode stepMachine made mode)
-    opened-ready = subst Ready (sym in-mode) (record { good = fresh .good; control = refl; zero = fresh .zero; one = fresh .one })
+    opened-ready = subst Ready (sym in-mode) (record { good = fresh .good; control = refl; whole = fresh .whole })
 
-    sectors-in : inMode stepMachine made mode .client .n ≡ n
-    sectors-in = ap (λ (b : Board). b .client .n) in-mode
+    fixed-in : inMode stepMachine made mode .client .fixed ≡ fixedOf n running major minor revision
+    fixed-in = ap (λ (b : Board). b .client .fixed) in-mode
 
-    module _ (image : List ℕ) (fit : Fit image n) (start : Call) (ps : List ℕ) (is : List Input) (end ending : Call)
+    module _ (image : List ℕ) (fit : Fit image (fixedOf n running major minor revision)) (start : Call) (ps : List ℕ) (is : List Input) (end ending : Call)
         (d : Delivery (inMode stepMachine made mode) image start ps is end) (asks : ending .datagram ≡ requestFrame ModeEnd) (e : Lends n ending) where
-      own-fit : Fit image (inMode stepMachine made mode .client .n)
-      own-fit = subst (Fit image) (sym sectors-in) fit
+      own-fit : Fit image (inMode stepMachine made mode .client .fixed)
+      own-fit = subst (Fit image) (sym fixed-in) fit
 
       abbrev last : Board
       last = afterAll stepMachine made mode start is end
 
-      done : Over last (inMode stepMachine made mode .client .n)
+      done : Over last (inMode stepMachine made mode .client .fixed)
       done = over (inMode stepMachine made mode) image opened-ready own-fit start ps is end d
 
-      size-is : (x : ℕ) → x ≡ inMode stepMachine made mode .client .n * sectorSize → x ≡ last .client .n * sectorSize
-      size-is x p = p ∙ ap (λ (y : ℕ). y * sectorSize) (sym (done .sectors))
+      fixed-last : last .client .fixed ≡ fixedOf n running major minor revision
+      fixed-last = done .stays ∙ fixed-in
 
       end-is : stepMachine last (Datagram ending)
           ≡ changed last ending (modeEnded (last .client)) (noticeWith Ended (latestNumber (last .client .latest)) (ending .address)) (controlFrame 0x74 (0x06 ∷ []))
       end-is =
           mode-end last ending
-          (heard last ending (ap goodN (done .sectors ∙ sectors-in) ∙ fresh .good) (subst (λ (x : ℕ). Lends x ending) (sym (done .sectors ∙ sectors-in)) e)
-          (size-is _ (done .zero-size)) (size-is _ (done .one-size)) (ap isClosed (done .control)))
+          (heard last ending (ap (λ (f : Fixed). goodN (f .n)) fixed-last ∙ fresh .good) (subst (λ (f : Fixed). Lends (f .n) ending) (sym fixed-last) e)
+          (subst (λ (f : Fixed). Whole (f .n) (last .pair)) (sym (done .stays)) (done .whole)) (ap isClosed (done .control)))
           (done .control) (ap readOf asks ∙ request-read ModeEnd)
 
       pub told : Told stepMachine made image mode start ps is end ending
@@ -98,5 +104,5 @@ module _ (n : ℕ) (running : Bank) (major minor revision : ℕ) (bank0 bank1 : 
           }
 
 pub demand2-fresh : MeetsFresh stepMachine
-demand2-fresh n running major minor revision bank0 bank1 fresh image fit mode start ps is end ending sent l d asks e =
-    told n running major minor revision bank0 bank1 fresh mode sent l image fit start ps is end ending d asks e
+demand2-fresh n running major minor revision pair fresh image fit mode start ps is end ending sent l d asks e =
+    told n running major minor revision pair fresh mode sent l image fit start ps is end ending d asks e

@@ -3,7 +3,6 @@ pub mod Asking
 pub mod Banks
 pub mod Bytes
 pub mod Counting
-pub mod Courses
 pub mod Demand1
 pub mod Demand2
 pub mod Demand3
@@ -12,7 +11,6 @@ pub mod Examples
 pub mod FirstOnly
 pub mod Fresh
 pub mod Latest
-pub mod Leading
 pub mod Lending
 pub mod Packets
 pub mod Reading
@@ -22,7 +20,6 @@ pub mod Rows
 pub mod Sessions
 pub mod ShutOut
 pub mod Steps
-pub mod Storing
 pub mod Text
 pub mod Texts
 pub mod Unstored

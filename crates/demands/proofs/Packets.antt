@@ -11,16 +11,16 @@ use borrow.Author.Tests.{leb-true, eqb-true, lt-ltb, le-ltb, eq-eqb, le-leb}
 use Rattle.buffer.specs.Place.{frontOf}
 use Rattle.buffer.proofs.Bools.{and-left, and-right, and-both}
 use Rattle.buffer.proofs.Places.{front-take, front-drop}
-use Rattle.frame.specs.Read.{readOf, bytesIn}
+use Rattle.frame.specs.Read.{readOf, dataIn}
 use Rattle.frame.specs.declared.read.Read.{Read}
 use Rattle.frame.specs.declared.read.Read.the-variants.{Fault, Control, Write}
 use Rattle.frame.proofs.Writing.{length-write}
 use Rattle.layout.specs.Layout.{goodN, sectorOf}
 use Rattle.sender.specs.declared.made.Made.{Made}
 use Rattle.sender.specs.declared.made.Made.the-variants.{BadN, BadLength, PastLast, Frame}
-use Rattle.sender.specs.Made.{room, standing}
+use Rattle.sender.specs.Made.{room, bufferAfter}
 use Rattle.sender.specs.Packet.{packetCount, packetSector, footerOf, packetFrame, imageGood, packetMade}
-use Rattle.sender.proofs.Image.{packet-read, packet-bytes}
+use Rattle.sender.proofs.Image.{packet-read, packet-data}
 use Rattle.sender.proofs.Packets.{Sent, sent-in, sector-length}
 use Rattle.demands.specs.Packets.{Made·Out, Maker, Packet, MeetsPackets, packetMaker, InventsNumber}
 use Rattle.demands.proofs.Witness.{image, image-size, two-packets, two-good, sectors-are}
@@ -45,7 +45,7 @@ module _ (img : List ℕ) (n p : ℕ) (before : List ℕ) (g : goodN n ≡ true)
         ∙ ap (λ (x : ℕ). x + 7) (sector-length img n sized (packetSector img n p) (s .low) (s .high))
 
     buffer-is : packetMaker img n p before .buffer ≡ frontOf before (packetFrame img n p)
-    buffer-is = ap (λ (m : Made). standing m before (packetFrame img n p)) made-is
+    buffer-is = ap (λ (m : Made). bufferAfter m before (packetFrame img n p)) made-is
 
     front-is : take (length (packetFrame img n p)) (packetMaker img n p before .buffer) ≡ packetFrame img n p
     front-is =
@@ -59,7 +59,7 @@ module _ (img : List ℕ) (n p : ℕ) (before : List ℕ) (g : goodN n ≡ true)
           size = length (packetFrame img n p);
           made = made-is;
           reads = ap readOf front-is ∙ sym (packet-read img n p g sized h);
-          bytes = ap (λ (d : List ℕ). bytesIn d 512) front-is ∙ packet-bytes img n p g sized h;
+          bytes = ap dataIn front-is ∙ packet-data img n p;
           rest = ap (drop (length (packetFrame img n p))) buffer-is ∙ front-drop before (packetFrame img n p) (omega (arith, frame-long));
         }
 

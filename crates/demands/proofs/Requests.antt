@@ -11,20 +11,21 @@ use Rattle.buffer.specs.Number.{bytesOf}
 use Rattle.buffer.specs.Place.{frontOf}
 use Rattle.buffer.proofs.Numbers.{length-bytes}
 use Rattle.buffer.proofs.Places.{front-take, front-drop}
+use Rattle.commands.specs.Command.{requestCode}
 use Rattle.frame.proofs.Writing.{length-control}
 use Rattle.layout.specs.Layout.{startOf, endOf}
 use Rattle.sender.specs.declared.made.Made.{Made}
 use Rattle.sender.specs.declared.made.Made.the-variants.{Frame}
 use Rattle.sender.specs.declared.request.Request.{Request}
-use Rattle.sender.specs.declared.request.Request.the-variants.{ModeStart, BankInfo, Version, WriteStart, WriteEnd, ModeEnd}
-use Rattle.sender.specs.Made.{room, roomFor, standing}
-use Rattle.sender.specs.Request.{codeOf, asksFor, requestFrame, givenGood, requestMade}
+use Rattle.sender.specs.declared.request.Request.the-variants.{ModeStart, BankInfo, VersionInfo, WriteStart, WriteEnd, ModeEnd}
+use Rattle.sender.specs.Made.{room, roomFor, bufferAfter}
+use Rattle.sender.specs.Request.{commandOf, asksFor, requestFrame, givenGood, requestMade}
 use Rattle.demands.specs.Requests.{Asked, MeetsRequests, requestMaker}
 
 few : (request : Request) → length (asksFor request) ≤ 8
 few ModeStart = omega arith
 few BankInfo = omega arith
-few Version = omega arith
+few VersionInfo = omega arith
 few (WriteStart bank n) =
     omega
     (arith, length-append (bytesOf 4 (startOf bank)) (bytesOf 4 (endOf bank n)), length-bytes 4 (startOf bank), length-bytes 4 (endOf bank n))
@@ -32,7 +33,7 @@ few WriteEnd = omega arith
 few ModeEnd = omega arith
 
 short : (request : Request) → length (requestFrame request) ≤ room
-short request = omega (arith, length-control (codeOf request) (asksFor request), few request)
+short request = omega (arith, length-control (requestCode (commandOf request)) (asksFor request), few request)
 
 module _ (request : Request) (before : List ℕ) (g : givenGood request ≡ true) (h : room ≤ length before) where
   made-is : requestMade request (length before) ≡ Frame (length (requestFrame request))
@@ -40,7 +41,7 @@ module _ (request : Request) (before : List ℕ) (g : givenGood request ≡ true
   made-is = rw (g, le-leb room (length before) h)
 
   buffer-is : requestMaker request before .buffer ≡ frontOf before (requestFrame request)
-  buffer-is = ap (λ (m : Made). standing m before (requestFrame request)) made-is
+  buffer-is = ap (λ (m : Made). bufferAfter m before (requestFrame request)) made-is
 
   is-asked : Asked request before (requestMaker request before)
   is-asked =

@@ -29,8 +29,8 @@ accepted-size text bank n before a = by (goodN n) (eqb (length before) (sectorSi
 
 pub text-to-bank : MeetsText stepMachine
 text-to-bank b text before ready accepted fit start ps is end delivery =
-    let bank : Bank = otherOf (b .client .running) in
-    let n : ℕ = b .client .n in
+    let bank : Bank = otherOf (b .client .fixed .running) in
+    let n : ℕ = b .client .fixed .n in
     let size : length (textRead text bank n before .image) ≡ n * sectorSize =
     read-length text bank n before ∙ accepted-size text bank n before accepted ∙ turned n in
     let e = demand2 b (textRead text bank n before .image) ready (record { size = size; sound = fit }) start ps is end delivery .bank in

@@ -9,18 +9,21 @@ use lib.ListN.{length, replicate, length-replicate}
 use Rattle.buffer.specs.Compare.{blankOf}
 use Rattle.buffer.specs.Number.{numberAt, numberOf}
 use Rattle.crc.specs.Crc.{feed, crcBit, crcBits, crcByte, crcMore, crcOf}
+use Rattle.layout.specs.declared.Bank.{Bank}
 use Rattle.layout.specs.declared.Bank.the-variants.{Zero, One}
 use Rattle.layout.specs.Layout.{goodN, wholeLength, sectorOf}
+use Rattle.layout.specs.Pair.{banks, bankIn}
+use Rattle.decision.specs.declared.plan.Fixed.{Fixed}
 use Rattle.bank.specs.Sound.{headerGood, tableGood, laidOutGood, bodyGood, allGood, bodiesGood, blankGood, listedGood, soundOf, verdictOf}
 use Rattle.bank.specs.Stretch.{fitsAt, laidOut, blankOutside}
 use Rattle.bank.specs.Table.{entryAt, entriesFrom, restOf, stretchesOf}
 use Rattle.sender.specs.declared.request.Request.the-variants.{WriteStart, WriteEnd}
 use Rattle.sender.specs.Packet.{sentOf, packetCount, packetSector, packetFrame}
 use Rattle.sender.specs.Request.{requestFrame}
-use Rattle.client.specs.declared.record.Latest.the-variants.{Nothing}
 use Rattle.exchange.specs.declared.state.State.the-variants.{Control}
 use Rattle.client.specs.Perform.{fitOf}
-use Rattle.client.specs.Record.{noneReceived}
+use Rattle.client.specs.Host.{fixedOf}
+use Rattle.client.specs.Record.{closedClient, inState}
 use Rattle.demands.specs.Board.{Board, Call, Input, Datagram, stepMachine}
 use Rattle.demands.specs.Demand2.{Lends, none, more, Ready, Delivery, Delivered}
 use Rattle.demands.proofs.Demand2.{demand2}
@@ -35,9 +38,9 @@ pub image-size : length image ≡ 1024
 unfolding image
 image-size = refl
 
-pub image-fit : fitOf image ≡ true
+pub image-fit : (fixed : Fixed) → fitOf fixed image ≡ true
 unfolding image verdictOf wholeLength goodN soundOf headerGood tableGood listedGood laidOutGood bodiesGood blankGood bodyGood allGood laidOut fitsAt blankOutside entryAt entriesFrom restOf stretchesOf blankOf numberAt numberOf crcOf crcMore crcByte crcBits crcBit feed
-image-fit = refl
+image-fit fixed = refl
 
 pub two-packets : packetCount image 2 ≡ 2
 unfolding image sentOf sectorOf blankOf
@@ -55,23 +58,12 @@ sectors-are = (refl, refl)
 unfoldable pub witness-board : Board
 witness-board =
     record {
-      client = record {
-        n = 2;
-        running = Zero;
-        next = Zero;
-        state = Control;
-        latest = Nothing;
-        major = 1;
-        minor = 0;
-        revision = 0;
-        received = noneReceived;
-      };
-      bank0 = replicate 1024 0;
-      bank1 = replicate 1024 0;
+      client = inState Control (closedClient (fixedOf 2 Zero 1 0 0) Zero);
+      pair = banks (replicate 1024 0) (replicate 1024 0);
     }
 
 unfoldable pub calling : List ℕ → Call
-calling datagram = record { datagram = datagram; address = replicate 16 0; marks = replicate 2 0; buffer = replicate 14 0; lent0 = 1024; lent1 = 1024 }
+calling datagram = record { datagram = datagram; address = replicate 16 0; marks = replicate 2 0; buffer = replicate 14 0; lent = λ x. 1024 }
 
 pub lends : (datagram : List ℕ) → Lends 2 (calling datagram)
 unfolding calling
@@ -80,8 +72,7 @@ lends datagram =
       address = length-replicate {A = ℕ} 16 0;
       marks = refl;
       room = omega (arith, length-replicate {A = ℕ} 14 0);
-      zero = refl;
-      one = refl;
+      banks = λ x. refl;
     }
 
 unfoldable pub order : List ℕ
@@ -115,8 +106,12 @@ delivery img two =
 
 pub ready : Ready witness-board
 unfolding witness-board goodN
-ready = record { good = refl; control = refl; zero = length-replicate {A = ℕ} 1024 0; one = length-replicate {A = ℕ} 1024 0 }
+ready = record { good = refl; control = refl; whole = both }
+  where
+    both : (x : Bank) → length (bankIn x (banks (replicate 1024 0) (replicate 1024 0))) ≡ 1024
+    both Zero = length-replicate {A = ℕ} 1024 0
+    both One = length-replicate {A = ℕ} 1024 0
 
 pub witness : Delivered stepMachine witness-board image (calling (requestFrame (WriteStart One 2))) order (sending image) (calling (requestFrame WriteEnd))
 unfolding witness-board
-witness = demand2 witness-board image ready (record { size = image-size; sound = image-fit }) _ _ _ _ (delivery image two-packets)
+witness = demand2 witness-board image ready (record { size = image-size; sound = image-fit (fixedOf 2 Zero 1 0 0) }) _ _ _ _ (delivery image two-packets)

@@ -14,11 +14,12 @@ use Rattle.sender.specs.declared.request.Request.{Request}
 use Rattle.exchange.specs.declared.answer.Answer.{Answer}
 use Rattle.commands.specs.declared.Command.{Command}
 use Rattle.exchange.specs.declared.answer.Refusal.{Refusal}
+use Rattle.exchange.specs.declared.request.Asked.{Asked}
 use Rattle.exchange.specs.declared.request.Request.{Request as Received}
 use Rattle.exchange.specs.declared.state.State.{State}
 use Rattle.decision.specs.declared.plan.Standing.{Standing}
 use Rattle.client.specs.declared.record.Client.{Client}
-use Rattle.client.specs.declared.step.Stepped.{Stepped}
+use Rattle.client.specs.declared.host.Told.{Told}
 use Rattle.buffer.specs.Compare.{Same·Is, Blank·Is}
 use Rattle.buffer.specs.Fill.{Fill·Is}
 use Rattle.buffer.specs.Number.{Number·Is, PutNumber·Is}
@@ -45,25 +46,22 @@ use Rattle.exchange.specs.State.{IsClosed·Is}
 use Rattle.exchange.specs.Request.{Asked·Is, FitsState·Is, OwnResponse·Is, Declined·Is}
 use Rattle.decision.specs.Plan.{Plan·Is}
 use Rattle.client.specs.Body.{Body·Is as NextBody·Is}
-use Rattle.client.specs.Host.{New·Is, Initiate·Is, Terminate·Is}
-use Rattle.client.specs.Step.{Step·Is}
-use Rattle.bank_c.specs.Check.{CheckNumber·Is}
-use Rattle.hex_c.specs.Code.{Code·Is}
-use Rattle.client_c.specs.Take.{Take·Is}
+use Rattle.client.specs.Host.{Told·Is, New·Is, Initiate·Is, Terminate·Is}
+use Rattle.client.specs.Step.{Take·Is, Step·Is}
 
--- what a function gives is determined; so are two things that it gives, as a result and a lent list
+-- what a function gives is determined, whether it is one thing or several: a result, and each lent list
 abbrev pub Once : {A : Type 0} → (A → Type 0) → Type 0
 Once {A} R = (x y : A) → R x → R y → x ≡ y
 
 abbrev pub Twice : {A B : Type 0} → (A → B → Type 0) → Type 0
 Twice {A} {B} R = (x y : A) (u v : B) → R x u → R y v → (x ≡ y) × (u ≡ v)
 
--- what is told, both banks, the answer buffer
-pub record Same {A : Type 0} (r s : A) (zero zero′ one one′ answer answer′ : List ℕ) : Type 0 where
-  pub result : r ≡ s
-  pub zero-same : zero ≡ zero′
-  pub one-same : one ≡ one′
-  pub answer-same : answer ≡ answer′
+abbrev pub Thrice : {A B C : Type 0} → (A → B → C → Type 0) → Type 0
+Thrice {A} {B} {C} R = (x y : A) (u v : B) (s t : C) → R x u s → R y v t → (x ≡ y) × ((u ≡ v) × (s ≡ t))
+
+abbrev pub Fourfold : {A B C D : Type 0} → (A → B → C → D → Type 0) → Type 0
+Fourfold {A} {B} {C} {D} R =
+    (x y : A) (u v : B) (s t : C) (p q : D) → R x u s p → R y v t q → (x ≡ y) × ((u ≡ v) × ((s ≡ t) × (p ≡ q)))
 
 pub record Determined : Type 0 where
   -- lent bytes
@@ -132,15 +130,11 @@ pub record Determined : Type 0 where
   pub refusal-number : (why : Refusal) → Once (RefusalNumber·Is why)
   pub say : (answer : Answer) (before : List ℕ) → Twice (Say·Is answer before)
   -- the client
-  pub plan : (standing : Standing) (bank0 bank1 : ℕ) (marks : List ℕ) (address buffer : ℕ) (datagram : List ℕ) → Once (Plan·Is standing bank0 bank1 marks address buffer datagram)
+  pub plan : (standing : Standing) (target : ℕ) (marks address : List ℕ) (buffer : ℕ) (asked : Asked) → Once (Plan·Is standing target marks address buffer asked)
+  pub told-number : (told : Told) → Once (Told·Is told)
   pub new : (n : ℕ) (running : Bank) (major minor revision : ℕ) → Once (New·Is n running major minor revision)
   pub initiate : (c : Client) → Once (Initiate·Is c)
   pub terminate : (c : Client) → Once (Terminate·Is c)
-  pub step : (c : Client) (bank0 bank1 marks address buffer datagram : List ℕ) (r s : Stepped) (zero zero′ one one′ answer answer′ : List ℕ) → Step·Is c bank0 bank1 marks address buffer datagram r zero one answer → Step·Is c bank0 bank1 marks address buffer datagram s zero′ one′ answer′
-      → Same r s zero zero′ one one′ answer answer′
+  pub take : (c : Client) (target marks address buffer datagram : List ℕ) → Thrice (Take·Is c target marks address buffer datagram)
+  pub step : (c : Client) (bank0 bank1 marks address buffer datagram : List ℕ) → Fourfold (Step·Is c bank0 bank1 marks address buffer datagram)
   pub next-body : (c : Client) (bank0 bank1 : List ℕ) (i : ℕ) → Once (NextBody·Is c bank0 bank1 i)
-  -- what C calls
-  pub check-number : (bank : List ℕ) → Once (CheckNumber·Is bank)
-  pub hex-code : (text : List ℕ) (n : ℕ) (before : List ℕ) → Twice (Code·Is text n before)
-  pub take : (n : ℕ) (slots bank0 bank1 marks address buffer : List ℕ) (r s : ℕ) (zero zero′ one one′ answer answer′ : List ℕ) → Take·Is n slots bank0 bank1 marks address buffer r zero one answer → Take·Is n slots bank0 bank1 marks address buffer s zero′ one′ answer′
-      → Same r s zero zero′ one one′ answer answer′

@@ -7,12 +7,12 @@ use mathlib.Core.List.{List}
 use Prim.Native.Nat.{ℕ, _≤_, _<_}
 use lib.Dec.{leb}
 use lib.ListN.{length, take, drop}
-use Rattle.frame.specs.Read.{readOf, bytesIn}
+use Rattle.frame.specs.Read.{readOf, dataIn}
 use Rattle.frame.specs.declared.read.Read.the-variants.{Write}
 use Rattle.layout.specs.Layout.{sectorSize, goodN, sectorOf}
 use Rattle.sender.specs.declared.made.Made.{Made}
 use Rattle.sender.specs.declared.made.Made.the-variants.{BadN, BadLength, PastLast, Frame}
-use Rattle.sender.specs.Made.{room, standing}
+use Rattle.sender.specs.Made.{room, bufferAfter}
 use Rattle.sender.specs.Packet.{packetCount, packetSector, footerOf, packetFrame, imageGood, packetMade}
 
 -- what a maker gives back, and the buffer then
@@ -32,7 +32,7 @@ pub record Packet (image : List ℕ) (n p : ℕ) (before : List ℕ) (o : Made·
   pub size : ℕ
   pub made : o .answer ≡ Frame size
   pub reads : readOf (take size (o .buffer)) ≡ Write (packetSector image n p) sectorSize (footerOf (packetCount image n) p)
-  pub bytes : bytesIn (take size (o .buffer)) sectorSize ≡ sectorOf image (packetSector image n p)
+  pub bytes : dataIn (take size (o .buffer)) ≡ sectorOf image (packetSector image n p)
   pub rest : drop size (o .buffer) ≡ drop size before
 
 -- 3, 2, 5, and then the packet
@@ -47,7 +47,7 @@ pub record MeetsPackets (s : Maker) : Type 0 where
 
 -- the maker of the contracts
 abbrev pub packetMaker : Maker
-packetMaker image n p before = out (packetMade image n p (length before)) (standing (packetMade image n p (length before)) before (packetFrame image n p))
+packetMaker image n p before = out (packetMade image n p (length before)) (bufferAfter (packetMade image n p (length before)) before (packetFrame image n p))
 
 -- one that invents the packet number: it does not look at the one that is asked for
 abbrev pub InventsNumber : Maker → Type 0

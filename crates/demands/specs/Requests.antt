@@ -11,7 +11,7 @@ use Rattle.layout.specs.Layout.{goodN}
 use Rattle.sender.specs.declared.made.Made.the-variants.{BadN, BadLength, Frame}
 use Rattle.sender.specs.declared.request.Request.{Request}
 use Rattle.sender.specs.declared.request.Request.the-variants.{WriteStart}
-use Rattle.sender.specs.Made.{room, standing}
+use Rattle.sender.specs.Made.{room, bufferAfter}
 use Rattle.sender.specs.Request.{requestFrame, givenGood, requestMade}
 use Rattle.demands.specs.Packets.{Made·Out, out}
 
@@ -33,4 +33,4 @@ pub record MeetsRequests (s : Asker) : Type 0 where
 
 -- the maker of the contracts
 abbrev pub requestMaker : Asker
-requestMaker request before = out (requestMade request (length before)) (standing (requestMade request (length before)) before (requestFrame request))
+requestMaker request before = out (requestMade request (length before)) (bufferAfter (requestMade request (length before)) before (requestFrame request))
