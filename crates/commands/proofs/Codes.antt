@@ -2,11 +2,12 @@
 -- none.
 -- Assumes nothing.
 use mathlib.Core.Path.{_≡_, refl, sym, ap, subst, _∙_}
+use mathlib.Core.Bool.{false}
 use Prim.Native.Nat.{ℕ}
 use lib.Dec.{eqb}
 use borrow.Author.Tests.{eqb-true, ne-eqb}
 use Rattle.buffer.proofs.Bools.{split}
-use Rattle.commands.specs.Command.{requestCode, responseCode, codedBy, requestedBy, answeredBy}
+use Rattle.commands.specs.Command.{requestCode, responseCode, errorCode, codedBy, requestedBy, answeredBy}
 use Rattle.commands.specs.declared.Coded.{Coded}
 use Rattle.commands.specs.declared.Coded.the-variants.{Unknown, Is}
 use Rattle.commands.specs.declared.Command.{Command}
@@ -32,24 +33,37 @@ response-known WriteStart = refl
 response-known WriteEnd = refl
 response-known ModeEnd = refl
 
+-- the error response answers no command
+pub error-unknown : answeredBy errorCode ≡ Unknown
+unfolding codedBy
+error-unknown = refl
+
+pub own-code : (command : Command) → eqb (responseCode command) errorCode ≡ false
+own-code ModeStart = refl
+own-code BankInfo = refl
+own-code VersionInfo = refl
+own-code WriteStart = refl
+own-code WriteEnd = refl
+own-code ModeEnd = refl
+
 -- ---- what stands for a command
 
-module _ (codeOf : Command → ℕ) (code : ℕ) where
+module _ (column : Command → ℕ) (code : ℕ) where
   abbrev Coding : Coded → Type 0
   Coding Unknown = Unit {0}
-  Coding (Is command) = code ≡ codeOf command
+  Coding (Is command) = code ≡ column command
 
-  coding : Coding (codedBy codeOf code)
+  coding : Coding (codedBy column code)
   unfolding codedBy
   coding =
-      split Coding (eqb code (codeOf ModeStart)) (eqb-true code (codeOf ModeStart))
-      (λ _. split Coding (eqb code (codeOf BankInfo)) (eqb-true code (codeOf BankInfo))
-      (λ _. split Coding (eqb code (codeOf VersionInfo)) (eqb-true code (codeOf VersionInfo))
-      (λ _. split Coding (eqb code (codeOf WriteStart)) (eqb-true code (codeOf WriteStart))
-      (λ _. split Coding (eqb code (codeOf WriteEnd)) (eqb-true code (codeOf WriteEnd))
-      (λ _. split Coding (eqb code (codeOf ModeEnd)) (eqb-true code (codeOf ModeEnd)) (λ _. tt))))))
+      split Coding (eqb code (column ModeStart)) (eqb-true code (column ModeStart))
+      (λ _. split Coding (eqb code (column BankInfo)) (eqb-true code (column BankInfo))
+      (λ _. split Coding (eqb code (column VersionInfo)) (eqb-true code (column VersionInfo))
+      (λ _. split Coding (eqb code (column WriteStart)) (eqb-true code (column WriteStart))
+      (λ _. split Coding (eqb code (column WriteEnd)) (eqb-true code (column WriteEnd))
+      (λ _. split Coding (eqb code (column ModeEnd)) (eqb-true code (column ModeEnd)) (λ _. tt))))))
 
-  coded-back : (command : Command) → Is command ≡ codedBy codeOf code → code ≡ codeOf command
+  coded-back : (command : Command) → Is command ≡ codedBy column code → code ≡ column command
   coded-back command e = subst Coding (sym e) coding
 
 pub request-back : (code : ℕ) (command : Command) → Is command ≡ requestedBy code → code ≡ requestCode command
@@ -67,11 +81,11 @@ pub answered-is : (command : Command) {code : ℕ} → code ≡ responseCode com
 answered-is command e = sym (ap answeredBy e ∙ response-known command)
 
 -- a code that is none of six
-module _ (codeOf : Command → ℕ) {code a b c d e f : ℕ} where
+module _ (column : Command → ℕ) {code a b c d e f : ℕ} where
   pub coded-none :
-      a ≡ codeOf ModeStart → (code ≡ a → ⊥) → b ≡ codeOf BankInfo → (code ≡ b → ⊥) → c ≡ codeOf VersionInfo → (code ≡ c → ⊥)
-      → d ≡ codeOf WriteStart → (code ≡ d → ⊥) → e ≡ codeOf WriteEnd → (code ≡ e → ⊥) → f ≡ codeOf ModeEnd → (code ≡ f → ⊥)
-      → Unknown ≡ codedBy codeOf code
+      a ≡ column ModeStart → (code ≡ a → ⊥) → b ≡ column BankInfo → (code ≡ b → ⊥) → c ≡ column VersionInfo → (code ≡ c → ⊥)
+      → d ≡ column WriteStart → (code ≡ d → ⊥) → e ≡ column WriteEnd → (code ≡ e → ⊥) → f ≡ column ModeEnd → (code ≡ f → ⊥)
+      → Unknown ≡ codedBy column code
   unfolding codedBy
   coded-none ea na eb nb ec nc ed nd ee ne ef nf =
       rw (← ea, ne-eqb code a na, ← eb, ne-eqb code b nb, ← ec, ne-eqb code c nc)

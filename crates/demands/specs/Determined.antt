@@ -38,8 +38,8 @@ use Rattle.lines.specs.Places.{Ahead·Is, Reader·Is, Next·Is}
 use Rattle.hex.specs.Read.{KindNumber·Is}
 use Rattle.hex.specs.Read.{Read·Is as ReadText·Is}
 use Rattle.sender.specs.Packet.{Count·Is, Packet·Is}
-use Rattle.sender.specs.Request.{Request·Is}
-use Rattle.response.specs.Response.{Response·Is}
+use Rattle.sender.specs.Request.{CommandOf·Is, Request·Is}
+use Rattle.response.specs.Said.{Response·Is}
 use Rattle.commands.specs.Command.{RequestCode·Is, ResponseCode·Is, ParameterBytes·Is, AddedBytes·Is, Requested·Is, Answered·Is}
 use Rattle.exchange.specs.Answer.{RefusalNumber·Is, Say·Is}
 use Rattle.exchange.specs.State.{IsClosed·Is}
@@ -112,6 +112,7 @@ pub record Determined : Type 0 where
   -- the sender
   pub count : (image : List ℕ) (n : ℕ) → Once (Count·Is image n)
   pub packet : (image : List ℕ) (n p : ℕ) (before : List ℕ) → Twice (Packet·Is image n p before)
+  pub command-of : (request : Request) → Once (CommandOf·Is request)
   pub request : (request : Request) (before : List ℕ) → Twice (Request·Is request before)
   pub read-response : (datagram : List ℕ) → Once (Response·Is datagram)
   -- the table of the commands

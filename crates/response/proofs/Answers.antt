@@ -8,66 +8,98 @@ use native.Mathlib.Omega.{arith}
 use lib.Dec.{eqb}
 use lib.ListN.{length, take, length-append}
 use lib.Seq.{take-all, drop-at}
-use borrow.Author.Tests.{eqb-true}
+use borrow.Author.Tests.{eqb-true, eqb-false}
 use Rattle.buffer.specs.Number.{numberOf, bytesOf, numberAt}
 use Rattle.buffer.proofs.Numbers.{number-inside, number-two, number-bytes, length-bytes, bytes-two}
+use Rattle.commands.specs.Command.{responseCode, errorCode, addedBytes}
+use Rattle.commands.specs.declared.Command.{Command}
+use Rattle.commands.specs.declared.Command.the-variants.{ModeStart, BankInfo, VersionInfo, WriteStart, WriteEnd, ModeEnd}
+use Rattle.commands.proofs.Codes.{own-code, response-known}
 use Rattle.frame.specs.Frame.{controlFrame, writeFrame}
 use Rattle.frame.specs.declared.read.Footer.the-variants.{End}
-use Rattle.frame.proofs.RoundTrip.{control-back, control-parameters, write-back, write-bytes}
+use Rattle.frame.proofs.RoundTrip.{control-back, control-parameters, write-back, write-data}
 use Rattle.layout.specs.Layout.{bankNumber}
 use Rattle.layout.specs.declared.Bank.{Bank}
 use Rattle.layout.specs.declared.Bank.the-variants.{Zero, One}
-use Rattle.response.specs.declared.read.Kind.{Kind}
-use Rattle.response.specs.declared.read.Kind.the-variants.{ModeStart, BankInfo, Version, WriteStart, Packet, WriteEnd, ModeEnd, Error}
-use Rattle.response.specs.declared.read.Coded.the-variants.{Answers}
-use Rattle.response.specs.declared.read.Response.the-variants.{Plain, Target, Firmware, Written}
-use Rattle.response.specs.Response.{kindOf, mayCarry, addsOf, addedOf, acceptedOf, targetOf, controlOf, repeatsOf, crcFits, writeOf, responseOf}
-use Rattle.response.proofs.Responses.{adds-some, is-plain, is-accepted, is-written, from-control, from-write}
+use Rattle.response.specs.declared.read.Response.the-variants.{Plain, Error, Target, Firmware, Written}
+use Rattle.response.specs.Response.{
+  mayCarry,
+  addedOf,
+  acceptedOf,
+  targetOf,
+  ownOf,
+  controlOf,
+  repeatsOf,
+  crcFits,
+  writeOf,
+  responseOf,
+}
+use Rattle.response.proofs.Responses.{
+  adds-some,
+  is-plain,
+  is-accepted,
+  is-error,
+  by-error,
+  by-command,
+  is-written,
+  control-in,
+  write-in,
+}
 
 -- a control frame, by its code and parameters
 control-read : (code : ℕ) (parameters : List ℕ) → controlOf code parameters ≡ responseOf (controlFrame code parameters)
 control-read code parameters =
     ap (controlOf code) (sym (control-parameters code parameters))
-    ∙ from-control (controlFrame code parameters) code (length parameters) (control-back code parameters)
+    ∙ control-in (controlFrame code parameters) code (length parameters) (control-back code parameters)
 
--- a write frame with footer 03, by its sector and bytes
+-- a command's own response
+own-read : (command : Command) (parameters : List ℕ) → ownOf command parameters ≡ responseOf (controlFrame (responseCode command) parameters)
+own-read command parameters =
+    by-command (responseCode command) parameters command (eqb-false (responseCode command) errorCode (own-code command))
+    (sym (response-known command))
+    ∙ control-read (responseCode command) parameters
+
+-- a write frame with footer 03, by its sector and data
 write-read : (sector : ℕ) (bytes : List ℕ) → sector < 65536 → length bytes < 65536 → writeOf sector bytes ≡ responseOf (writeFrame sector bytes End)
 write-read sector bytes s l =
-    ap (writeOf sector) (sym (write-bytes sector bytes End))
-    ∙ from-write (writeFrame sector bytes End) sector (length bytes) (write-back sector bytes End s l)
+    ap (writeOf sector) (sym (write-data sector bytes End))
+    ∙ write-in (writeFrame sector bytes End) sector (length bytes) (write-back sector bytes End s l)
 
--- a kind that adds nothing gives its result alone
-alone : (kind : Kind) (parameters : List ℕ) → addsOf kind ≡ 0 → Plain kind 0x06 ≡ acceptedOf kind parameters
+-- a command that adds nothing gives its result alone
+alone : (command : Command) (parameters : List ℕ) → addedBytes command ≡ 0 → Plain command 0x06 ≡ acceptedOf command parameters
 alone ModeStart parameters z = refl
 alone BankInfo parameters z = absurd (omega arith)
-alone Version parameters z = absurd (omega arith)
+alone VersionInfo parameters z = absurd (omega arith)
 alone WriteStart parameters z = refl
-alone Packet parameters z = refl
 alone WriteEnd parameters z = refl
 alone ModeEnd parameters z = refl
-alone Error parameters z = refl
 
--- a code and a result that add nothing
-pub plain-back : (code : ℕ) (kind : Kind) (result : ℕ) → kindOf code ≡ Answers kind → mayCarry kind result ≡ true → addedOf kind result ≡ 0
-    → Plain kind result ≡ responseOf (controlFrame code (result ∷ []))
-plain-back code kind result k m z = by (eqb result 0x06) refl ∙ control-read code (result ∷ [])
+-- a command and a result that add nothing
+pub plain-back : (command : Command) (result : ℕ) → mayCarry false result ≡ true → addedOf command result ≡ 0
+    → Plain command result ≡ responseOf (controlFrame (responseCode command) (result ∷ []))
+plain-back command result m z = by (eqb result 0x06) refl ∙ own-read command (result ∷ [])
   where
-    by : (t : Bool) → eqb result 0x06 ≡ t → Plain kind result ≡ controlOf code (result ∷ [])
+    by : (t : Bool) → eqb result 0x06 ≡ t → Plain command result ≡ ownOf command (result ∷ [])
     by true t =
-        ap (Plain kind) (eqb-true result 0x06 t)
-        ∙ alone kind (result ∷ []) (adds-some kind result t ∙ z)
-        ∙ is-accepted code (result ∷ []) kind k result refl m (ap (λ (x : ℕ). x + 1) (sym z)) t
-    by false f = is-plain code (result ∷ []) kind k result refl m (ap (λ (x : ℕ). x + 1) (sym z)) f
+        ap (Plain command) (eqb-true result 0x06 t)
+        ∙ alone command (result ∷ []) (adds-some command result t ∙ z)
+        ∙ is-accepted command (result ∷ []) result refl m (ap (λ (x : ℕ). x + 1) (sym z)) t
+    by false f = is-plain command (result ∷ []) result refl m (ap (λ (x : ℕ). x + 1) (sym z)) f
+
+-- the error response
+pub error-back : (result : ℕ) → mayCarry true result ≡ true → Error result ≡ responseOf (controlFrame errorCode (result ∷ []))
+error-back result m =
+    is-error (result ∷ []) refl m ∙ by-error errorCode (result ∷ []) refl ∙ control-read errorCode (result ∷ [])
 
 -- bank information with 06
-pub bank-back : (bank : Bank) → Target bank ≡ responseOf (controlFrame 0x72 (0x06 ∷ bankNumber bank ∷ []))
-unfolding kindOf mayCarry targetOf
+pub bank-back : (bank : Bank) → Target bank ≡ responseOf (controlFrame (responseCode BankInfo) (0x06 ∷ bankNumber bank ∷ []))
+unfolding mayCarry targetOf
 bank-back Zero =
-    is-accepted 0x72 (0x06 ∷ 0 ∷ []) BankInfo refl 0x06 refl refl (ap (λ (x : ℕ). x + 1) (adds-some BankInfo 0x06 refl)) refl
-    ∙ control-read 0x72 (0x06 ∷ 0 ∷ [])
+    is-accepted BankInfo (0x06 ∷ 0 ∷ []) 0x06 refl refl (ap (λ (x : ℕ). x + 1) (adds-some BankInfo 0x06 refl)) refl
+    ∙ own-read BankInfo (0x06 ∷ 0 ∷ [])
 bank-back One =
-    is-accepted 0x72 (0x06 ∷ 1 ∷ []) BankInfo refl 0x06 refl refl (ap (λ (x : ℕ). x + 1) (adds-some BankInfo 0x06 refl)) refl
-    ∙ control-read 0x72 (0x06 ∷ 1 ∷ [])
+    is-accepted BankInfo (0x06 ∷ 1 ∷ []) 0x06 refl refl (ap (λ (x : ℕ). x + 1) (adds-some BankInfo 0x06 refl)) refl
+    ∙ own-read BankInfo (0x06 ∷ 1 ∷ [])
 
 -- a number in the last w bytes
 number-last : (w n : ℕ) (a : List ℕ) (at : ℕ) → n < 256 ^ w → length a ≡ at → numberAt w (a ++ bytesOf w n) at ≡ n
@@ -80,25 +112,28 @@ number-last w n a at h e =
 
 -- version with 06, the ID written out
 spelt : (x y major minor revision : ℕ) → revision < 4294967296
-    → Firmware (x * 256 + y) major minor revision ≡ responseOf (controlFrame 0x78 (0x06 ∷ x ∷ y ∷ major ∷ minor ∷ bytesOf 4 revision))
-unfolding kindOf mayCarry
+    → Firmware (x * 256 + y) major minor revision
+    ≡ responseOf (controlFrame (responseCode VersionInfo) (0x06 ∷ x ∷ y ∷ major ∷ minor ∷ bytesOf 4 revision))
+unfolding mayCarry
 spelt x y major minor revision r =
     let ps : List ℕ = 0x06 ∷ x ∷ y ∷ major ∷ minor ∷ bytesOf 4 revision in
     let l : length ps ≡ 9 = omega (arith, length-bytes 4 revision) in
     ap₂ (λ (i n : ℕ). Firmware i major minor n) (sym (number-two ps 1 (omega arith)))
     (sym (number-last 4 revision (0x06 ∷ x ∷ y ∷ major ∷ minor ∷ []) 5 r refl))
-    ∙ is-accepted 0x78 ps Version refl 0x06 refl refl (l ∙ ap (λ (n : ℕ). n + 1) (adds-some Version 0x06 refl)) refl
-    ∙ control-read 0x78 ps
+    ∙ is-accepted VersionInfo ps 0x06 refl refl (l ∙ ap (λ (n : ℕ). n + 1) (adds-some VersionInfo 0x06 refl)) refl
+    ∙ own-read VersionInfo ps
 
 pub version-back : (id major minor revision : ℕ) → id < 65536 → revision < 4294967296
-    → Firmware id major minor revision ≡ responseOf (controlFrame 0x78 (0x06 ∷ bytesOf 2 id ++ major ∷ minor ∷ bytesOf 4 revision))
+    → Firmware id major minor revision
+    ≡ responseOf (controlFrame (responseCode VersionInfo) (0x06 ∷ bytesOf 2 id ++ major ∷ minor ∷ bytesOf 4 revision))
 version-back id major minor revision h r =
     let e : id ≡ id / 256 % 256 * 256 + id % 256 = omega arith in
-    rw (bytes-two id) (ap (λ (i : ℕ). Firmware i major minor revision) e ∙ spelt (id / 256 % 256) (id % 256) major minor revision r)
+    rw (bytes-two id)
+    (ap (λ (i : ℕ). Firmware i major minor revision) e ∙ spelt (id / 256 % 256) (id % 256) major minor revision r)
 
 -- a write response that keeps the field rules
 pub written-back : (sector response write crc : ℕ) → sector < 65536 → crc < 4294967296
-    → mayCarry Packet response ≡ true → mayCarry Packet write ≡ true → repeatsOf response write ≡ true → crcFits response write crc ≡ true
+    → mayCarry false response ≡ true → mayCarry false write ≡ true → repeatsOf response write ≡ true → crcFits response write crc ≡ true
     → Written sector response write crc ≡ responseOf (writeFrame sector (response ∷ write ∷ bytesOf 4 crc) End)
 written-back sector response write crc h r m w p q =
     let bytes : List ℕ = response ∷ write ∷ bytesOf 4 crc in

@@ -1,4 +1,4 @@
--- Number 6 is given exactly when one of the listed causes holds.
+-- Number 6 is said exactly when one of the listed causes holds, and else the result that stands first.
 -- Assumes nothing.
 use mathlib.Core.Path.{_≡_, refl, sym, ap, _∙_}
 use mathlib.Core.Bool.{Bool, true, false, not, _&&_, _||_, cond, or-false}
@@ -9,66 +9,132 @@ use lib.Dec.{eqb, ltb}
 use lib.ListN.{length}
 use borrow.Author.Tests.{eqb-true, eqb-false, lt-ltb, le-ltb}
 use Rattle.buffer.specs.Number.{byteAt, numberAt}
-use Rattle.buffer.proofs.Bools.{and-false}
-use Rattle.frame.specs.Read.{readOf, bytesIn, parametersOf}
+use Rattle.buffer.proofs.Bools.{and-false, split}
+use Rattle.commands.specs.Command.{responseCode, errorCode, answeredBy}
+use Rattle.commands.specs.declared.Coded.{Coded}
+use Rattle.commands.specs.declared.Coded.the-variants.{Unknown, Is}
+use Rattle.commands.specs.declared.Command.{Command}
+use Rattle.commands.specs.declared.Command.the-variants.{ModeStart, BankInfo, VersionInfo, WriteStart, WriteEnd, ModeEnd}
+use Rattle.commands.proofs.Codes.{error-unknown, response-back}
+use Rattle.frame.specs.Read.{readOf, parametersIn, dataIn}
 use Rattle.frame.specs.declared.read.Footer.the-variants.{End, Continued}
 use Rattle.frame.specs.declared.read.Read.{Read}
 use Rattle.frame.specs.declared.read.Read.the-variants.{Fault, Control, Write}
+use Rattle.layout.specs.Said.{number, result}
 use Rattle.layout.specs.declared.Bank.the-variants.{Zero, One}
-use Rattle.response.specs.declared.read.Kind.{Kind}
-use Rattle.response.specs.declared.read.Kind.the-variants.{ModeStart, BankInfo, Version, WriteStart, Packet, WriteEnd, ModeEnd, Error}
-use Rattle.response.specs.declared.read.Coded.{Coded}
-use Rattle.response.specs.declared.read.Coded.the-variants.{Unknown, Answers}
 use Rattle.response.specs.declared.read.Response.{Response}
-use Rattle.response.specs.declared.read.Response.the-variants.{Unreadable, Plain, Target, Firmware, Written}
-use Rattle.response.specs.Response.{kindOf, mayCarry, addedOf, targetOf, acceptedOf, answerOf, repeatsOf, crcFits, writeOf, responseIn, responseOf, responseNumber}
-use Rattle.response.specs.Six.{unknown, kindResult, kindLength, kindBank, sixIn, sixOf, unreadable}
+use Rattle.response.specs.declared.read.Response.the-variants.{Unreadable, Plain, Error, Target, Firmware, Written}
+use Rattle.response.specs.Response.{
+  mayCarry,
+  addedOf,
+  targetOf,
+  acceptedOf,
+  ownOf,
+  errorOf,
+  answerOf,
+  controlOf,
+  repeatsOf,
+  crcFits,
+  writeOf,
+  responseIn,
+  responseOf,
+}
+use Rattle.response.specs.Said.{responseSaid, resultIn, responseSays}
+use Rattle.response.specs.Six.{unknown, addedBy, sixIn, sixOf}
 
-target-six : (number : ℕ) → unreadable (targetOf number) ≡ ltb 1 number
+abbrev pub unreadable : Response → Bool
+unreadable Unreadable = true
+unreadable (Plain command r) = false
+unreadable (Error r) = false
+unreadable (Target bank) = false
+unreadable (Firmware id major minor revision) = false
+unreadable (Written sector response write crc) = false
+
+-- ---- when it is 6
+
+target-six : (k : ℕ) → unreadable (targetOf k) ≡ ltb 1 k
 unfolding targetOf
-target-six number = by (eqb number 0) (eqb number 1) refl refl
+target-six k = by (eqb k 0) (eqb k 1) refl refl
   where
-    by : (a b : Bool) → eqb number 0 ≡ a → eqb number 1 ≡ b → unreadable (cond a (Target Zero) (cond b (Target One) Unreadable)) ≡ ltb 1 number
-    by true b p q = sym (le-ltb 1 number (omega (arith, eqb-true number 0 p)))
-    by false true p q = sym (le-ltb 1 number (omega (arith, eqb-true number 1 q)))
-    by false false p q = sym (lt-ltb 1 number (above number (eqb-false number 0 p) (eqb-false number 1 q)))
+    by : (a b : Bool) → eqb k 0 ≡ a → eqb k 1 ≡ b → unreadable (cond a (Target Zero) (cond b (Target One) Unreadable)) ≡ ltb 1 k
+    by true b p q = sym (le-ltb 1 k (omega (arith, eqb-true k 0 p)))
+    by false true p q = sym (le-ltb 1 k (omega (arith, eqb-true k 1 q)))
+    by false false p q = sym (lt-ltb 1 k (above k (eqb-false k 0 p) (eqb-false k 1 q)))
       where
         above : (n : ℕ) → (n ≡ 0 → ⊥) → (n ≡ 1 → ⊥) → 1 < n
         above n f g = omega arith
 
--- the row of tests of a control response
-tests : (m l s bank : Bool) (accepted : Response) (kind : Kind) (result : ℕ) → unreadable accepted ≡ bank
-    → unreadable (cond m (cond l (cond s accepted (Plain kind result)) Unreadable) Unreadable) ≡ (not m || not l || (s && bank))
-tests false l s bank accepted kind result e = refl
-tests true false s bank accepted kind result e = refl
-tests true true true bank accepted kind result e = e
-tests true true false bank accepted kind result e = refl
+-- the row of tests of a command's own response
+tests : (m l s bank : Bool) (accepted : Response) (command : Command) (r : ℕ) → unreadable accepted ≡ bank
+    → unreadable (cond m (cond l (cond s accepted (Plain command r)) Unreadable) Unreadable) ≡ (not m || not l || (s && bank))
+tests false l s bank accepted command r e = refl
+tests true false s bank accepted command r e = refl
+tests true true true bank accepted command r e = e
+tests true true false bank accepted command r e = refl
 
--- of a kind whose result 06 leaves nothing unread
-plain-six : (kind : Kind) (parameters : List ℕ) → unreadable (acceptedOf kind parameters) ≡ false
-    → unreadable (answerOf (Answers kind) parameters) ≡ (kindResult (Answers kind) parameters || kindLength (Answers kind) parameters || false)
-unfolding answerOf
-plain-six kind parameters e =
-    let m : Bool = mayCarry kind (byteAt parameters 0) in
-    let l : Bool = eqb (length parameters) (addedOf kind (byteAt parameters 0) + 1) in
-    let s : Bool = eqb (byteAt parameters 0) 0x06 in
-    tests m l s false (acceptedOf kind parameters) kind (byteAt parameters 0) e
-    ∙ ap (λ (b : Bool). not m || not l || b) (and-false s)
+module _ (parameters : List ℕ) where
+  -- of a command whose result 06 leaves nothing unread
+  plain-six : (command : Command) → unreadable (acceptedOf command parameters) ≡ false
+      → unreadable (ownOf command parameters)
+      ≡ (not (mayCarry false (byteAt parameters 0)) || not (eqb (length parameters) (addedOf command (byteAt parameters 0) + 1)) || false)
+  unfolding ownOf
+  plain-six command e =
+      let m : Bool = mayCarry false (byteAt parameters 0) in
+      let l : Bool = eqb (length parameters) (addedOf command (byteAt parameters 0) + 1) in
+      let s : Bool = eqb (byteAt parameters 0) 0x06 in
+      tests m l s false (acceptedOf command parameters) command (byteAt parameters 0) e
+      ∙ ap (λ (b : Bool). not m || not l || b) (and-false s)
 
-coded-six : (c : Coded) (parameters : List ℕ)
-    → unreadable (answerOf c parameters) ≡ (unknown c || kindResult c parameters || kindLength c parameters || kindBank c parameters)
-unfolding answerOf
-coded-six Unknown parameters = refl
-coded-six (Answers ModeStart) parameters = plain-six ModeStart parameters refl
-coded-six (Answers BankInfo) parameters =
-    tests (mayCarry BankInfo (byteAt parameters 0)) (eqb (length parameters) (addedOf BankInfo (byteAt parameters 0) + 1)) (eqb (byteAt parameters 0) 0x06)
-    (ltb 1 (byteAt parameters 1)) (targetOf (byteAt parameters 1)) BankInfo (byteAt parameters 0) (target-six (byteAt parameters 1))
-coded-six (Answers Version) parameters = plain-six Version parameters refl
-coded-six (Answers WriteStart) parameters = plain-six WriteStart parameters refl
-coded-six (Answers Packet) parameters = plain-six Packet parameters refl
-coded-six (Answers WriteEnd) parameters = plain-six WriteEnd parameters refl
-coded-six (Answers ModeEnd) parameters = plain-six ModeEnd parameters refl
-coded-six (Answers Error) parameters = plain-six Error parameters refl
+  -- the bank's number counts in the response to bank information alone
+  own-six : (command : Command)
+      → unreadable (ownOf command parameters)
+      ≡ (not (mayCarry false (byteAt parameters 0)) || not (eqb (length parameters) (addedOf command (byteAt parameters 0) + 1))
+      || (eqb (responseCode command) (responseCode BankInfo) && (eqb (byteAt parameters 0) 0x06 && ltb 1 (byteAt parameters 1))))
+  unfolding ownOf
+  own-six ModeStart = plain-six ModeStart refl
+  own-six BankInfo =
+      tests (mayCarry false (byteAt parameters 0)) (eqb (length parameters) (addedOf BankInfo (byteAt parameters 0) + 1))
+      (eqb (byteAt parameters 0) 0x06) (ltb 1 (byteAt parameters 1)) (targetOf (byteAt parameters 1)) BankInfo (byteAt parameters 0)
+      (target-six (byteAt parameters 1))
+  own-six VersionInfo = plain-six VersionInfo refl
+  own-six WriteStart = plain-six WriteStart refl
+  own-six WriteEnd = plain-six WriteEnd refl
+  own-six ModeEnd = plain-six ModeEnd refl
+
+  error-six : unreadable (errorOf parameters) ≡ (not (mayCarry true (byteAt parameters 0)) || not (eqb (length parameters) 1))
+  unfolding errorOf
+  error-six = by (mayCarry true (byteAt parameters 0)) (eqb (length parameters) 1)
+    where
+      by : (m l : Bool) → unreadable (cond m (cond l (Error (byteAt parameters 0)) Unreadable) Unreadable) ≡ (not m || not l)
+      by false l = refl
+      by true false = refl
+      by true true = refl
+
+  control-six : (code : ℕ)
+      → unreadable (controlOf code parameters)
+      ≡ ((not (eqb code errorCode) && unknown (answeredBy code)) || not (mayCarry (eqb code errorCode) (byteAt parameters 0))
+      || not (eqb (length parameters) (addedBy (answeredBy code) (byteAt parameters 0) + 1))
+      || (eqb code (responseCode BankInfo) && (eqb (byteAt parameters 0) 0x06 && ltb 1 (byteAt parameters 1))))
+  unfolding controlOf
+  control-six code = by (eqb code errorCode) (answeredBy code) refl refl
+    where
+      by : (t : Bool) (coded : Coded) → eqb code errorCode ≡ t → answeredBy code ≡ coded
+          → unreadable (cond t (errorOf parameters) (answerOf coded parameters))
+          ≡ ((not t && unknown coded) || not (mayCarry t (byteAt parameters 0))
+          || not (eqb (length parameters) (addedBy coded (byteAt parameters 0) + 1))
+          || (eqb code (responseCode BankInfo) && (eqb (byteAt parameters 0) 0x06 && ltb 1 (byteAt parameters 1))))
+      by true coded t a =
+          let e : code ≡ errorCode = eqb-true code errorCode t in
+          let none : coded ≡ Unknown = sym a ∙ ap answeredBy e ∙ error-unknown in
+          let other : eqb code (responseCode BankInfo) ≡ false = ap (λ (x : ℕ). eqb x (responseCode BankInfo)) e in
+          rw (none, other) (error-six ∙ sym (or-false _))
+      by false Unknown t a = refl
+      by false (Is command) t a =
+          own-six command
+          ∙ ap
+          (λ (x : ℕ). not (mayCarry false (byteAt parameters 0)) || not (eqb (length parameters) (addedOf command (byteAt parameters 0) + 1))
+          || (eqb x (responseCode BankInfo) && (eqb (byteAt parameters 0) 0x06 && ltb 1 (byteAt parameters 1))))
+          (sym (response-back code command (sym a)))
 
 -- the row of tests of a write response
 rules : (six results repeated crc : Bool) (written : Response) → unreadable written ≡ false
@@ -89,24 +155,78 @@ continued false true repeated crc = refl
 six-in : (d : List ℕ) (read : Read) → unreadable (responseIn d read) ≡ sixIn d read
 unfolding responseIn sixIn writeOf
 six-in d Fault = refl
-six-in d (Control code n) = coded-six (kindOf code) (parametersOf d n) ∙ sym (or-false _)
+six-in d (Control code n) = control-six (parametersIn d) code ∙ sym (or-false _)
 six-in d (Write sector m End) =
-    let response : ℕ = byteAt (bytesIn d m) 0 in
-    let write : ℕ = byteAt (bytesIn d m) 1 in
-    let crc : ℕ = numberAt 4 (bytesIn d m) 2 in
-    rules (eqb (length (bytesIn d m)) 6) (mayCarry Packet response && mayCarry Packet write) (repeatsOf response write) (crcFits response write crc)
-    (Written sector response write crc) refl
+    let response : ℕ = byteAt (dataIn d) 0 in
+    let write : ℕ = byteAt (dataIn d) 1 in
+    let crc : ℕ = numberAt 4 (dataIn d) 2 in
+    rules (eqb (length (dataIn d)) 6) (mayCarry false response && mayCarry false write) (repeatsOf response write)
+    (crcFits response write crc) (Written sector response write crc) refl
 six-in d (Write sector m Continued) =
-    let response : ℕ = byteAt (bytesIn d m) 0 in
-    let write : ℕ = byteAt (bytesIn d m) 1 in
-    continued (eqb (length (bytesIn d m)) 6) (mayCarry Packet response && mayCarry Packet write) (repeatsOf response write) (crcFits response write (numberAt 4 (bytesIn d m) 2))
+    let response : ℕ = byteAt (dataIn d) 0 in
+    let write : ℕ = byteAt (dataIn d) 1 in
+    continued (eqb (length (dataIn d)) 6) (mayCarry false response && mayCarry false write) (repeatsOf response write)
+    (crcFits response write (numberAt 4 (dataIn d) 2))
 
-by-number : (r : Response) → responseNumber r ≡ cond (unreadable r) 6 0
-by-number Unreadable = refl
-by-number (Plain kind result) = refl
-by-number (Target bank) = refl
-by-number (Firmware id major minor revision) = refl
-by-number (Written sector response write crc) = refl
+pub six-exactly : (d : List ℕ) → unreadable (responseOf d) ≡ sixOf d
+six-exactly d = six-in d (readOf d)
 
-pub six-exactly : (d : List ℕ) → responseNumber (responseOf d) ≡ cond (sixOf d) 6 0
-six-exactly d = by-number (responseOf d) ∙ ap (λ (b : Bool). cond b 6 0) (six-in d (readOf d))
+-- ---- what is said
+
+-- number 6, or this result
+abbrev Says : ℕ → Response → Type 0
+Says r response = responseSaid response ≡ cond (unreadable response) (number 6) (result r)
+
+module _ (parameters : List ℕ) where
+  accepted-says : (command : Command) → byteAt parameters 0 ≡ 0x06 → Says (byteAt parameters 0) (acceptedOf command parameters)
+  unfolding targetOf
+  accepted-says ModeStart e = ap result (sym e)
+  accepted-says BankInfo e =
+      split (Says (byteAt parameters 0)) (eqb (byteAt parameters 1) 0) (λ _. ap result (sym e))
+      (λ _. split (Says (byteAt parameters 0)) (eqb (byteAt parameters 1) 1) (λ _. ap result (sym e)) (λ _. refl))
+  accepted-says VersionInfo e = ap result (sym e)
+  accepted-says WriteStart e = ap result (sym e)
+  accepted-says WriteEnd e = ap result (sym e)
+  accepted-says ModeEnd e = ap result (sym e)
+
+  answer-says : (coded : Coded) → Says (byteAt parameters 0) (answerOf coded parameters)
+  unfolding ownOf
+  answer-says Unknown = refl
+  answer-says (Is command) =
+      split (Says (byteAt parameters 0)) (mayCarry false (byteAt parameters 0))
+      (λ _. split (Says (byteAt parameters 0)) (eqb (length parameters) (addedOf command (byteAt parameters 0) + 1))
+      (λ _. split (Says (byteAt parameters 0)) (eqb (byteAt parameters 0) 0x06)
+      (λ t. accepted-says command (eqb-true (byteAt parameters 0) 0x06 t)) (λ _. refl))
+      (λ _. refl))
+      (λ _. refl)
+
+  error-says : Says (byteAt parameters 0) (errorOf parameters)
+  unfolding errorOf
+  error-says =
+      split (Says (byteAt parameters 0)) (mayCarry true (byteAt parameters 0))
+      (λ _. split (Says (byteAt parameters 0)) (eqb (length parameters) 1) (λ _. refl) (λ _. refl)) (λ _. refl)
+
+  control-says : (code : ℕ) → Says (byteAt parameters 0) (controlOf code parameters)
+  unfolding controlOf
+  control-says code = split (Says (byteAt parameters 0)) (eqb code errorCode) (λ _. error-says) (λ _. answer-says (answeredBy code))
+
+write-says : (sector : ℕ) (bytes : List ℕ) → Says (byteAt bytes 0) (writeOf sector bytes)
+unfolding writeOf
+write-says sector bytes =
+    let response : ℕ = byteAt bytes 0 in
+    let write : ℕ = byteAt bytes 1 in
+    split (Says response) (eqb (length bytes) 6)
+    (λ _. split (Says response) (mayCarry false response && mayCarry false write)
+    (λ _. split (Says response) (repeatsOf response write && crcFits response write (numberAt 4 bytes 2)) (λ _. refl) (λ _. refl))
+    (λ _. refl))
+    (λ _. refl)
+
+says-in : (d : List ℕ) (read : Read) → Says (resultIn d read) (responseIn d read)
+unfolding responseIn
+says-in d Fault = refl
+says-in d (Control code n) = control-says (parametersIn d) code
+says-in d (Write sector m End) = write-says sector (dataIn d)
+says-in d (Write sector m Continued) = refl
+
+pub response-says : (d : List ℕ) → responseSaid (responseOf d) ≡ responseSays d
+response-says d = says-in d (readOf d) ∙ ap (λ (b : Bool). cond b (number 6) (result (resultIn d (readOf d)))) (six-exactly d)

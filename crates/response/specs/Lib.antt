@@ -1,2 +1,3 @@
 pub mod Response
+pub mod Said
 pub mod Six

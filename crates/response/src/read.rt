@@ -1,37 +1,24 @@
 // What a datagram that comes back says.
+use commands::Coded;
+use commands::Command;
 use frame::read::Footer;
 use frame::read::Read;
 use layout::Bank;
 ghost use mathlib.Core.Path.{_≡_};
 ghost use Prim.Native.Nat.{_+_};
 ghost use lib.ListN.{length};
-ghost use Rattle.response.specs.Response.{kindOf, mayCarry, addedOf, targetOf, acceptedOf, controlOf, repeatsOf, storedOf, crcFits, writeOf, Response·Is};
-
-// What a response answers.
-pub enum Kind {
-    ModeStart,
-    BankInfo,
-    Version,
-    WriteStart,
-    // A sector packet.
-    Packet,
-    WriteEnd,
-    ModeEnd,
-    // Nothing that could be told.
-    Error,
-}
-
-// What a control frame's code stands for.
-pub enum Coded {
-    Unknown,
-    Answers(Kind),
-}
+ghost use Rattle.response.specs.Response.{mayCarry, addedOf, targetOf, acceptedOf, ownOf, errorOf, controlOf, repeatsOf, storedOf, crcFits, writeOf};
+ghost use Rattle.response.specs.Said.{Response·Is};
 
 pub enum Response {
     Unreadable,
-    // The result alone.
+    // A command's own response, the result alone.
     Plain {
-        kind: Kind,
+        command: Command,
+        result: u8,
+    },
+    // The error response.
+    Error {
         result: u8,
     },
     // Bank information with 06.
@@ -54,36 +41,9 @@ pub enum Response {
     },
 }
 
-fn kind_of(code: u8) -> Coded
-    ensures { λ r. ⌜ r ≡ kindOf code ⌝ }
-{
-    if code == 0x71 {
-        return Coded::Answers(Kind::ModeStart);
-    }
-    if code == 0x72 {
-        return Coded::Answers(Kind::BankInfo);
-    }
-    if code == 0x78 {
-        return Coded::Answers(Kind::Version);
-    }
-    if code == 0x70 {
-        return Coded::Answers(Kind::WriteStart);
-    }
-    if code == 0x75 {
-        return Coded::Answers(Kind::WriteEnd);
-    }
-    if code == 0x74 {
-        return Coded::Answers(Kind::ModeEnd);
-    }
-    if code == 0xE0 {
-        return Coded::Answers(Kind::Error);
-    }
-    Coded::Unknown
-}
-
-// Whether a response of a kind may carry a result: any of Table 9, whatever it answers. By kind, since 02 §3 rules by it.
-fn may_carry(kind: Kind, result: u8) -> bool
-    ensures { λ r. ⌜ r ≡ mayCarry kind result ⌝ }
+// Whether a response may carry a result, the error response or another: any of Table 9. By which of them, since 02 §3 rules by it.
+fn may_carry(error: bool, result: u8) -> bool
+    ensures { λ r. ⌜ r ≡ mayCarry error result ⌝ }
 {
     (result == 0x05)
         | (result == 0x06)
@@ -95,22 +55,13 @@ fn may_carry(kind: Kind, result: u8) -> bool
 }
 
 // How many bytes follow the result.
-fn added(kind: Kind, result: u8) -> usize
-    ensures { λ r. ⌜ r ≡ addedOf kind result ⌝ }
+fn added(command: Command, result: u8) -> usize
+    ensures { λ r. ⌜ r ≡ addedOf command result ⌝ }
 {
     if result != 0x06 {
         return 0;
     }
-    match kind {
-        Kind::ModeStart => 0,
-        Kind::BankInfo => 1,
-        Kind::Version => 8,
-        Kind::WriteStart => 0,
-        Kind::Packet => 0,
-        Kind::WriteEnd => 0,
-        Kind::ModeEnd => 0,
-        Kind::Error => 0,
-    }
+    commands::added_bytes(command)
 }
 
 // The bank that a number names.
@@ -127,48 +78,82 @@ fn named(number: u8) -> Response
 }
 
 // What stands behind the result 06, there being as many bytes as it asks for.
-fn accepted(kind: Kind, parameters: &[u8]) -> Response
-    requires { ⌜ length (now parameters) ≡ addedOf kind 0x06 + 1 ⌝ }
-    ensures { λ r. ⌜ r ≡ acceptedOf kind (now (parameters .entry)) ⌝ }
+fn accepted(command: Command, parameters: &[u8]) -> Response
+    requires { ⌜ length (now parameters) ≡ addedOf command 0x06 + 1 ⌝ }
+    ensures { λ r. ⌜ r ≡ acceptedOf command (now (parameters .entry)) ⌝ }
 {
-    match kind {
-        Kind::ModeStart => Response::Plain { kind, result: 0x06 },
-        Kind::BankInfo => named(parameters[1]),
-        Kind::Version => Response::Firmware {
+    match command {
+        Command::ModeStart => Response::Plain {
+            command,
+            result: 0x06,
+        },
+        Command::BankInfo => named(parameters[1]),
+        Command::VersionInfo => Response::Firmware {
             id: buffer::number::number2(parameters, 1),
             major: parameters[3],
             minor: parameters[4],
             revision: buffer::number::number4(parameters, 5),
         },
-        Kind::WriteStart => Response::Plain { kind, result: 0x06 },
-        Kind::Packet => Response::Plain { kind, result: 0x06 },
-        Kind::WriteEnd => Response::Plain { kind, result: 0x06 },
-        Kind::ModeEnd => Response::Plain { kind, result: 0x06 },
-        Kind::Error => Response::Plain { kind, result: 0x06 },
+        Command::WriteStart => Response::Plain {
+            command,
+            result: 0x06,
+        },
+        Command::WriteEnd => Response::Plain {
+            command,
+            result: 0x06,
+        },
+        Command::ModeEnd => Response::Plain {
+            command,
+            result: 0x06,
+        },
     }
+}
+
+// A command's own response.
+fn own(command: Command, parameters: &[u8]) -> Response
+    ensures { λ r. ⌜ r ≡ ownOf command (now (parameters .entry)) ⌝ }
+{
+    if parameters.len() == 0 {
+        return Response::Unreadable;
+    }
+    let result = parameters[0];
+    if !may_carry(false, result) {
+        return Response::Unreadable;
+    }
+    if parameters.len() != added(command, result) + 1 {
+        return Response::Unreadable;
+    }
+    if result != 0x06 {
+        return Response::Plain { command, result };
+    }
+    accepted(command, parameters)
+}
+
+// The error response.
+fn error(parameters: &[u8]) -> Response
+    ensures { λ r. ⌜ r ≡ errorOf (now (parameters .entry)) ⌝ }
+{
+    if parameters.len() != 1 {
+        return Response::Unreadable;
+    }
+    let result = parameters[0];
+    if !may_carry(true, result) {
+        return Response::Unreadable;
+    }
+    Response::Error { result }
 }
 
 // A control frame's code and parameters.
 fn control(code: u8, parameters: &[u8]) -> Response
     ensures { λ r. ⌜ r ≡ controlOf code (now (parameters .entry)) ⌝ }
 {
-    let Coded::Answers(kind) = kind_of(code) else {
-        return Response::Unreadable;
-    };
-    if parameters.len() == 0 {
-        return Response::Unreadable;
+    if code == commands::ERROR {
+        return error(parameters);
     }
-    let result = parameters[0];
-    if !may_carry(kind, result) {
-        return Response::Unreadable;
+    match commands::answered(code) {
+        Coded::Unknown => Response::Unreadable,
+        Coded::Is(command) => own(command, parameters),
     }
-    if parameters.len() != added(kind, result) + 1 {
-        return Response::Unreadable;
-    }
-    if result != 0x06 {
-        return Response::Plain { kind, result };
-    }
-    accepted(kind, parameters)
 }
 
 // Unless the response result is 06, the write result repeats it.
@@ -192,7 +177,7 @@ fn crc_fits(response: u8, write: u8, crc: u32) -> bool
     (crc == 0) | (stored(response) & stored(write))
 }
 
-// A write frame's sector and bytes.
+// A write frame's sector and data.
 fn written(sector: u16, bytes: &[u8]) -> Response
     ensures { λ r. ⌜ r ≡ writeOf sector (now (bytes .entry)) ⌝ }
 {
@@ -202,10 +187,10 @@ fn written(sector: u16, bytes: &[u8]) -> Response
     let response = bytes[0];
     let write = bytes[1];
     let crc = buffer::number::number4(bytes, 2);
-    if !may_carry(Kind::Packet, response) {
+    if !may_carry(false, response) {
         return Response::Unreadable;
     }
-    if !may_carry(Kind::Packet, write) {
+    if !may_carry(false, write) {
         return Response::Unreadable;
     }
     if !repeats(response, write) {
@@ -227,19 +212,16 @@ pub fn read_response(datagram: &[u8]) -> Response
 {
     match frame::read::read_frame(datagram) {
         Read::Fault => Response::Unreadable,
-        Read::Control { code, parameters } => {
-            let end = 3 + parameters;
-            control(code, &datagram[3..end])
-        }
+        Read::Control {
+            code,
+            parameters: _,
+        } => control(code, frame::read::parameters(datagram)),
         Read::Write {
             sector,
-            length,
+            length: _,
             footer,
         } => match footer {
-            Footer::End => {
-                let end = 5 + length;
-                written(sector, &datagram[5..end])
-            }
+            Footer::End => written(sector, frame::read::data(datagram)),
             Footer::Continued => Response::Unreadable,
         },
     }

@@ -2,7 +2,6 @@
 use crate::made;
 use crate::made::LARGEST_BUFFER;
 use layout::Bank;
-use response::read::Kind;
 use response::read::Response;
 use script::say;
 use script::text;
@@ -54,7 +53,7 @@ pub(crate) fn request(fields: &[u8]) -> bool {
         return make(Request::BankInfo, later);
     }
     if check::same(word, b"version") {
-        return make(Request::Version, later);
+        return make(Request::VersionInfo, later);
     }
     if check::same(word, b"write") {
         return write(later);
@@ -68,23 +67,9 @@ pub(crate) fn request(fields: &[u8]) -> bool {
     false
 }
 
-// The code by which a response of the kind comes. That of a packet has none, and never is a plain one.
-fn code(kind: Kind) -> u8 {
-    match kind {
-        Kind::ModeStart => 0x71,
-        Kind::BankInfo => 0x72,
-        Kind::Version => 0x78,
-        Kind::WriteStart => 0x70,
-        Kind::Packet => 0,
-        Kind::WriteEnd => 0x75,
-        Kind::ModeEnd => 0x74,
-        Kind::Error => 0xE0,
-    }
-}
-
-fn say_plain(kind: Kind, result: u8) {
+fn say_plain(code: u8, result: u8) {
     say::text(b"result ");
-    say::byte(code(kind));
+    say::byte(code);
     say::text(b" ");
     say::byte(result);
 }
@@ -110,7 +95,10 @@ fn say_fields(word: &[u8], pair: u16, first: u8, second: u8, quad: u32) {
 fn say_response(datagram: &[u8]) {
     match response::read::read_response(datagram) {
         Response::Unreadable => say::refused(6),
-        Response::Plain { kind, result } => say_plain(kind, result),
+        Response::Plain { command, result } => {
+            say_plain(commands::response_code(command), result)
+        }
+        Response::Error { result } => say_plain(commands::ERROR, result),
         Response::Target { bank } => say_bank(bank),
         Response::Firmware {
             id,
