@@ -72,7 +72,7 @@ determined =
           };
       next-body = λ c bank0 bank1 i. once _;
       check-number = λ bank. once _;
-      hex-code = λ text n before x y u v p q. (p .image ∙ sym (q .image), p .code ∙ sym (q .code));
+      hex-code = λ text n before x y u v p q. (p .image ∙ sym (q .image), p .told ∙ sym (q .told));
       take = λ n slots bank0 bank1 marks address buffer r s zero zero′ one one′ answer answer′ p q.
           record {
             result = p .told ∙ sym (q .told);
