@@ -3,14 +3,9 @@
 use Prim.Native.Nat.{ℕ}
 use mathlib.Core.Path.{_≡_}
 use mathlib.Core.List.{List}
-use Rattle.layout.specs.Said.{Said, number, result, value}
+use Rattle.layout.specs.Said.{code}
 use Rattle.bank.specs.Said.{verdictSaid}
 use Rattle.bank.specs.Sound.{verdictOf}
-
-abbrev pub code : Said → ℕ
-code (number n) = n
-code (result n) = n
-code (value n) = n
 
 abbrev pub CheckNumber·Is : List ℕ → ℕ → Type 0
 CheckNumber·Is b r = r ≡ code (verdictSaid (verdictOf b))

@@ -8,10 +8,11 @@ use native.Mathlib.Omega.{arith}
 use lib.Dec.{eqb}
 use lib.ListN.{length, getD}
 use borrow.Author.Tests.{eqb-true}
+use Rattle.buffer.proofs.Bools.{no-way}
 use Rattle.layout.specs.declared.Bank.{Bank}
 use Rattle.layout.specs.Layout.{sectorSize, goodN, otherOf, startOf}
 use Rattle.hex.specs.declared.read.Answer.the-variants.{Accepted}
-use Rattle.hex.specs.Read.{answerNumber, textRead}
+use Rattle.hex.specs.Read.{textRead}
 use Rattle.hex.proofs.Meaning.{read-length, accepted-data, accepted-rest}
 use Rattle.demands.specs.Board.{stepMachine}
 use Rattle.demands.specs.EndToEnd.{MeetsText}
@@ -24,8 +25,8 @@ accepted-size text bank n before a = by (goodN n) (eqb (length before) (sectorSi
   where
     by : (g e : Bool) → goodN n ≡ g → eqb (length before) (sectorSize * n) ≡ e → length before ≡ sectorSize * n
     by true true p q = eqb-true _ _ q
-    by true false p q = let z = rw (p, q) at a in absurd (omega (arith, ap answerNumber z))
-    by false e p q = let z = rw p at a in absurd (omega (arith, ap answerNumber z))
+    by true false p q = let z = rw (p, q) at a in no-way (cc)
+    by false e p q = let z = rw p at a in no-way (cc)
 
 pub text-to-bank : MeetsText stepMachine
 text-to-bank b text before ready accepted fit start ps is end delivery =

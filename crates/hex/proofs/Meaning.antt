@@ -27,7 +27,7 @@ use Rattle.hex.specs.declared.read.Outcome.{Outcome}
 use Rattle.hex.specs.declared.read.Outcome.the-variants.{Stopped, Through}
 use Rattle.hex.specs.Spell.{lineBytes}
 use Rattle.hex.specs.Record.{recordData, foundOf}
-use Rattle.hex.specs.Read.{stateAfter, imageAfter, LinesRead, stoppedAt, readLines, atStart, Reading, readingOf, answerNumber, textRead}
+use Rattle.hex.specs.Read.{stateAfter, imageAfter, LinesRead, stoppedAt, readLines, atStart, Reading, readingOf, textRead}
 use Rattle.hex.specs.Meaning.{stateAt, saysAt, Faultless, Faulted, at-line, past-the-last}
 use Rattle.hex.proofs.Says.{data-in}
 
@@ -344,16 +344,3 @@ module _ (text : List ℕ) (bank : Bank) (n : ℕ) (before : List ℕ) where
             refused-faulted (startOf bank) (sectorSize * n) atStart 1 blank (lines text) r (o .0),
             ap (λ (d : Reading). d .image) e ∙ o .1 ∙ rw w,
           )
-
-  -- 3 and 2 leave the image as it was
-  pub unread : (answerNumber (textRead text bank n before .answer) ≡ 0 → ⊥) → textRead text bank n before .image ≡ before
-  unread z = by way
-    where
-      none : (o : Outcome) (image : List ℕ) → answerNumber (readingOf (sectorSize * n) o image .answer) ≡ 0
-      none (Stopped r) image = refl
-      none Through image = refl
-
-      by : Way → textRead text bank n before .image ≡ before
-      by (bad-n e) = rw e
-      by (bad-length e) = rw e
-      by (lined-up w e) = absurd (z (rw e (none (lined .outcome) (lined .image))))

@@ -26,7 +26,7 @@ use Rattle.hex.specs.declared.read.Outcome.the-variants.{Stopped, Throug
 use Rattle.hex.specs.declared.read.Step.the-variants.{Stop, On}
 use Rattle.hex.specs.Spell.{lineBytes}
 use Rattle.hex.specs.Record.{recordData, foundOf}
-use Rattle.hex.specs.Read.{stateAfter, imageAfter, LinesRead, stoppedAt, goes, readLines, afterLast, atStart, readingOf, textRead, Read·Is}
+use Rattle.hex.specs.Read.{stateAfter, imageAfter, LinesRead, stoppedAt, goes, readLines, afterLast, atStart, readingOf, linesSay, readSays, textRead, Read·Is}
 use Rattle.hex.specs.Places.{Looked, stepBy, Took, Came}
 use Rattle.hex.proofs.Says.{upper-in, looked-in}
 
@@ -131,15 +131,15 @@ module _ (base size : ℕ) (s : State) (k : ℕ) (image : List ℕ) where
 
 module _ (text : List ℕ) (bank : Bank) (n : ℕ) (image : List ℕ) where
   pub read-3 : goodN n ≡ false → Read·Is text bank n image image BadN
-  unfolding textRead
-  read-3 g = record { answer = rw g; image = rw g }
+  unfolding textRead readSays
+  read-3 g = record { answer = rw g; said = rw g; image = rw g }
 
   module _ (g : goodN n ≡ true) where
     pub read-2 : (length image ≡ sectorSize * n → ⊥) → Read·Is text bank n image image BadLength
-    unfolding textRead
+    unfolding textRead readSays
     read-2 l =
         let e = ne-eqb (length image) (sectorSize * n) l in
-        record { answer = rw (g, e); image = rw (g, e) }
+        record { answer = rw (g, e); said = rw (g, e); image = rw (g, e) }
 
     module _
         (e : length image ≡ sectorSize * n) {base : ℕ} (s : base ≡ startOf bank)
@@ -152,14 +152,26 @@ module _ (text : List ℕ) (bank : Bank) (n : ℕ) (image : List ℕ) where
       read-is =
           simp (g, eq-eqb (length image) (sectorSize * n) e) (rw (s, f, length-replicate {A = ℕ} (length image) 0xFF, e))
 
+      said-is : readSays text bank n image ≡ linesSay (lined .outcome)
+      unfolding readSays
+      said-is =
+          simp (g, eq-eqb (length image) (sectorSize * n) e) (rw (s, f, length-replicate {A = ℕ} (length image) 0xFF, e))
+
       pub read-accepted : {after : List ℕ} → Came lined Through after → Read·Is text bank n image after Accepted
-      read-accepted c = record { answer = rw (read-is, ← c .outcome); image = rw (read-is, ← c .outcome) (c .image-is) }
+      read-accepted c =
+          record {
+            answer = rw (read-is, ← c .outcome);
+            said = rw (said-is, ← c .outcome);
+            image = rw (read-is, ← c .outcome) (c .image-is);
+          }
 
       pub read-refused :
           (r : Refusal) {after : List ℕ} (left : List ℕ) → Came lined (Stopped r) left
           → length left ≡ length blank → after ≡ replicate (length left) 0xFF → Read·Is text bank n image after (Refused r)
       read-refused r left c m h =
+          let size = m ∙ ap length f ∙ length-replicate (length image) 0xFF ∙ e in
           record {
             answer = rw (read-is, ← c .outcome);
-            image = rw (read-is, ← c .outcome) (h ∙ ap (λ (n : ℕ). replicate n 0xFF) (m ∙ ap length f ∙ length-replicate (length image) 0xFF ∙ e));
+            said = rw (said-is, ← c .outcome);
+            image = rw (read-is, ← c .outcome) (h ∙ ap (λ (n : ℕ). replicate n 0xFF) size);
           }

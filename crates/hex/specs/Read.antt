@@ -9,6 +9,7 @@ use lib.Seq.{sets}
 use lib.Dec.{eqb}
 use Rattle.layout.specs.declared.Bank.{Bank}
 use Rattle.layout.specs.Layout.{sectorSize, goodN, startOf}
+use Rattle.layout.specs.Said.{Said, number, fault, accepted}
 use Rattle.lines.specs.Line.{lines}
 use Rattle.hex.specs.declared.fault.Kind.{Kind}
 use Rattle.hex.specs.declared.fault.Kind.the-variants.{H1, H2, H3, H4, H5, H6}
@@ -91,7 +92,7 @@ textRead text bank n image =
     (record { answer = BadLength; image = image }))
     (record { answer = BadN; image = image })
 
--- the paper's number of each fault, H1 to H6, and of each answer: 3, 2, and 0 where it gives none
+-- THE PAPER'S NUMBERS: of each fault, and of each answer
 abbrev pub kindNumber : Kind → ℕ
 kindNumber H1 = 1
 kindNumber H2 = 2
@@ -103,12 +104,24 @@ kindNumber H6 = 6
 abbrev pub KindNumber·Is : Kind → ℕ → Type 0
 KindNumber·Is kind r = r ≡ kindNumber kind
 
-abbrev pub answerNumber : Answer → ℕ
-answerNumber BadN = 3
-answerNumber BadLength = 2
-answerNumber (Refused r) = 0
-answerNumber Accepted = 0
+abbrev pub answerSaid : Answer → Said
+answerSaid BadN = number 3
+answerSaid BadLength = number 2
+answerSaid (Refused r) = fault (kindNumber (r .kind)) (r .line)
+answerSaid Accepted = accepted
+
+-- what is said of a text, in their order: 3, 2, then the fault of the first faulty line
+abbrev pub linesSay : Outcome → Said
+linesSay (Stopped r) = fault (kindNumber (r .kind)) (r .line)
+linesSay Through = accepted
+
+unfoldable pub readSays : List ℕ → Bank → ℕ → List ℕ → Said
+readSays text bank n image =
+    cond (goodN n)
+    (cond (eqb (length image) (sectorSize * n)) (linesSay (linesRead text bank n .outcome)) (number 2))
+    (number 3)
 
 pub record Read·Is (text : List ℕ) (bank : Bank) (n : ℕ) (before after : List ℕ) (r : Answer) : Type 0 where
   pub answer : r ≡ textRead text bank n before .answer
+  pub said : answerSaid r ≡ readSays text bank n before
   pub image : after ≡ textRead text bank n before .image

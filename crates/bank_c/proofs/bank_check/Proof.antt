@@ -2,7 +2,7 @@
 -- Assumes nothing.
 use mathlib.Core.Path.{sym, ap, _∙_}
 use Rattle.bank.specs.Said.{verdictSaid}
-use Rattle.bank_c.specs.Check.{code}
+use Rattle.layout.specs.Said.{code}
 use borrow.Author.Needs.{needs}
 use Rattle.bank_c.proofs.bank_check.Statement.{statement}
 use Rattle.bank_c.proofs.bank_check.Tie as tie
