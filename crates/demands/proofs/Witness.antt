@@ -11,9 +11,10 @@ use Rattle.buffer.specs.Number.{numberAt, numberOf}
 use Rattle.crc.specs.Crc.{feed, crcBit, crcBits, crcByte, crcMore, crcOf}
 use Rattle.layout.specs.declared.Bank.the-variants.{Zero, One}
 use Rattle.layout.specs.Layout.{goodN, wholeLength, sectorOf}
-use Rattle.bank.specs.Sound.{headerGood, tableGood, laidOutGood, bodyGood, allGood, bodiesGood, blankGood, listedGood, soundOf, verdictOf}
+use Rattle.bank.specs.Sound.{headerGood, tableFits, tableGood, laidOutGood, bodyGood, allGood, bodiesGood, listedGood, contentsGood}
+use Rattle.bank.specs.Sound.{blankGood, soundOf, verdictOf}
 use Rattle.bank.specs.Stretch.{fitsAt, laidOut, blankOutside}
-use Rattle.bank.specs.Table.{entryAt, entriesFrom, restOf, stretchesOf}
+use Rattle.bank.specs.Table.{crcPlace, tableEnd, entryAt, entriesFrom, restOf, stretchesOf}
 use Rattle.sender.specs.declared.request.Request.the-variants.{WriteStart, WriteEnd}
 use Rattle.sender.specs.Packet.{sentOf, packetCount, packetSector, packetFrame}
 use Rattle.sender.specs.Request.{requestFrame}
@@ -36,7 +37,9 @@ unfolding image
 image-size = refl
 
 pub image-fit : fitOf image ≡ true
-unfolding image verdictOf wholeLength goodN soundOf headerGood tableGood listedGood laidOutGood bodiesGood blankGood bodyGood allGood laidOut fitsAt blankOutside entryAt entriesFrom restOf stretchesOf blankOf numberAt numberOf crcOf crcMore crcByte crcBits crcBit feed
+unfolding image verdictOf wholeLength goodN soundOf contentsGood headerGood tableFits tableGood listedGood laidOutGood bodiesGood bodyGood allGood
+    blankGood laidOut fitsAt blankOutside crcPlace tableEnd entryAt entriesFrom restOf stretchesOf blankOf numberAt numberOf
+    crcOf crcMore crcByte crcBits crcBit feed
 image-fit = refl
 
 pub two-packets : packetCount image 2 ≡ 2
