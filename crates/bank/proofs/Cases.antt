@@ -1,51 +1,86 @@
--- The verdict and the body, case by case.
+-- The two verdicts and the body, case by case.
 -- Assumes nothing.
-use Prim.Native.Nat.{ℕ, _/_, _≤_, _<_}
+use Prim.Native.Nat.{ℕ, _≤_, _<_}
 use native.Mathlib.Omega.{arith}
-use mathlib.Core.Path.{_≡_, refl, sym, ap, _∙_}
-use mathlib.Core.Bool.{Bool, true, false, cond}
+use native.Mathlib.Decide.{decLt}
+use mathlib.Core.Path.{_≡_, refl, sym, _∙_}
+use mathlib.Core.Bool.{Bool, true, false, _&&_, cond}
 use mathlib.Core.List.{List, []}
+use lib.Dec.{ltb}
 use lib.ListN.{length}
-use borrow.Author.Tests.{lt-ltb, le-ltb}
-use Rattle.bank.specs.declared.table.Entry.{Entry}
+use borrow.Author.Tests.{lt-ltb, le-ltb, le-leb}
+use Rattle.buffer.proofs.Bools.{and-left, and-assoc, and-true, and-false}
+use Rattle.layout.specs.Said.{number, result}
+use Rattle.layout.specs.Layout.{wholeLength}
+use Rattle.bank.specs.declared.check.Contents.{Contents}
+use Rattle.bank.specs.declared.check.Contents.the-variants as contents
 use Rattle.bank.specs.declared.check.Verdict.{Verdict}
 use Rattle.bank.specs.declared.check.Verdict.the-variants.{Refused, Sound, Unsound}
-use Rattle.layout.specs.Said.{number, result}
+use Rattle.bank.specs.declared.stretch.Stretch.{Stretch}
 use Rattle.bank.specs.Said.{verdictSaid}
+use Rattle.bank.specs.Stretch.{stopOf, part}
 use Rattle.bank.specs.Table.{countOf, entryAt}
-use Rattle.layout.specs.Layout.{sectorSize, wholeLength}
-use Rattle.bank.specs.Sound.{headerGood, tableGood, listedGood, soundOf, verdictOf, stretchBytes, bodyOf}
-use Rattle.buffer.proofs.Bools.{and-false}
-use Rattle.layout.proofs.Layouts.{whole-good, good-low}
-use Rattle.bank.proofs.Tables.{Parts, parts}
+use Rattle.bank.specs.Sound.{headerGood, tableFits, tableGood, listedGood, contentsGood, blankGood, soundOf}
+use Rattle.bank.specs.Sound.{stretchBytes, contentsOf, verdictOf, bodyOf, asked}
+use Rattle.bank.specs.Listed.{tableThere, bodyCount, stretchAt, Listed, HasTable}
+use Rattle.bank.proofs.Listed.{no-table, stretch-none, listed}
 
--- a bank has at least one sector
-pub long : (n : ℕ) → wholeLength n ≡ true → sectorSize ≤ n
-long n e = let h : 1 ≤ n / sectorSize = good-low (n / sectorSize) (whole-good n e) in omega arith
+-- the rules, one after the other; n is how many bodies there are
+module _ (b : List ℕ) (outside : Bool) (n : ℕ) where
+  pub rules-none : wholeLength (length b) ≡ true → n ≡ bodyCount b → n ≡ 0 → false ≡ (contentsGood b && asked outside (blankGood b))
+  unfolding contentsGood tableThere
+  rules-none l is none = rw (← and-assoc (headerGood b) (tableFits b) _, simp l at (no-table b n is none))
 
+  module _ (t : HasTable b n) where
+    pub rules-table : tableGood b ≡ false → false ≡ (contentsGood b && asked outside (blankGood b))
+    unfolding contentsGood tableFits
+    rules-table q = rw (t .header, le-leb _ _ (t .fits), q)
+
+    pub rules-listed :
+        tableGood b ≡ true → (listedGood b && asked outside (blankGood b)) ≡ (contentsGood b && asked outside (blankGood b))
+    unfolding contentsGood tableFits
+    rules-listed q = rw (t .header, le-leb _ _ (t .fits), q)
+
+-- r is whether those rules are kept
 module _ (b : List ℕ) where
+  pub contents-refused : wholeLength (length b) ≡ false → contents.Refused ≡ contentsOf b
+  unfolding contentsOf
+  contents-refused l = rw l
+
   pub check-refused : wholeLength (length b) ≡ false → Refused ≡ verdictOf b
   unfolding verdictOf
-  check-refused l = simp l
+  check-refused l = rw l
 
-  module _ (l : wholeLength (length b) ≡ true) where
-    pub check-header : headerGood b ≡ false → Unsound ≡ verdictOf b
-    unfolding verdictOf soundOf
-    check-header p = simp (l, p)
+  module _ (l : wholeLength (length b) ≡ true) (r : Bool) where
+    module _ (is : r ≡ (contentsGood b && asked false (blankGood b))) where
+      pub contents-good : r ≡ true → contents.Good ≡ contentsOf b
+      unfolding contentsOf asked
+      contents-good e = rw (l, ← and-true (contentsGood b), ← is, e)
 
-    module _ (p : headerGood b ≡ true) where
-      pub check-table : tableGood b ≡ false → Unsound ≡ verdictOf b
-      unfolding verdictOf soundOf
-      check-table q = simp (l, p, q)
+      pub contents-faulty : r ≡ false → contents.Faulty ≡ contentsOf b
+      unfolding contentsOf asked
+      contents-faulty e = rw (l, ← and-true (contentsGood b), ← is, e)
 
-      module _ (q : tableGood b ≡ true) where
-        pub check-listed : listedGood b ≡ false → Unsound ≡ verdictOf b
-        unfolding verdictOf soundOf
-        check-listed r = simp (l, p, q, r)
+    module _ (is : r ≡ (contentsGood b && asked true (blankGood b))) where
+      pub check-sound : r ≡ true → Sound ≡ verdictOf b
+      unfolding verdictOf soundOf asked
+      check-sound e = rw (l, ← is, e)
 
-        pub check-sound : listedGood b ≡ true → Sound ≡ verdictOf b
-        unfolding verdictOf soundOf
-        check-sound r = simp (l, p, q, r)
+      pub check-unsound : r ≡ false → Unsound ≡ verdictOf b
+      unfolding verdictOf soundOf asked
+      check-unsound e = rw (l, ← is, e)
+
+-- what is handed out is the table's, where that verdict was given; v is what was said (02 §7, §10)
+by-good : (l s : Bool) → contents.Good ≡ cond l (cond s contents.Good contents.Faulty) contents.Refused → (l ≡ true) × (s ≡ true)
+by-good true true e = (refl, refl)
+by-good true false e = (cc, cc)
+by-good false s e = (cc, cc)
+
+pub good-listed : (b : List ℕ) (v : Contents) → v ≡ contentsOf b → v ≡ contents.Good → Listed b
+unfolding contentsOf
+good-listed b v is e =
+    let p = by-good (wholeLength (length b)) (contentsGood b) (sym e ∙ is) in
+    listed b (p .0) (p .1)
 
 by-sound : (l s : Bool) → Sound ≡ cond l (cond s Sound Unsound) Refused → (l ≡ true) × (s ≡ true)
 by-sound true true e = (refl, refl)
@@ -63,34 +98,42 @@ by-refused true false e = cc
 by-refused false s e = refl
 
 -- v is what the check said
-module _ (b : List ℕ) (v : Verdict) (is : v ≡ verdictOf b) where
-  sound-is : v ≡ Sound → (wholeLength (length b) ≡ true) × (soundOf b ≡ true)
-  unfolding verdictOf
-  sound-is e = by-sound (wholeLength (length b)) (soundOf b) (sym e ∙ is)
+module _ (b : List ℕ) (v : Verdict) (is : v ≡ verdictOf b) (i : ℕ) where
+  pub body-refused : v ≡ Refused → [] ≡ bodyOf b i
+  unfolding bodyOf verdictOf
+  body-refused e = rw (by-refused (wholeLength (length b)) (soundOf b) (sym e ∙ is))
 
-  pub sound-parts : v ≡ Sound → Parts b
-  sound-parts e = parts b (sound-is e .1)
+  pub body-unsound : v ≡ Unsound → [] ≡ bodyOf b i
+  unfolding bodyOf verdictOf
+  body-unsound e = rw (by-unsound (wholeLength (length b)) (soundOf b) (sym e ∙ is)) (rw (and-false (wholeLength (length b))))
 
-  module _ (i : ℕ) where
-    pub body-refused : v ≡ Refused → [] ≡ bodyOf b i
-    unfolding bodyOf verdictOf
-    body-refused e = rw (by-refused (wholeLength (length b)) (soundOf b) (sym e ∙ is))
+  -- s is where body i lies
+  module _ (sound : v ≡ Sound) (s : Stretch) (at : s ≡ stretchAt b i) where
+    sound-is : (wholeLength (length b) ≡ true) × (soundOf b ≡ true)
+    unfolding verdictOf
+    sound-is = by-sound (wholeLength (length b)) (soundOf b) (sym sound ∙ is)
 
-    pub body-unsound : v ≡ Unsound → [] ≡ bodyOf b i
-    unfolding bodyOf verdictOf
-    body-unsound e = rw (by-unsound (wholeLength (length b)) (soundOf b) (sym e ∙ is)) (rw (and-false (wholeLength (length b))))
+    told : Listed b
+    unfolding soundOf
+    told = listed b (sound-is .0) (and-left (contentsGood b) (blankGood b) (sound-is .1))
 
-    pub body-past : v ≡ Sound → countOf b ≤ i → [] ≡ bodyOf b i
+    pub body-within : stopOf s ≤ length b
+    body-within = rw at (told .within i)
+
+    pub body-is : part b (s .offset) (stopOf s) ≡ bodyOf b i
     unfolding bodyOf
-    body-past e h = simp (sound-is e .0, sound-is e .1, le-ltb _ _ h)
-
-    pub body-is : v ≡ Sound → i < countOf b → (e : Entry) → e ≡ entryAt b i → stretchBytes b e ≡ bodyOf b i
-    unfolding bodyOf
-    body-is s h e is = simp (sound-is s .0, sound-is s .1, lt-ltb _ _ h) (ap (stretchBytes b) is)
+    body-is = rw (sound-is .0, sound-is .1, at) (by (decLt i (countOf b)))
+      where
+        by :
+            Dec (i < countOf b)
+            → part b (stretchAt b i .offset) (stopOf (stretchAt b i)) ≡ cond (ltb i (countOf b)) (stretchBytes b (entryAt b i)) []
+        by (yes h) = rw (told .stretch i (omega (arith, told .count)), lt-ltb _ _ h)
+        by (no h) = rw (← stretch-none b i (omega (arith, told .count)), le-ltb i (countOf b) (omega arith))
 
 -- ---- as 01 says it
 
-pub check-said : (b : List ℕ) → verdictSaid (verdictOf b) ≡ cond (wholeLength (length b)) (cond (soundOf b) (result 0x06) (result 0x1E)) (number 2)
+pub check-said :
+    (b : List ℕ) → verdictSaid (verdictOf b) ≡ cond (wholeLength (length b)) (cond (soundOf b) (result 0x06) (result 0x1E)) (number 2)
 unfolding verdictOf
 check-said b = by (wholeLength (length b)) (soundOf b)
   where

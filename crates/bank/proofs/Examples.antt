@@ -9,8 +9,8 @@ use Rattle.buffer.specs.Compare.{blankOf}
 use Rattle.buffer.specs.Number.{numberAt, numberOf}
 use Rattle.crc.specs.Crc.{feed, crcBit, crcBits, crcByte, crcMore, crcOf}
 use Rattle.bank.specs.Stretch.{fitsAt, laidOut, blankOutside}
-use Rattle.bank.specs.Table.{entryAt, entriesFrom, restOf, stretchesOf}
-use Rattle.bank.specs.Sound.{headerGood, tableGood, laidOutGood, bodyGood, allGood, bodiesGood, blankGood}
+use Rattle.bank.specs.Table.{crcPlace, tableEnd, entryAt, entriesFrom, restOf, stretchesOf}
+use Rattle.bank.specs.Sound.{headerGood, tableFits, tableGood, laidOutGood, bodyGood, allGood, bodiesGood, blankGood}
 
 -- the rule that is broken, if any
 pub data Broken : Type 0 where
@@ -28,17 +28,17 @@ pub data Row : Type 0 where
 pub bankOf : List ℕ → List ℕ → List ℕ
 bankOf front back = front ++ replicate (512 - (length front + length back)) 0xFF ++ back
 
--- what the five tests say of a bank, and what they should say
+-- what the six tests say of a bank, and what they should say
 pub tests : List ℕ → List Bool
-tests b = headerGood b ∷ tableGood b ∷ laidOutGood b ∷ bodiesGood b ∷ blankGood b ∷ []
+tests b = headerGood b ∷ tableFits b ∷ tableGood b ∷ laidOutGood b ∷ bodiesGood b ∷ blankGood b ∷ []
 
 pub wanted : Broken → List Bool
-wanted nothing = true ∷ true ∷ true ∷ true ∷ true ∷ []
-wanted header = false ∷ true ∷ true ∷ true ∷ true ∷ []
-wanted table = true ∷ false ∷ true ∷ true ∷ true ∷ []
-wanted laid = true ∷ true ∷ false ∷ true ∷ true ∷ []
-wanted body = true ∷ true ∷ true ∷ false ∷ true ∷ []
-wanted gap = true ∷ true ∷ true ∷ true ∷ false ∷ []
+wanted nothing = true ∷ true ∷ true ∷ true ∷ true ∷ true ∷ []
+wanted header = false ∷ true ∷ true ∷ true ∷ true ∷ true ∷ []
+wanted table = true ∷ true ∷ false ∷ true ∷ true ∷ true ∷ []
+wanted laid = true ∷ true ∷ true ∷ false ∷ true ∷ true ∷ []
+wanted body = true ∷ true ∷ true ∷ true ∷ false ∷ true ∷ []
+wanted gap = true ∷ true ∷ true ∷ true ∷ true ∷ false ∷ []
 
 pub same : List Bool → List Bool → Bool
 same [] [] = true
@@ -130,5 +130,7 @@ rows =
     []
 
 pub examples : allHold rows ≡ true
-unfolding rows allHold same wanted tests bankOf headerGood tableGood laidOutGood bodiesGood blankGood bodyGood allGood laidOut fitsAt blankOutside entryAt entriesFrom restOf stretchesOf blankOf numberAt numberOf crcOf crcMore crcByte crcBits crcBit feed
+unfolding rows allHold same wanted tests bankOf headerGood tableFits tableGood laidOutGood bodiesGood blankGood bodyGood allGood
+    laidOut fitsAt blankOutside crcPlace tableEnd entryAt entriesFrom restOf stretchesOf blankOf numberAt numberOf
+    crcOf crcMore crcByte crcBits crcBit feed
 examples = refl

@@ -13,42 +13,43 @@ use borrow.Author.Tests.{leb-true, ltb-true, ltb-false, le-leb, lt-leb, le-ltb}
 use Rattle.buffer.specs.Compare.{blankOf}
 use Rattle.buffer.proofs.Bools.{and-left, and-right, and-both, and-false}
 use Rattle.buffer.proofs.Comparing.{blank-at, at-blank}
-use Rattle.bank.specs.Stretch.{Stretch, stopOf, fitsAt, laidOut, part, blankOutside, holds, held}
+use Rattle.bank.specs.declared.stretch.Stretch.{Stretch}
+use Rattle.bank.specs.Stretch.{stopOf, fitsAt, laidOut, part, blankOutside, holds, held}
 
 -- what the tests at one stretch say
 pub record Fits (whole at : ℕ) (s : Stretch) : Type 0 where
-  pub some : 1 ≤ s .size
-  pub after : at ≤ s .from
+  pub some : 1 ≤ s .length
+  pub after : at ≤ s .offset
   pub within : stopOf s ≤ whole
 
 module _ (whole at : ℕ) (s : Stretch) where
-  pub fits-empty : s .size < 1 → false ≡ fitsAt whole at s
+  pub fits-empty : s .length < 1 → false ≡ fitsAt whole at s
   unfolding fitsAt
-  fits-empty h = simp (lt-leb 1 (s .size) h)
+  fits-empty h = simp (lt-leb 1 (s .length) h)
 
-  pub fits-early : 1 ≤ s .size → s .from < at → false ≡ fitsAt whole at s
+  pub fits-early : 1 ≤ s .length → s .offset < at → false ≡ fitsAt whole at s
   unfolding fitsAt
-  fits-early h g = simp (le-leb 1 (s .size) h, lt-leb at (s .from) g)
+  fits-early h g = simp (le-leb 1 (s .length) h, lt-leb at (s .offset) g)
 
-  pub fits-last : 1 ≤ s .size → at ≤ s .from → leb (stopOf s) whole ≡ fitsAt whole at s
+  pub fits-last : 1 ≤ s .length → at ≤ s .offset → leb (stopOf s) whole ≡ fitsAt whole at s
   unfolding fitsAt
-  fits-last h g = simp (le-leb 1 (s .size) h, le-leb at (s .from) g)
+  fits-last h g = simp (le-leb 1 (s .length) h, le-leb at (s .offset) g)
 
   pub fits : fitsAt whole at s ≡ true → Fits whole at s
   unfolding fitsAt
   fits e =
-      let p = and-right (leb 1 (s .size)) (leb at (s .from) && leb (stopOf s) whole) e in
+      let p = and-right (leb 1 (s .length)) (leb at (s .offset) && leb (stopOf s) whole) e in
       record {
-        some = leb-true 1 (s .size) (and-left (leb 1 (s .size)) (leb at (s .from) && leb (stopOf s) whole) e);
-        after = leb-true at (s .from) (and-left (leb at (s .from)) (leb (stopOf s) whole) p);
-        within = leb-true (stopOf s) whole (and-right (leb at (s .from)) (leb (stopOf s) whole) p);
+        some = leb-true 1 (s .length) (and-left (leb 1 (s .length)) (leb at (s .offset) && leb (stopOf s) whole) e);
+        after = leb-true at (s .offset) (and-left (leb at (s .offset)) (leb (stopOf s) whole) p);
+        within = leb-true (stopOf s) whole (and-right (leb at (s .offset)) (leb (stopOf s) whole) p);
       }
 
   pub fits-back : Fits whole at s → fitsAt whole at s ≡ true
   unfolding fitsAt
   fits-back f =
-      and-both (leb 1 (s .size)) (leb at (s .from) && leb (stopOf s) whole) (le-leb 1 (s .size) (f .some))
-      (and-both (leb at (s .from)) (leb (stopOf s) whole) (le-leb at (s .from) (f .after)) (le-leb (stopOf s) whole (f .within)))
+      and-both (leb 1 (s .length)) (leb at (s .offset) && leb (stopOf s) whole) (le-leb 1 (s .length) (f .some))
+      (and-both (leb at (s .offset)) (leb (stopOf s) whole) (le-leb at (s .offset) (f .after)) (le-leb (stopOf s) whole (f .within)))
 
   module _ (ss : List Stretch) where
     pub laid-head : laidOut whole at (s ∷ ss) ≡ true → Fits whole at s
@@ -61,21 +62,21 @@ module _ (whole at : ℕ) (s : Stretch) where
 
 -- ---- which bytes the stretches hold
 
-holds-not : (k : ℕ) (s : Stretch) → k < s .from → holds k s ≡ false
+holds-not : (k : ℕ) (s : Stretch) → k < s .offset → holds k s ≡ false
 unfolding holds
-holds-not k s h = simp (lt-leb (s .from) k h)
+holds-not k s h = simp (lt-leb (s .offset) k h)
 
 holds-past : (k : ℕ) (s : Stretch) → stopOf s ≤ k → holds k s ≡ false
 unfolding holds
-holds-past k s h = ap (λ (t : Bool). leb (s .from) k && t) (le-ltb k (stopOf s) h) ∙ and-false (leb (s .from) k)
+holds-past k s h = ap (λ (t : Bool). leb (s .offset) k && t) (le-ltb k (stopOf s) h) ∙ and-false (leb (s .offset) k)
 
 holds-before : (k : ℕ) (s : Stretch) → holds k s ≡ true → k < stopOf s
 unfolding holds
-holds-before k s e = ltb-true k (stopOf s) (and-right (leb (s .from) k) (ltb k (stopOf s)) e)
+holds-before k s e = ltb-true k (stopOf s) (and-right (leb (s .offset) k) (ltb k (stopOf s)) e)
 
-not-held : (k : ℕ) (s : Stretch) → s .from ≤ k → holds k s ≡ false → stopOf s ≤ k
+not-held : (k : ℕ) (s : Stretch) → s .offset ≤ k → holds k s ≡ false → stopOf s ≤ k
 unfolding holds
-not-held k s h e = ltb-false k (stopOf s) (sym (simp (le-leb (s .from) k h)) ∙ e)
+not-held k s h e = ltb-false k (stopOf s) (sym (simp (le-leb (s .offset) k h)) ∙ e)
 
 module _ (whole k : ℕ) where
   -- a byte before `at` is in none
@@ -84,7 +85,7 @@ module _ (whole k : ℕ) where
   held-before at [] h o = refl
   held-before at (s ∷ ss) h o =
       let f = laid-head whole at s ss o in
-      let n : k < s .from = omega (arith, f .after) in
+      let n : k < s .offset = omega (arith, f .after) in
       rw (holds-not k s n) (held-before (stopOf s) ss (omega arith) (laid-tail whole at s ss o))
 
   -- no byte is in two
@@ -126,17 +127,17 @@ module _ (b : List ℕ) where
   unfolding blankOutside held
   outside-blank at [] a o e k l h z = part-blank b at (length b) a (omega arith) e k l h
   outside-blank at (s ∷ ss) a o e k l h z =
-      by (holds k s) refl z (decLt k (s .from))
-      (λ p w. outside-blank (stopOf s) ss (f .within) (laid-tail (length b) at s ss o) (and-right (blankOf (part b at (s .from))) (blankOutside b (stopOf s) ss) e) k p h w)
+      by (holds k s) refl z (decLt k (s .offset))
+      (λ p w. outside-blank (stopOf s) ss (f .within) (laid-tail (length b) at s ss o) (and-right (blankOf (part b at (s .offset))) _ e) k p h w)
     where
       f : Fits (length b) at s
       f = laid-head (length b) at s ss o
 
-      by : (t : Bool) → holds k s ≡ t → cond t (held k ss + 1) (held k ss) ≡ 0 → Dec (k < s .from)
+      by : (t : Bool) → holds k s ≡ t → cond t (held k ss + 1) (held k ss) ≡ 0 → Dec (k < s .offset)
           → (stopOf s ≤ k → held k ss ≡ 0 → getD b k 0 ≡ 0xFF) → getD b k 0 ≡ 0xFF
       by true q w d ih = absurd (omega arith)
       by false q w (yes d) ih =
-          part-blank b at (s .from) (f .after) (omega (arith, f .within)) (and-left (blankOf (part b at (s .from))) (blankOutside b (stopOf s) ss) e) k l d
+          part-blank b at (s .offset) (f .after) (omega (arith, f .within)) (and-left (blankOf (part b at (s .offset))) _ e) k l d
       by false q w (no d) ih = ih (not-held k s (omega arith) q) w
 
   -- and the other way round
@@ -149,7 +150,7 @@ module _ (b : List ℕ) where
   blank-outside at (s ∷ ss) a o f =
       let g = laid-head (length b) at s ss o in
       let t = laid-tail (length b) at s ss o in
-      and-both (blankOf (part b at (s .from))) (blankOutside b (stopOf s) ss)
-      (blank-part b at (s .from) (g .after) (omega (arith, g .within)) λ k l h.
+      and-both (blankOf (part b at (s .offset))) (blankOutside b (stopOf s) ss)
+      (blank-part b at (s .offset) (g .after) (omega (arith, g .within)) λ k l h.
       f k l (omega (arith, g .within)) (rw (holds-not k s h) (held-before (length b) k (stopOf s) ss (omega arith) t)))
       (blank-outside (stopOf s) ss (g .within) t λ k l h z. f k (omega (arith, g .after)) h (rw (holds-past k s l) z))

@@ -1,3 +1,4 @@
+pub mod Listed
 pub mod Meaning
 pub mod Said
 pub mod Sound

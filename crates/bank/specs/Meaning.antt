@@ -6,16 +6,16 @@ use mathlib.Core.List.{List}
 use lib.ListN.{length, take}
 use Rattle.buffer.specs.Number.{byteAt, numberAt}
 use Rattle.crc.specs.Crc.{crcOf}
-use Rattle.bank.specs.Stretch.{held}
+use Rattle.bank.specs.Stretch.{stopOf, held}
 use Rattle.bank.specs.Table.{idOf, editionOf, countOf, crcPlace, tableEnd, entryAt, entriesOf, stretchesOf}
 use Rattle.bank.specs.Sound.{mostBodies, stretchBytes}
 
 -- where body i starts, and where it ends
 abbrev pub bodyStart : List ℕ → ℕ → ℕ
-bodyStart b i = entryAt b i .offset
+bodyStart b i = entryAt b i .stretch .offset
 
 abbrev pub bodyEnd : List ℕ → ℕ → ℕ
-bodyEnd b i = entryAt b i .offset + entryAt b i .length
+bodyEnd b i = stopOf (entryAt b i .stretch)
 
 pub record Kept (b : List ℕ) : Type 0 where
   pub id : idOf b ≡ 0x0400
@@ -24,7 +24,7 @@ pub record Kept (b : List ℕ) : Type 0 where
   pub count-high : countOf b ≤ mostBodies
   pub table-fits : tableEnd b ≤ length b
   pub table-crc : crcOf (take (crcPlace b) b) ≡ numberAt 4 b (crcPlace b)
-  pub a-byte : (i : ℕ) → i < countOf b → 1 ≤ entryAt b i .length
+  pub a-byte : (i : ℕ) → i < countOf b → 1 ≤ entryAt b i .stretch .length
   pub first : tableEnd b ≤ bodyStart b 0
   pub next : (i : ℕ) → i + 1 < countOf b → bodyEnd b i ≤ bodyStart b (i + 1)
   pub within : (i : ℕ) → i < countOf b → bodyEnd b i ≤ length b

@@ -6,18 +6,15 @@ use mathlib.Core.List.{List, [], _∷_}
 use lib.Dec.{leb, ltb}
 use lib.ListN.{length, take, drop}
 use Rattle.buffer.specs.Compare.{blankOf}
-
-pub record Stretch : Type 0 where
-  pub from : ℕ
-  pub size : ℕ
+use Rattle.bank.specs.declared.stretch.Stretch.{Stretch}
 
 -- the index after its last byte
 abbrev pub stopOf : Stretch → ℕ
-stopOf s = s .from + s .size
+stopOf s = s .offset + s .length
 
 -- "each length is at least 1"; from `at` on or later; within the first `whole` bytes
 unfoldable pub fitsAt : ℕ → ℕ → Stretch → Bool
-fitsAt whole at s = leb 1 (s .size) && (leb at (s .from) && leb (stopOf s) whole)
+fitsAt whole at s = leb 1 (s .length) && (leb at (s .offset) && leb (stopOf s) whole)
 
 -- each at or after the end of "what precedes it", the first at or after `at`, and ends within the first `whole` bytes
 unfoldable pub laidOut : ℕ → ℕ → List Stretch → Bool
@@ -31,11 +28,11 @@ part b from to = take (to - from) (drop from b)
 -- from `at` on, every byte before, between and after the stretches is 0xFF
 unfoldable pub blankOutside : List ℕ → ℕ → List Stretch → Bool
 blankOutside b at [] = blankOf (part b at (length b))
-blankOutside b at (s ∷ ss) = blankOf (part b at (s .from)) && blankOutside b (stopOf s) ss
+blankOutside b at (s ∷ ss) = blankOf (part b at (s .offset)) && blankOutside b (stopOf s) ss
 
 -- how many of the stretches hold the byte at index k
 unfoldable pub holds : ℕ → Stretch → Bool
-holds k s = leb (s .from) k && ltb k (stopOf s)
+holds k s = leb (s .offset) k && ltb k (stopOf s)
 
 unfoldable pub held : ℕ → List Stretch → ℕ
 held k [] = 0

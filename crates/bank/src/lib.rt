@@ -2,4 +2,5 @@
 mod bodies;
 pub mod body;
 pub mod check;
+pub mod stretch;
 mod table;

@@ -1,9 +1,13 @@
 // The contents table at a bank's start: its header and its entries, read where they lie.
+use crate::stretch::Stretch;
 ghost use mathlib.Core.Path.{_≡_};
-ghost use Prim.Native.Nat.{_+_, _*_, _<_, _≤_};
+ghost use mathlib.Core.Bool.{true};
+ghost use Prim.Native.Nat.{_+_, _<_, _≤_};
 ghost use lib.ListN.{length};
-ghost use Rattle.bank.specs.Table.{entrySize, IsCount, IsEntry};
-ghost use Rattle.bank.specs.Sound.{tableGood, IsListed};
+ghost use Rattle.layout.specs.Layout.{wholeLength};
+ghost use Rattle.bank.specs.Table.{entryPlace, IsEntry};
+ghost use Rattle.bank.specs.Sound.{mostBodies, tableGood};
+ghost use Rattle.bank.specs.Listed.{HasTable, BodyCount·Is};
 
 // The most bodies that a table lists.
 const MOST_BODIES: usize = 30;
@@ -12,8 +16,7 @@ const MOST_BODIES: usize = 30;
 const ENTRY: usize = 12;
 
 pub(crate) struct Entry {
-    pub offset: usize,
-    pub length: usize,
+    pub stretch: Stretch,
     pub crc: u32,
 }
 
@@ -29,42 +32,41 @@ fn wide4(number: u32) -> usize
     number as usize
 }
 
-// How many bodies the table says that it lists.
-pub(crate) fn count(bank: &[u8]) -> usize
-    requires { ⌜ 4 ≤ length (now bank) ⌝ }
-    ensures { λ r. ⌜ IsCount (now (bank .entry)) r ⌝ }
+// Where entry i stands; behind the last, the table's CRC.
+fn place(i: usize) -> usize
+    requires { ⌜ i ≤ mostBodies ⌝ }
+    ensures { λ r. ⌜ r ≡ entryPlace i ⌝ }
 {
-    wide(bank[3])
+    4 + ENTRY * i
 }
 
-// Where the CRC of a table of n entries stands.
-pub(crate) fn crc_place(n: usize) -> usize
-    requires { ⌜ n < 256 ⌝ }
-    ensures { λ r. ⌜ r ≡ 4 + entrySize * n ⌝ }
+// Where a table of n entries ends.
+pub(crate) fn end(n: usize) -> usize
+    requires { ⌜ n ≤ mostBodies ⌝ }
+    ensures { λ r. ⌜ r ≡ entryPlace n + 4 ⌝ }
 {
-    4 + ENTRY * n
+    place(n) + 4
 }
 
 // Entry i of the table.
 pub(crate) fn entry_at(bank: &[u8], i: usize) -> Entry
-    requires { ⌜ i < 256 ⌝ }
+    requires { ⌜ i ≤ mostBodies ⌝ }
     ensures { λ r. ⌜ IsEntry (now (bank .entry)) i r ⌝ }
 {
-    let at = 4 + ENTRY * i;
+    let at = place(i);
     let offset = wide4(buffer::number::number4(bank, at));
     let length = wide4(buffer::number::number4(bank, at + 4));
     let crc = buffer::number::number4(bank, at + 8);
     Entry {
-        offset,
-        length,
+        stretch: Stretch { offset, length },
         crc,
     }
 }
 
-// How many bodies the table lists; none where ID, edition or count is wrong.
+// How many bodies the table lists; none where ID, edition or count is wrong, or the table does not fit.
 pub(crate) fn listed(bank: &[u8]) -> usize
-    requires { ⌜ 4 ≤ length (now bank) ⌝ }
-    ensures { λ r. ⌜ IsListed (now (bank .entry)) r ⌝ }
+    requires { ⌜ wholeLength (length (now bank)) ≡ true ⌝ }
+    ensures { λ r. ⌜ BodyCount·Is (now (bank .entry)) r ⌝ }
 {
     if buffer::number::number2(bank, 0) != 0x0400 {
         return 0;
@@ -72,21 +74,21 @@ pub(crate) fn listed(bank: &[u8]) -> usize
     if bank[2] != 1 {
         return 0;
     }
-    let n = count(bank);
+    let n = wide(bank[3]);
     if n > MOST_BODIES {
+        return 0;
+    }
+    if bank.len() < end(n) {
         return 0;
     }
     n
 }
 
-// The table of n entries fits in the bank, and its CRC is that of the bytes before it.
+// The CRC of the table of n entries is that of the bytes before it.
 pub(crate) fn table_good(bank: &[u8], n: usize) -> bool
-    requires { ⌜ IsCount (now bank) n ⌝ }
+    requires { ⌜ HasTable (now bank) n ⌝ }
     ensures { λ r. ⌜ r ≡ tableGood (now (bank .entry)) ⌝ }
 {
-    let at = crc_place(n);
-    if bank.len() < at + 4 {
-        return false;
-    }
+    let at = place(n);
     crc::crc32(&bank[..at]) == buffer::number::number4(bank, at)
 }

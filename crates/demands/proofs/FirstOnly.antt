@@ -16,9 +16,10 @@ use Rattle.frame.specs.declared.read.Read.the-variants.{Write}
 use Rattle.frame.specs.declared.read.Footer.the-variants.{End, Continued}
 use Rattle.layout.specs.declared.Bank.the-variants.{Zero, One}
 use Rattle.layout.specs.Layout.{goodN, wholeLength, sectorOf}
-use Rattle.bank.specs.Sound.{headerGood, tableGood, laidOutGood, bodyGood, allGood, bodiesGood, blankGood, listedGood, soundOf, verdictOf}
+use Rattle.bank.specs.Sound.{headerGood, tableFits, tableGood, laidOutGood, bodyGood, allGood, bodiesGood, listedGood, contentsGood}
+use Rattle.bank.specs.Sound.{blankGood, soundOf, verdictOf}
 use Rattle.bank.specs.Stretch.{fitsAt, laidOut, blankOutside}
-use Rattle.bank.specs.Table.{entryAt, entriesFrom, restOf, stretchesOf}
+use Rattle.bank.specs.Table.{crcPlace, tableEnd, entryAt, entriesFrom, restOf, stretchesOf}
 use Rattle.sender.specs.declared.request.Request.the-variants.{WriteStart, WriteEnd}
 use Rattle.sender.specs.Packet.{sentOf, packetCount, packetSector, footerOf, packetFrame}
 use Rattle.sender.specs.Request.{requestFrame}
@@ -47,7 +48,9 @@ unfolding longer
 longer-size = refl
 
 longer-sound : (fixed : Fixed) → fitOf fixed longer ≡ true
-unfolding longer verdictOf wholeLength goodN soundOf headerGood tableGood listedGood laidOutGood bodiesGood blankGood bodyGood allGood laidOut fitsAt blankOutside entryAt entriesFrom restOf stretchesOf blankOf numberAt numberOf crcOf crcMore crcByte crcBits crcBit feed
+unfolding longer verdictOf wholeLength goodN soundOf contentsGood headerGood tableFits tableGood listedGood laidOutGood bodiesGood bodyGood allGood
+    blankGood laidOut fitsAt blankOutside crcPlace tableEnd entryAt entriesFrom restOf stretchesOf blankOf numberAt numberOf
+    crcOf crcMore crcByte crcBits crcBit feed
 longer-sound fixed = refl
 
 longer-packets : packetCount longer 2 ≡ 2

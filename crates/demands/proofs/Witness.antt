@@ -14,9 +14,10 @@ use Rattle.layout.specs.declared.Bank.the-variants.{Zero, One}
 use Rattle.layout.specs.Layout.{goodN, wholeLength, sectorOf}
 use Rattle.layout.specs.Pair.{banks, bankIn}
 use Rattle.decision.specs.declared.plan.Fixed.{Fixed}
-use Rattle.bank.specs.Sound.{headerGood, tableGood, laidOutGood, bodyGood, allGood, bodiesGood, blankGood, listedGood, soundOf, verdictOf}
+use Rattle.bank.specs.Sound.{headerGood, tableFits, tableGood, laidOutGood, bodyGood, allGood, bodiesGood, listedGood, contentsGood}
+use Rattle.bank.specs.Sound.{blankGood, soundOf, verdictOf}
 use Rattle.bank.specs.Stretch.{fitsAt, laidOut, blankOutside}
-use Rattle.bank.specs.Table.{entryAt, entriesFrom, restOf, stretchesOf}
+use Rattle.bank.specs.Table.{crcPlace, tableEnd, entryAt, entriesFrom, restOf, stretchesOf}
 use Rattle.sender.specs.declared.request.Request.the-variants.{WriteStart, WriteEnd}
 use Rattle.sender.specs.Packet.{sentOf, packetCount, packetSector, packetFrame}
 use Rattle.sender.specs.Request.{requestFrame}
@@ -39,7 +40,9 @@ unfolding image
 image-size = refl
 
 pub image-fit : (fixed : Fixed) → fitOf fixed image ≡ true
-unfolding image verdictOf wholeLength goodN soundOf headerGood tableGood listedGood laidOutGood bodiesGood blankGood bodyGood allGood laidOut fitsAt blankOutside entryAt entriesFrom restOf stretchesOf blankOf numberAt numberOf crcOf crcMore crcByte crcBits crcBit feed
+unfolding image verdictOf wholeLength goodN soundOf contentsGood headerGood tableFits tableGood listedGood laidOutGood bodiesGood bodyGood allGood
+    blankGood laidOut fitsAt blankOutside crcPlace tableEnd entryAt entriesFrom restOf stretchesOf blankOf numberAt numberOf
+    crcOf crcMore crcByte crcBits crcBit feed
 image-fit fixed = refl
 
 pub two-packets : packetCount image 2 ≡ 2

@@ -32,8 +32,9 @@ use Rattle.frame.specs.Write.{PutControl·Is, PutWrite·Is, PutError·Is}
 use Rattle.flash.specs.Bank.{WriteAt·Is, SectorBlank·Is, Sweep·Is}
 use Rattle.flash.specs.Sector.{Erase·Is, StoreWord·Is, WriteSector·Is}
 use Rattle.layout.specs.Layout.{GoodN·Is, BankSize·Is, Sectors·Is, BankNumber·Is, Other·Is, Start·Is, End·Is, SectorOffset·Is}
-use Rattle.bank.specs.Sound.{Check·Is, Body·Is}
 use Rattle.digits.specs.Digit.{Value·Is, Digit·Is}
+use Rattle.bank.specs.Listed.{BodyCount·Is, BehindTable·Is, StretchAt·Is}
+use Rattle.bank.specs.Sound.{Contents·Is, Check·Is, Body·Is}
 use Rattle.lines.specs.Places.{Ahead·Is, Reader·Is, Next·Is}
 use Rattle.hex.specs.Read.{KindNumber·Is}
 use Rattle.hex.specs.Read.{Read·Is as ReadText·Is}
@@ -99,6 +100,10 @@ pub record Determined : Type 0 where
   pub start : (bank : Bank) → Once (Start·Is bank)
   pub end : (bank : Bank) (n : ℕ) → Once (End·Is bank n)
   pub sector-offset : (k : ℕ) → Once (SectorOffset·Is k)
+  pub body-count : (bank : List ℕ) → Once (BodyCount·Is bank)
+  pub behind-table : (bank : List ℕ) → Once (BehindTable·Is bank)
+  pub stretch-at : (bank : List ℕ) (i : ℕ) → Once (StretchAt·Is bank i)
+  pub contents : (bank : List ℕ) → Once (Contents·Is bank)
   pub check : (bank : List ℕ) → Once (Check·Is bank)
   pub body : (bank : List ℕ) (i : ℕ) → Once (Body·Is bank i)
   -- hex text

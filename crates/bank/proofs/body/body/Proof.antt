@@ -1,8 +1,6 @@
 -- `bank::body::body` meets its contract: each way out is a case of the definition.
 -- Assumes nothing.
-use native.Mathlib.Omega.{arith}
-use Rattle.bank.proofs.Tables.{table-fits, entry-within}
-use Rattle.bank.proofs.Cases.{sound-parts, body-refused, body-unsound, body-past, body-is}
+use Rattle.bank.proofs.Cases.{body-refused, body-unsound, body-within, body-is}
 use borrow.Author.Needs.{needs}
 use Rattle.bank.proofs.body.body.Statement.{statement}
 use Rattle.bank.proofs.body.body.Tie as tie
@@ -25,14 +23,14 @@ slice-aggregate-result-2 c = search needs
 enum-told-3 : tie.Need-enum-told-3
 enum-told-3 c = search needs
 
-count-requires : tie.Need-count-requires
-count-requires c κs = omega (arith, table-fits _ (sound-parts _ _ (c .before .before .check .ensures) (c .enum-told3 .given .1) .table))
-
-entry-at-requires : tie.Need-entry-at-requires
-entry-at-requires c κs = search needs
+stretch-at-requires : tie.Need-stretch-at-requires
+stretch-at-requires c κs = search needs
 
 add-to : tie.Need-add-to
-add-to c = search needs
+add-to c =
+    let told = c .before in
+    let w = body-within _ _ (told .before .before .before .check .ensures) _ (told .before .enum-told3 .given .1) _ (told .stretch-at .ensures) in
+    search needs
 
 sub-result : tie.Need-sub-result
 sub-result c = search needs
@@ -41,10 +39,9 @@ part-result-start : tie.Need-part-result-start
 part-result-start c = search needs
 
 part-result-end : tie.Need-part-result-end
-part-result-end c = entry-within _ _ _ (c .before .entry-at .ensures .is) (omega (arith, (c .before .before .before .count .ensures .is))) (sound-parts _ _ (c .before .before .before .before .before .before .check .ensures) (c .before .before .before .before .enum-told3 .given .1) .laid)
-
-slice-aggregate-result-3 : tie.Need-slice-aggregate-result-3
-slice-aggregate-result-3 c = search needs
+part-result-end c =
+    let told = c .before in
+    body-within _ _ (told .before .before .before .check .ensures) _ (told .before .enum-told3 .given .1) _ (told .stretch-at .ensures)
 
 returns : tie.Need-returns
 returns c = body-refused _ _ (c .before .before .before .check .ensures) _ (c .before .enum-told .given .1)
@@ -53,10 +50,9 @@ returns-2 : tie.Need-returns-2
 returns-2 c = body-unsound _ _ (c .before .before .before .check .ensures) _ (c .before .enum-told2 .given .1)
 
 returns-3 : tie.Need-returns-3
-returns-3 c = body-is _ _ (c .before .before .before .before .before .before .before .check .ensures) _ (c .before .before .before .before .before .enum-told3 .given .1) (omega (arith, (c .before .before .before .before .count .ensures .is))) _ (c .before .before .entry-at .ensures .is)
-
-returns-4 : tie.Need-returns-4
-returns-4 c = body-past _ _ (c .before .before .before .before .before .check .ensures) _ (c .before .before .before .enum-told3 .given .1) (omega (arith, (c .before .before .count .ensures .is)))
+returns-3 c =
+    let told = c .before .before in
+    body-is _ _ (told .before .before .before .check .ensures) _ (told .before .enum-told3 .given .1) _ (told .stretch-at .ensures)
 
 pub body-spec : {M : Type 1} → statement M
 body-spec =
@@ -68,14 +64,11 @@ body-spec =
     enum-told-2
     slice-aggregate-result-2
     enum-told-3
-    count-requires
-    entry-at-requires
+    stretch-at-requires
     add-to
     sub-result
     part-result-start
     part-result-end
-    slice-aggregate-result-3
     returns
     returns-2
-    returns-3
-    returns-4)
+    returns-3)
