@@ -66,7 +66,6 @@ determined =
       asked = λ datagram. once _;
       is-closed = λ state. once _;
       fits-state = λ state request. once _;
-      own-response = λ command result. once _;
       declined = λ request result. once _;
       refusal-number = λ why. once _;
       say = λ answer before x y u v p q. (p .said ∙ sym (q .said), p .told ∙ sym (q .told));

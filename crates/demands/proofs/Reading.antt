@@ -9,7 +9,6 @@ use Prim.Native.Nat.{ℕ, suc, _^_, _≤_, _<_}
 use native.Mathlib.Omega.{arith}
 use lib.Dec.{eqb}
 use lib.ListN.{length, take}
-use borrow.Author.Tests.{leb-true}
 use Rattle.buffer.specs.Compare.{sameOf, blankOf}
 use Rattle.buffer.specs.Number.{bytesOf, byteAt}
 use Rattle.buffer.specs.Place.{frontOf}
@@ -18,94 +17,95 @@ use Rattle.buffer.proofs.Numbers.{number-two}
 use Rattle.crc.specs.Crc.{crcOf}
 use Rattle.crc.proofs.Laws.{of-lt}
 use Rattle.frame.specs.Frame.{controlFrame, writeFrame, frameError}
-use Rattle.frame.specs.Read.{readOf, bytesIn}
+use Rattle.frame.specs.Read.{readOf, dataIn}
 use Rattle.frame.specs.declared.read.Footer.{Footer}
 use Rattle.frame.specs.declared.read.Footer.the-variants.{End}
 use Rattle.frame.specs.declared.read.Read.{Read}
 use Rattle.frame.specs.declared.read.Read.the-variants.{Fault, Control, Write}
 use Rattle.frame.proofs.RoundTrip.{error-frame}
+use Rattle.frame.proofs.Writing.{length-error}
 use Rattle.frame.proofs.Told.{Told, told}
 use Rattle.flash.specs.Sector.{paddedOf}
 use Rattle.layout.specs.declared.Bank.{Bank}
-use Rattle.layout.specs.Layout.{goodN, bankNumber, otherOf, sectorOf}
-use Rattle.response.specs.declared.read.Coded.the-variants.{Answers}
-use Rattle.response.specs.declared.read.Kind.{Kind}
-use Rattle.response.specs.declared.read.Kind.the-variants.{ModeStart, BankInfo, Version, WriteStart, Packet, WriteEnd, ModeEnd, Error}
+use Rattle.layout.specs.Layout.{goodN, bankSize, bankNumber, otherOf, sectorOf}
+use Rattle.layout.specs.Pair.{bankIn}
+use Rattle.commands.specs.declared.Command.{Command}
+use Rattle.commands.specs.declared.Command.the-variants.{ModeStart, BankInfo, VersionInfo, WriteStart, WriteEnd, ModeEnd}
+use Rattle.commands.specs.Command.{responseCode as codeFor}
 use Rattle.response.specs.declared.read.Response.{Response}
-use Rattle.response.specs.declared.read.Response.the-variants.{Plain, Target, Firmware, Written}
-use Rattle.response.specs.Response.{kindOf, mayCarry, addedOf, repeatsOf, storedOf, crcFits, responseOf, responseNumber}
-use Rattle.response.proofs.Answers.{plain-back, bank-back, version-back, written-back}
+use Rattle.response.specs.declared.read.Response.the-variants.{Plain, Error, Target, Firmware, Written}
+use Rattle.response.specs.Response.{mayCarry, addedOf, repeatsOf, storedOf, crcFits, responseOf}
+use Rattle.response.specs.Said.{responseSaid}
+use Rattle.response.proofs.Answers.{plain-back, error-back, bank-back, version-back, written-back}
 use Rattle.exchange.specs.declared.answer.Answer.the-variants.{BankIs, VersionIs}
 use Rattle.exchange.specs.Answer.{versionBytes, writtenBytes, answerBytes}
 use Rattle.exchange.specs.State.{isClosed}
 use Rattle.client.specs.Perform.{Accepted, storeResult}
 use Rattle.decision.specs.Plan.{lentGood}
-use Rattle.demands.proofs.Courses.{accepted}
+use Rattle.calls.proofs.Courses.{accepted}
 use Rattle.exchange.proofs.Saying.{answer-short}
-use Rattle.decision.proofs.Planning.{lent, lent-buffer}
-use Rattle.demands.specs.Board.{Board, Call, Datagram, Outcome, said, lentTarget, stepMachine}
+use Rattle.decision.proofs.Planning.{lent}
+use Rattle.demands.specs.Board.{Board, Call, Datagram, Outcome, said, lentOf, lentTarget, stepMachine}
 use Rattle.demands.specs.Demand1.{Row, firstOf, responseCode, isFault, refused, answered, afterFrame, callRows}
 use Rattle.demands.specs.EndToEnd.{Readable, MeetsRead}
-use Rattle.demands.specs.Responses.{codeOf, spelled}
+use Rattle.demands.specs.Responses.{answerCode, spelled, numberIn}
 use Rattle.demands.proofs.Demand1.{table}
 use Rattle.demands.proofs.Demand2.{said-back, control-short, written-short}
 use Rattle.demands.proofs.Rows.{given, comes}
 
 -- ---- what is read of each kind of answer
 
-back : (answer : List ℕ) (r : Response) → r ≡ responseOf answer → spelled r ≡ answer → responseNumber r ≡ 0 → Readable answer
-back answer r e s n = record { number = sym (ap responseNumber e) ∙ n; whole = sym (ap spelled e) ∙ s }
+back : (answer : List ℕ) (r : Response) → r ≡ responseOf answer → spelled r ≡ answer → numberIn (responseSaid r) ≡ 0 → Readable answer
+back answer r e s n = record { unnumbered = sym (ap (λ (x : Response). numberIn (responseSaid x)) e) ∙ n; whole = sym (ap spelled e) ∙ s }
 
--- one byte behind the code
-plain : (code : ℕ) (kind : Kind) (result : ℕ) → kindOf code ≡ Answers kind → codeOf kind ≡ code → mayCarry kind result ≡ true → addedOf kind result ≡ 0
-    → Readable (controlFrame code (result ∷ []))
-plain code kind result k c m z =
-    back (controlFrame code (result ∷ [])) (Plain kind result) (plain-back code kind result k m z) (ap (λ (x : ℕ). controlFrame x (result ∷ [])) c) refl
+-- one byte behind a command's code
+plain : (command : Command) (result : ℕ) → answerCode command ≡ codeFor command → mayCarry false result ≡ true → addedOf command result ≡ 0
+    → Readable (controlFrame (codeFor command) (result ∷ []))
+plain command result c m z =
+    back (controlFrame (codeFor command) (result ∷ [])) (Plain command result) (plain-back command result m z)
+    (ap (λ (x : ℕ). controlFrame x (result ∷ [])) c) refl
 
-error-readable : (result : ℕ) → mayCarry Error result ≡ true → addedOf Error result ≡ 0 → Readable (controlFrame 0xE0 (result ∷ []))
-unfolding kindOf
-error-readable result m z = plain 0xE0 Error result refl refl m z
+error-readable : (result : ℕ) → mayCarry true result ≡ true → Readable (controlFrame 0xE0 (result ∷ []))
+error-readable result m = back (controlFrame 0xE0 (result ∷ [])) (Error result) (error-back result m) refl refl
 
 -- a refusal in the command's own response
-declined : (code result : ℕ) → ((kind : Kind) → mayCarry kind result ≡ true) → ((kind : Kind) → addedOf kind result ≡ 0) → Readable (controlFrame (responseCode code) (result ∷ []))
-unfolding kindOf
+declined : (code result : ℕ) → mayCarry false result ≡ true → ((command : Command) → addedOf command result ≡ 0) → Readable (controlFrame (responseCode code) (result ∷ []))
 declined code result m z =
     let P : ℕ → Type 0 = λ x. Readable (controlFrame x (result ∷ [])) in
-    split P (eqb code 0x61) (λ _. plain 0x71 ModeStart result refl refl (m ModeStart) (z ModeStart))
-    (λ _. split P (eqb code 0x62) (λ _. plain 0x72 BankInfo result refl refl (m BankInfo) (z BankInfo))
-    (λ _. split P (eqb code 0x68) (λ _. plain 0x78 Version result refl refl (m Version) (z Version))
-    (λ _. split P (eqb code 0x40) (λ _. plain 0x70 WriteStart result refl refl (m WriteStart) (z WriteStart))
-    (λ _. split P (eqb code 0x45) (λ _. plain 0x75 WriteEnd result refl refl (m WriteEnd) (z WriteEnd))
-    (λ _. plain 0x74 ModeEnd result refl refl (m ModeEnd) (z ModeEnd))))))
+    split P (eqb code 0x61) (λ _. plain ModeStart result refl m (z ModeStart))
+    (λ _. split P (eqb code 0x62) (λ _. plain BankInfo result refl m (z BankInfo))
+    (λ _. split P (eqb code 0x68) (λ _. plain VersionInfo result refl m (z VersionInfo))
+    (λ _. split P (eqb code 0x40) (λ _. plain WriteStart result refl m (z WriteStart))
+    (λ _. split P (eqb code 0x45) (λ _. plain WriteEnd result refl m (z WriteEnd)) (λ _. plain ModeEnd result refl m (z ModeEnd))))))
 
 -- 05 and 15 may come in any response, and add nothing
-may-05 : (kind : Kind) → mayCarry kind 0x05 ≡ true
+may-05 : (error : Bool) → mayCarry error 0x05 ≡ true
 unfolding mayCarry
-may-05 kind = refl
+may-05 error = refl
 
-may-15 : (kind : Kind) → mayCarry kind 0x15 ≡ true
+may-15 : (error : Bool) → mayCarry error 0x15 ≡ true
 unfolding mayCarry
-may-15 kind = refl
+may-15 error = refl
 
-adds-05 : (kind : Kind) → addedOf kind 0x05 ≡ 0
+adds-05 : (command : Command) → addedOf command 0x05 ≡ 0
 unfolding addedOf
-adds-05 kind = refl
+adds-05 command = refl
 
-adds-15 : (kind : Kind) → addedOf kind 0x15 ≡ 0
+adds-15 : (command : Command) → addedOf command 0x15 ≡ 0
 unfolding addedOf
-adds-15 kind = refl
+adds-15 command = refl
 
 -- the write responses
-written : (sector result write crc : ℕ) → sector < 65536 → crc < 2 ^ 32 → mayCarry Packet result ≡ true → mayCarry Packet write ≡ true
+written : (sector result write crc : ℕ) → sector < 65536 → crc < 2 ^ 32 → mayCarry false result ≡ true → mayCarry false write ≡ true
     → repeatsOf result write ≡ true → crcFits result write crc ≡ true → Readable (writeFrame sector (writtenBytes result write crc) End)
 written sector result write crc s c m w r f =
     back (writeFrame sector (writtenBytes result write crc) End) (Written sector result write crc) (written-back sector result write crc s c m w r f) refl refl
 
 -- refused, worn, stored
-packet-declined : (sector result : ℕ) → sector < 65536 → ((kind : Kind) → mayCarry kind result ≡ true) → repeatsOf result result ≡ true
+packet-declined : (sector result : ℕ) → sector < 65536 → mayCarry false result ≡ true → repeatsOf result result ≡ true
     → Readable (writeFrame sector (writtenBytes result result 0) End)
 unfolding crcFits
-packet-declined sector result s m r = written sector result result 0 s (omega arith) (m Packet) (m Packet) r refl
+packet-declined sector result s m r = written sector result result 0 s (omega arith) m m r refl
 
 packet-worn : (sector : ℕ) → sector < 65536 → Readable (writeFrame sector (writtenBytes 0x06 0x1C 0) End)
 unfolding mayCarry repeatsOf crcFits
@@ -175,31 +175,31 @@ version-short major minor revision = answer-short (VersionIs major minor revisio
 
 -- responses with the results that they have in the table
 started : Readable (controlFrame 0x71 (0x06 ∷ []))
-unfolding kindOf mayCarry addedOf
-started = plain 0x71 ModeStart 0x06 refl refl refl refl
+unfolding mayCarry addedOf
+started = plain ModeStart 0x06 refl refl refl
 
 begun : Readable (controlFrame 0x70 (0x06 ∷ []))
-unfolding kindOf mayCarry addedOf
-begun = plain 0x70 WriteStart 0x06 refl refl refl refl
+unfolding mayCarry addedOf
+begun = plain WriteStart 0x06 refl refl refl
 
 mode-ended : Readable (controlFrame 0x74 (0x06 ∷ []))
-unfolding kindOf mayCarry addedOf
-mode-ended = plain 0x74 ModeEnd 0x06 refl refl refl refl
+unfolding mayCarry addedOf
+mode-ended = plain ModeEnd 0x06 refl refl refl
 
 write-ended : (result : ℕ) → (result ≡ 0x06) ⊎ ((result ≡ 0x1C) ⊎ (result ≡ 0x1E)) → Readable (controlFrame 0x75 (result ∷ []))
-unfolding kindOf mayCarry addedOf
-write-ended result (inl e) = rw e (plain 0x75 WriteEnd 0x06 refl refl refl refl)
-write-ended result (inr (inl e)) = rw e (plain 0x75 WriteEnd 0x1C refl refl refl refl)
-write-ended result (inr (inr e)) = rw e (plain 0x75 WriteEnd 0x1E refl refl refl refl)
+unfolding mayCarry addedOf
+write-ended result (inl e) = rw e (plain WriteEnd 0x06 refl refl refl)
+write-ended result (inr (inl e)) = rw e (plain WriteEnd 0x1C refl refl refl)
+write-ended result (inr (inr e)) = rw e (plain WriteEnd 0x1E refl refl refl)
 
 errors : Readable (controlFrame 0xE0 (0x05 ∷ []))
-errors = error-readable 0x05 (may-05 Error) (adds-05 Error)
+errors = error-readable 0x05 (may-05 true)
 
 fault-readable : Readable frameError
-unfolding mayCarry addedOf
-fault-readable = subst Readable (sym error-frame) (error-readable 0x07 refl refl)
+unfolding mayCarry
+fault-readable = subst Readable (sym error-frame) (error-readable 0x07 refl)
 
-module _ (b : Board) (call : Call) (bytes : (i : ℕ) → byteAt (call .datagram) i < 256) (revision : b .client .revision < 2 ^ 32) (room : 14 ≤ length (call .buffer)) where
+module _ (b : Board) (call : Call) (bytes : (i : ℕ) → byteAt (call .datagram) i < 256) (revision : b .client .fixed .revision < 2 ^ 32) (room : 14 ≤ length (call .buffer)) where
   abbrev Back : Outcome → Type 0
   Back o = Readable (said o)
 
@@ -209,21 +209,21 @@ module _ (b : Board) (call : Call) (bytes : (i : ℕ) → byteAt (call .datagram
   of-control : (code n : ℕ) → Every Back (afterFrame b call (Control code n))
   of-control code n =
       every (λ _. says (controlFrame 0xE0 (0x05 ∷ [])) (control-short 0xE0 0x05) errors)
-      (every (λ _. says (controlFrame (responseCode code) (0x05 ∷ [])) (control-short (responseCode code) 0x05) (declined code 0x05 may-05 adds-05))
-      (every (λ _. says (controlFrame (responseCode code) (0x15 ∷ [])) (control-short (responseCode code) 0x15) (declined code 0x15 may-15 adds-15))
-      (every (λ _. says (controlFrame (responseCode code) (0x05 ∷ [])) (control-short (responseCode code) 0x05) (declined code 0x05 may-05 adds-05))
+      (every (λ _. says (controlFrame (responseCode code) (0x05 ∷ [])) (control-short (responseCode code) 0x05) (declined code 0x05 (may-05 false) adds-05))
+      (every (λ _. says (controlFrame (responseCode code) (0x15 ∷ [])) (control-short (responseCode code) 0x15) (declined code 0x15 (may-15 false) adds-15))
+      (every (λ _. says (controlFrame (responseCode code) (0x05 ∷ [])) (control-short (responseCode code) 0x05) (declined code 0x05 (may-05 false) adds-05))
       (never refl
       (every (λ _. says (controlFrame 0x75 (0x1C ∷ [])) (control-short 0x75 0x1C) (write-ended 0x1C (inr (inl refl))))
       (never refl
       (every (λ _. says (controlFrame 0x71 (0x06 ∷ [])) (control-short 0x71 0x06) started)
       (every
       (λ _.
-      says (controlFrame 0x72 (0x06 ∷ bankNumber (otherOf (b .client .running)) ∷ [])) (bank-short (otherOf (b .client .running)))
-      (bank-readable (otherOf (b .client .running))))
+      says (controlFrame 0x72 (0x06 ∷ bankNumber (otherOf (b .client .fixed .running)) ∷ [])) (bank-short (otherOf (b .client .fixed .running)))
+      (bank-readable (otherOf (b .client .fixed .running))))
       (every
       (λ _.
-      says (controlFrame 0x78 (versionBytes (b .client .major) (b .client .minor) (b .client .revision))) (version-short (b .client .major) (b .client .minor) (b .client .revision))
-      (version-readable (b .client .major) (b .client .minor) (b .client .revision) revision))
+      says (controlFrame 0x78 (versionBytes (b .client .fixed .major) (b .client .fixed .minor) (b .client .fixed .revision))) (version-short (b .client .fixed .major) (b .client .fixed .minor) (b .client .fixed .revision))
+      (version-readable (b .client .fixed .major) (b .client .fixed .minor) (b .client .fixed .revision) revision))
       (every (λ _. says (controlFrame 0x70 (0x06 ∷ [])) (control-short 0x70 0x06) begun)
       (every (λ _. says (controlFrame 0x74 (0x06 ∷ [])) (control-short 0x74 0x06) mode-ended)
       (every (λ _. says (controlFrame 0x75 (0x06 ∷ [])) (control-short 0x75 0x06) (write-ended 0x06 (inl refl)))
@@ -232,13 +232,13 @@ module _ (b : Board) (call : Call) (bytes : (i : ℕ) → byteAt (call .datagram
 
   of-packet : (sector m : ℕ) (footer : Footer) → sector < 65536 → Every Back (afterFrame b call (Write sector m footer))
   of-packet sector m footer s =
-      let data-bytes : List ℕ = bytesIn (call .datagram) m in
+      let data-bytes : List ℕ = dataIn (call .datagram) in
       let already : Bool = sameOf (sectorOf (lentTarget b call) sector) (paddedOf data-bytes) in
       let result : ℕ = storeResult (blankOf data-bytes) already in
       never refl
       (never refl
-      (every (λ _. says (writeFrame sector (writtenBytes 0x15 0x15 0) End) (written-short sector 0x15 0x15 0) (packet-declined sector 0x15 s may-15 repeats-15))
-      (every (λ _. says (writeFrame sector (writtenBytes 0x05 0x05 0) End) (written-short sector 0x05 0x05 0) (packet-declined sector 0x05 s may-05 repeats-05))
+      (every (λ _. says (writeFrame sector (writtenBytes 0x15 0x15 0) End) (written-short sector 0x15 0x15 0) (packet-declined sector 0x15 s (may-15 false) repeats-15))
+      (every (λ _. says (writeFrame sector (writtenBytes 0x05 0x05 0) End) (written-short sector 0x05 0x05 0) (packet-declined sector 0x05 s (may-05 false) repeats-05))
       (every (λ _. says (writeFrame sector (writtenBytes 0x06 0x1C 0) End) (written-short sector 0x06 0x1C 0) (packet-worn sector s))
       (never refl
       (every
@@ -255,30 +255,39 @@ module _ (b : Board) (call : Call) (bytes : (i : ℕ) → byteAt (call .datagram
 -- ---- a call that is answered
 
 pub answers-read : MeetsRead stepMachine
-answers-read b call bytes revision zero-number = by (goodN (b .client .n)) lengths (isClosed (b .client .state)) (isFault (readOf (call .datagram))) refl refl refl refl
+answers-read b call bytes revision zero-number =
+    by (goodN n) runs lengths (isClosed (b .client .state)) (isFault (readOf (call .datagram))) refl refl refl refl refl
   where
+    n : ℕ
+    n = b .client .fixed .n
+
+    runs : Bool
+    runs = eqb (length (bankIn (b .client .fixed .running) (lentOf (call .lent) (b .pair)))) (bankSize (b .client .fixed .n))
+
     lengths : Bool
-    lengths = lentGood (b .client .n) (length (take (call .lent0) (b .bank0))) (length (take (call .lent1) (b .bank1))) (length (call .marks)) (length (call .address)) (length (call .buffer))
+    lengths = lentGood (b .client .fixed .n) (length (lentTarget b call)) (length (call .marks)) (length (call .address)) (length (call .buffer))
 
     roomy : lengths ≡ true → 14 ≤ length (call .buffer)
     roomy e =
-        let l = lent (b .client .n) _ _ (length (call .marks)) (length (call .address)) (length (call .buffer)) e in
-        leb-true 14 (length (call .buffer))
-        (lent-buffer (b .client .n) _ _ (length (call .marks)) (length (call .address)) (length (call .buffer)) (l .zero-whole) (l .one-whole) (l .marked) (l .addressed) ∙ e)
+        lent (b .client .fixed .n) (length (lentTarget b call)) (length (call .marks)) (length (call .address)) (length (call .buffer)) e .roomy
 
     numbered : (k : ℕ) → stepMachine b (Datagram call) .number ≡ suc k → Readable (said (stepMachine b (Datagram call)))
     numbered k e = absurd (omega (arith, sym e ∙ zero-number))
 
-    by : (g l c f : Bool) → goodN (b .client .n) ≡ g → lengths ≡ l → isClosed (b .client .state) ≡ c → isFault (readOf (call .datagram)) ≡ f
-        → Readable (said (stepMachine b (Datagram call)))
-    by false l c f eg el ec ef = numbered 2 (ap (λ (o : Outcome). o .number) (comes b (Datagram call) (refused b (call .buffer) 3) (rw eg)))
-    by true false c f eg el ec ef = numbered 1 (ap (λ (o : Outcome). o .number) (comes b (Datagram call) (refused b (call .buffer) 2) (rw (eg, el))))
-    by true true true f eg el ec ef = numbered 0 (ap (λ (o : Outcome). o .number) (comes b (Datagram call) (refused b (call .buffer) 1) (rw (eg, el, ec))))
-    by true true false true eg el ec ef =
-        subst (λ (o : Outcome). Readable (said o)) (sym (comes b (Datagram call) (answered b call frameError) (rw (eg, el, ec, ef))))
-        (subst Readable (sym (said-back call frameError (omega arith) (roomy el))) fault-readable)
-    by true true false false eg el ec ef =
-        let rest : firstOf (callRows b call) ≡ firstOf (afterFrame b call (readOf (call .datagram))) = rw (eg, el, ec, ef) in
+    refuses : (k : ℕ) → firstOf (callRows b call) ≡ some (refused b (call .buffer) (suc k)) → Readable (said (stepMachine b (Datagram call)))
+    refuses k e = numbered k (ap (λ (o : Outcome). o .number) (comes b (Datagram call) (refused b (call .buffer) (suc k)) e))
+
+    by : (g u l c f : Bool) → goodN (b .client .fixed .n) ≡ g → runs ≡ u → lengths ≡ l → isClosed (b .client .state) ≡ c
+        → isFault (readOf (call .datagram)) ≡ f → Readable (said (stepMachine b (Datagram call)))
+    by false u l c f eg eu el ec ef = refuses 2 (rw eg)
+    by true false l c f eg eu el ec ef = refuses 1 (rw (eg, eu))
+    by true true false c f eg eu el ec ef = refuses 1 (rw (eg, eu, el))
+    by true true true true f eg eu el ec ef = refuses 0 (rw (eg, eu, el, ec))
+    by true true true false true eg eu el ec ef =
+        subst (λ (o : Outcome). Readable (said o)) (sym (comes b (Datagram call) (answered b call frameError) (rw (eg, eu, el, ec, ef))))
+        (subst Readable (sym (said-back call frameError (omega (arith, length-error)) (roomy el))) fault-readable)
+    by true true true false false eg eu el ec ef =
+        let rest : firstOf (callRows b call) ≡ firstOf (afterFrame b call (readOf (call .datagram))) = rw (eg, eu, el, ec, ef) in
         first-of (λ (o : Outcome). Readable (said o)) (afterFrame b call (readOf (call .datagram))) (stepMachine b (Datagram call))
         (of-read b call bytes revision (roomy el) (readOf (call .datagram)) refl ef)
         (sym rest ∙ table b (Datagram call))

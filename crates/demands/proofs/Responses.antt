@@ -1,7 +1,7 @@
 -- The sender's reader of responses is as asked.
 -- Assumes nothing.
 use mathlib.Core.Path.{_≡_, refl, sym, ap, ap₂, subst, _∙_}
-use mathlib.Core.Bool.{Bool, _&&_, cond}
+use mathlib.Core.Bool.{Bool, true, false, _&&_, cond}
 use mathlib.Core.List.{List, [], _∷_, _++_}
 use Prim.Native.Nat.{ℕ, zero, suc, _+_, _/_, _%_, _≤_, _<_}
 use native.Mathlib.Decide.{decLt}
@@ -15,22 +15,28 @@ use Rattle.buffer.proofs.Bools.{split}
 use Rattle.buffer.proofs.Numbers.{number-two, number-four, bytes-two, bytes-four}
 use Rattle.buffer.proofs.Parts.{part-next}
 use Rattle.frame.specs.Frame.{controlFrame, writeFrame}
-use Rattle.frame.specs.Read.{parametersOf, readOf, bytesIn}
+use Rattle.frame.specs.Read.{readOf, parametersIn, dataIn}
 use Rattle.frame.specs.declared.read.Footer.the-variants.{End, Continued}
 use Rattle.frame.specs.declared.read.Read.{Read}
 use Rattle.frame.specs.declared.read.Read.the-variants.{Fault, Control, Write}
+use Rattle.frame.proofs.Parts.{parameters-lie, data-lie}
 use Rattle.frame.proofs.RoundTrip.{control-only, write-only}
 use Rattle.frame.proofs.Told.{Told, told}
-use Rattle.response.specs.declared.read.Coded.{Coded}
-use Rattle.response.specs.declared.read.Coded.the-variants.{Unknown, Answers}
-use Rattle.response.specs.declared.read.Kind.{Kind}
-use Rattle.response.specs.declared.read.Kind.the-variants.{ModeStart, BankInfo, Version, WriteStart, Packet, WriteEnd, ModeEnd, Error}
+use Rattle.layout.specs.Said.{number, result}
+use Rattle.commands.specs.declared.Coded.{Coded}
+use Rattle.commands.specs.declared.Coded.the-variants.{Unknown, Is}
+use Rattle.commands.specs.declared.Command.{Command}
+use Rattle.commands.specs.declared.Command.the-variants.{ModeStart, BankInfo, VersionInfo, WriteStart, WriteEnd, ModeEnd}
+use Rattle.commands.specs.Command.{responseCode, addedBytes, answeredBy}
+use Rattle.commands.proofs.Codes.{response-back}
 use Rattle.response.specs.declared.read.Response.{Response}
-use Rattle.response.specs.declared.read.Response.the-variants.{Unreadable, Plain, Target, Firmware, Written}
-use Rattle.response.specs.Response.{kindOf, mayCarry, addsOf, addedOf, targetOf, acceptedOf, answerOf, repeatsOf, crcFits, writeOf, responseIn, responseOf, responseNumber}
+use Rattle.response.specs.declared.read.Response.the-variants.{Unreadable, Plain, Error, Target, Firmware, Written}
+use Rattle.response.specs.Response.{
+  mayCarry, addedOf, targetOf, acceptedOf, ownOf, errorOf, answerOf, controlOf, repeatsOf, crcFits, writeOf, responseIn, responseOf}
+use Rattle.response.specs.Said.{responseSaid, resultIn}
 use Rattle.response.proofs.Responses.{adds-none, adds-some}
-use Rattle.response.proofs.Six.{six-exactly}
-use Rattle.demands.specs.Responses.{codeOf, spelled, MeetsReader}
+use Rattle.response.proofs.Six.{response-says}
+use Rattle.demands.specs.Responses.{answerCode, spelled, numberIn, MeetsReader}
 
 -- ---- the bytes of a short list
 
@@ -77,31 +83,24 @@ spelt-all l n e = spelt-part l 0 n (omega arith) ∙ take-all n l (omega arith)
 
 -- what was read gives this back, if it was read
 abbrev Gives : List ℕ → Response → Type 0
-Gives d r = responseNumber r ≡ 0 → spelled r ≡ d
+Gives d r = numberIn (responseSaid r) ≡ 0 → spelled r ≡ d
 
 gives-six : (d : List ℕ) → Gives d Unreadable
 gives-six d e = absurd (omega arith)
 
--- a code is that of its kind
-abbrev Coding : ℕ → Coded → Type 0
-Coding code Unknown = Unit {0}
-Coding code (Answers kind) = codeOf kind ≡ code
-
-coding : (code : ℕ) → Coding code (kindOf code)
-unfolding kindOf
-coding code =
-    split (Coding code) (eqb code 0x71) (λ e. sym (eqb-true code 0x71 e))
-    (λ _. split (Coding code) (eqb code 0x72) (λ e. sym (eqb-true code 0x72 e))
-    (λ _. split (Coding code) (eqb code 0x78) (λ e. sym (eqb-true code 0x78 e))
-    (λ _. split (Coding code) (eqb code 0x70) (λ e. sym (eqb-true code 0x70 e))
-    (λ _. split (Coding code) (eqb code 0x75) (λ e. sym (eqb-true code 0x75 e))
-    (λ _. split (Coding code) (eqb code 0x74) (λ e. sym (eqb-true code 0x74 e))
-    (λ _. split (Coding code) (eqb code 0xE0) (λ e. sym (eqb-true code 0xE0 e)) (λ _. tt)))))))
+-- the table, as it is told here
+told-again : (command : Command) → answerCode command ≡ responseCode command
+told-again ModeStart = refl
+told-again BankInfo = refl
+told-again VersionInfo = refl
+told-again WriteStart = refl
+told-again WriteEnd = refl
+told-again ModeEnd = refl
 
 module _ (code : ℕ) (ps : List ℕ) (small : Bytes ps) where
-  -- a kind and a result alone
-  plain : (kind : Kind) (result : ℕ) → codeOf kind ≡ code → byteAt ps 0 ≡ result → length ps ≡ 1 → Gives (controlFrame code ps) (Plain kind result)
-  plain kind result c r l e = ap₂ controlFrame c (ap (λ (x : ℕ). x ∷ []) (sym r) ∙ spelt-all ps 1 l)
+  -- a command and a result alone
+  plain : (command : Command) (r : ℕ) → answerCode command ≡ code → byteAt ps 0 ≡ r → length ps ≡ 1 → Gives (controlFrame code ps) (Plain command r)
+  plain command r c z l e = ap₂ controlFrame c (ap (λ (x : ℕ). x ∷ []) (sym z) ∙ spelt-all ps 1 l)
 
   bank : 0x72 ≡ code → byteAt ps 0 ≡ 0x06 → length ps ≡ 2 → Gives (controlFrame code ps) (targetOf (byteAt ps 1))
   unfolding targetOf
@@ -122,31 +121,45 @@ module _ (code : ℕ) (ps : List ℕ) (small : Bytes ps) where
       ∙ ap₂ (λ (x y : List ℕ). byteAt ps 0 ∷ x ++ byteAt ps 3 ∷ byteAt ps 4 ∷ y) id revision
       ∙ spelt-all ps 9 l)
 
-  accepted : (kind : Kind) → codeOf kind ≡ code → byteAt ps 0 ≡ 0x06 → length ps ≡ addsOf kind + 1 → Gives (controlFrame code ps) (acceptedOf kind ps)
+  accepted : (command : Command) → answerCode command ≡ code → byteAt ps 0 ≡ 0x06 → length ps ≡ addedBytes command + 1
+      → Gives (controlFrame code ps) (acceptedOf command ps)
   accepted ModeStart c r l = plain ModeStart 0x06 c r l
   accepted BankInfo c r l = bank c r l
-  accepted Version c r l = version c r l
+  accepted VersionInfo c r l = version c r l
   accepted WriteStart c r l = plain WriteStart 0x06 c r l
-  accepted Packet c r l = plain Packet 0x06 c r l
   accepted WriteEnd c r l = plain WriteEnd 0x06 c r l
   accepted ModeEnd c r l = plain ModeEnd 0x06 c r l
-  accepted Error c r l = plain Error 0x06 c r l
 
-  coded : (c : Coded) → Coding code c → Gives (controlFrame code ps) (answerOf c ps)
-  unfolding answerOf
+  abbrev P : Response → Type 0
+  P = Gives (controlFrame code ps)
+
+  coded : (coding : Coded) → ((command : Command) → coding ≡ Is command → answerCode command ≡ code) → P (answerOf coding ps)
+  unfolding ownOf
   coded Unknown c = gives-six (controlFrame code ps)
-  coded (Answers kind) c =
-      let result : ℕ = byteAt ps 0 in
-      let P : Response → Type 0 = Gives (controlFrame code ps) in
-      split P (mayCarry kind result)
-      (λ _. split P (eqb (length ps) (addedOf kind result + 1))
+  coded (Is command) c =
+      let r : ℕ = byteAt ps 0 in
+      split P (mayCarry false r)
+      (λ _. split P (eqb (length ps) (addedOf command r + 1))
       (λ l.
-      let long : length ps ≡ addedOf kind result + 1 = eqb-true (length ps) (addedOf kind result + 1) l in
-      split P (eqb result 0x06)
-      (λ t. accepted kind c (eqb-true result 0x06 t) (omega (arith, adds-some kind result t)))
-      (λ f. plain kind result c refl (omega (arith, adds-none kind result f))))
+      let long : length ps ≡ addedOf command r + 1 = eqb-true (length ps) (addedOf command r + 1) l in
+      split P (eqb r 0x06)
+      (λ t. accepted command (c command refl) (eqb-true r 0x06 t) (omega (arith, adds-some command r t)))
+      (λ f. plain command r (c command refl) refl (omega (arith, adds-none command r f))))
       (λ _. gives-six (controlFrame code ps)))
       (λ _. gives-six (controlFrame code ps))
+
+  error : 0xE0 ≡ code → P (errorOf ps)
+  unfolding errorOf
+  error c =
+      split P (mayCarry true (byteAt ps 0))
+      (λ _. split P (eqb (length ps) 1) (λ l e. ap₂ controlFrame c (spelt-all ps 1 (eqb-true (length ps) 1 l))) (λ _. gives-six (controlFrame code ps)))
+      (λ _. gives-six (controlFrame code ps))
+
+  any : P (controlOf code ps)
+  unfolding controlOf
+  any =
+      split P (eqb code 0xE0) (λ e. error (sym (eqb-true code 0xE0 e)))
+      (λ _. coded (answeredBy code) (λ command e. told-again command ∙ sym (response-back code command (sym e))))
 
 -- ---- a write response
 
@@ -161,7 +174,7 @@ module _ (sector : ℕ) (bytes : List ℕ) (small : Bytes bytes) where
       split P (eqb (length bytes) 6)
       (λ l.
       let long : length bytes ≡ 6 = eqb-true (length bytes) 6 l in
-      split P (mayCarry Packet response && mayCarry Packet write)
+      split P (mayCarry false response && mayCarry false write)
       (λ _. split P (repeatsOf response write && crcFits response write crc)
       (λ _ e.
       ap (λ (x : List ℕ). writeFrame sector x End)
@@ -187,24 +200,18 @@ module _ (d : List ℕ) (small : Bytes d) where
   gives Fault t = gives-six d
   gives (Control code n) t =
       subst (λ (x : List ℕ). Gives x (responseIn d (Control code n))) (sym (control-only d code n t))
-      (coded code (parametersOf d n) (part-small n 3) (kindOf code) (coding code))
+      (any code (parametersIn d) (subst Bytes (parameters-lie d code n t) (part-small n 3)))
   gives (Write sector m End) t =
       subst (λ (x : List ℕ). Gives x (responseIn d (Write sector m End))) (sym (write-only d sector m End small t))
-      (written sector (bytesIn d m) (part-small m 5))
+      (written sector (dataIn d) (subst Bytes (data-lie d sector m End t) (part-small m 5)))
   gives (Write sector m Continued) t = gives-six d
-
-only-six : (r : Response) → responseNumber r ≡ 6 → r ≡ Unreadable
-only-six Unreadable e = refl
-only-six (Plain kind result) e = absurd (omega arith)
-only-six (Target b) e = absurd (omega arith)
-only-six (Firmware id major minor revision) e = absurd (omega arith)
-only-six (Written sector response write crc) e = absurd (omega arith)
 
 pub responses-meet : MeetsReader responseOf
 responses-meet =
     record {
-      six = λ d t. only-six (responseOf d) (six-exactly d ∙ ap (λ (b : Bool). cond b 6 0) t);
+      six = λ d t. response-says d ∙ ap (λ (b : Bool). cond b (number 6) (result (resultIn d (readOf d)))) t;
       else = λ d small f.
-          let read : responseNumber (responseOf d) ≡ 0 = six-exactly d ∙ ap (λ (b : Bool). cond b 6 0) f in
-          record { number = read; whole = gives d small (readOf d) (told d) read };
+          let read : numberIn (responseSaid (responseOf d)) ≡ 0 =
+          ap numberIn (response-says d ∙ ap (λ (b : Bool). cond b (number 6) (result (resultIn d (readOf d)))) f) in
+          record { unnumbered = read; whole = gives d small (readOf d) (told d) read };
     }

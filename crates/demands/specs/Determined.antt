@@ -44,7 +44,7 @@ use Rattle.response.specs.Said.{Response·Is}
 use Rattle.commands.specs.Command.{RequestCode·Is, ResponseCode·Is, ParameterBytes·Is, AddedBytes·Is, Requested·Is, Answered·Is}
 use Rattle.exchange.specs.Answer.{RefusalNumber·Is, Say·Is}
 use Rattle.exchange.specs.State.{IsClosed·Is}
-use Rattle.exchange.specs.Request.{Asked·Is, FitsState·Is, OwnResponse·Is, Declined·Is}
+use Rattle.exchange.specs.Request.{Asked·Is, FitsState·Is, Declined·Is}
 use Rattle.decision.specs.Plan.{Plan·Is}
 use Rattle.client.specs.Body.{Body·Is as NextBody·Is}
 use Rattle.client.specs.Host.{Told·Is, New·Is, Initiate·Is, Terminate·Is}
@@ -131,7 +131,6 @@ pub record Determined : Type 0 where
   pub asked : (datagram : List ℕ) → Once (Asked·Is datagram)
   pub is-closed : (state : State) → Once (IsClosed·Is state)
   pub fits-state : (state : State) (request : Received) → Once (FitsState·Is state request)
-  pub own-response : (command : Command) (result : ℕ) → Once (OwnResponse·Is command result)
   pub declined : (request : Received) (result : ℕ) → Once (Declined·Is request result)
   pub refusal-number : (why : Refusal) → Once (RefusalNumber·Is why)
   pub say : (answer : Answer) (before : List ℕ) → Twice (Say·Is answer before)

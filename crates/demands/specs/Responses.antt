@@ -9,35 +9,44 @@ use Rattle.buffer.specs.Number.{bytesOf, byteAt}
 use Rattle.frame.specs.Frame.{controlFrame, writeFrame}
 use Rattle.frame.specs.declared.read.Footer.the-variants.{End}
 use Rattle.layout.specs.Layout.{bankNumber}
-use Rattle.response.specs.declared.read.Kind.{Kind}
-use Rattle.response.specs.declared.read.Kind.the-variants.{ModeStart, BankInfo, Version, WriteStart, Packet, WriteEnd, ModeEnd, Error}
+use Rattle.layout.specs.Said.{Said, number, result, value, fault, accepted}
+use Rattle.commands.specs.declared.Command.{Command}
+use Rattle.commands.specs.declared.Command.the-variants.{ModeStart, BankInfo, VersionInfo, WriteStart, WriteEnd, ModeEnd}
 use Rattle.response.specs.declared.read.Response.{Response}
-use Rattle.response.specs.declared.read.Response.the-variants.{Unreadable, Plain, Target, Firmware, Written}
+use Rattle.response.specs.declared.read.Response.the-variants.{Unreadable, Plain, Error, Target, Firmware, Written}
 use Rattle.response.specs.Six.{sixOf}
-use Rattle.response.specs.Response.{responseNumber}
+use Rattle.response.specs.Said.{responseSaid}
 use Rattle.exchange.specs.Answer.{writtenBytes}
 
-abbrev pub codeOf : Kind → ℕ
-codeOf ModeStart = 0x71
-codeOf BankInfo = 0x72
-codeOf Version = 0x78
-codeOf WriteStart = 0x70
-codeOf Packet = 0
-codeOf WriteEnd = 0x75
-codeOf ModeEnd = 0x74
-codeOf Error = 0xE0
+-- the code of each response, told once more
+abbrev pub answerCode : Command → ℕ
+answerCode ModeStart = 0x71
+answerCode BankInfo = 0x72
+answerCode VersionInfo = 0x78
+answerCode WriteStart = 0x70
+answerCode WriteEnd = 0x75
+answerCode ModeEnd = 0x74
 
 -- a response written out again
 abbrev pub spelled : Response → List ℕ
 spelled Unreadable = []
-spelled (Plain kind result) = controlFrame (codeOf kind) (result ∷ [])
+spelled (Plain command r) = controlFrame (answerCode command) (r ∷ [])
+spelled (Error r) = controlFrame 0xE0 (r ∷ [])
 spelled (Target bank) = controlFrame 0x72 (0x06 ∷ bankNumber bank ∷ [])
 spelled (Firmware id major minor revision) = controlFrame 0x78 (0x06 ∷ bytesOf 2 id ++ major ∷ minor ∷ bytesOf 4 revision)
 spelled (Written sector response write crc) = writeFrame sector (writtenBytes response write crc) End
 
+-- the paper's number of what was said, 0 where it says another thing
+abbrev pub numberIn : Said → ℕ
+numberIn (number n) = n
+numberIn (result r) = 0
+numberIn (value n) = 0
+numberIn (fault k line) = 0
+numberIn accepted = 0
+
 -- it was read, and nothing of it was lost
 pub record ReadBack (datagram : List ℕ) (r : Response) : Type 0 where
-  pub number : responseNumber r ≡ 0
+  pub unnumbered : numberIn (responseSaid r) ≡ 0
   pub whole : spelled r ≡ datagram
 
 abbrev pub Reader : Type 0
@@ -45,5 +54,5 @@ Reader = List ℕ → Response
 
 -- a datagram's bytes are bytes
 pub record MeetsReader (s : Reader) : Type 0 where
-  pub six : (datagram : List ℕ) → sixOf datagram ≡ true → s datagram ≡ Unreadable
+  pub six : (datagram : List ℕ) → sixOf datagram ≡ true → responseSaid (s datagram) ≡ number 6
   pub else : (datagram : List ℕ) → ((i : ℕ) → byteAt datagram i < 256) → sixOf datagram ≡ false → ReadBack datagram (s datagram)

@@ -63,13 +63,9 @@ stateFor (Packet sector length) = state.Write
 abbrev pub fitsState : State → Request → Bool
 fitsState s request = eqb (stateNumber s) (stateNumber (stateFor request))
 
--- a result "in the command's own response"
-abbrev pub ownResponse : Command → ℕ → Answer
-ownResponse command result = Response command result
-
--- a result other than 06, in it; of a write packet "the write result repeats it" and the CRC field is 0
+-- a result other than 06 "in the command's own response"; of a write packet "the write result repeats it" and the CRC field is 0
 abbrev pub declinedOf : Request → ℕ → Answer
-declinedOf (Control command start end) result = ownResponse command result
+declinedOf (Control command start end) result = Response command result
 declinedOf (Packet sector length) result = Written sector result result 0
 
 -- the contracts
@@ -78,9 +74,6 @@ Asked·Is datagram r = r ≡ askedOf datagram
 
 abbrev pub FitsState·Is : State → Request → Bool → Type 0
 FitsState·Is s request r = r ≡ fitsState s request
-
-abbrev pub OwnResponse·Is : Command → ℕ → Answer → Type 0
-OwnResponse·Is command result r = r ≡ ownResponse command result
 
 abbrev pub Declined·Is : Request → ℕ → Answer → Type 0
 Declined·Is request result r = r ≡ declinedOf request result

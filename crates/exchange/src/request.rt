@@ -6,7 +6,7 @@ use commands::Command;
 use frame::read::Read;
 ghost use mathlib.Core.Path.{_≡_};
 ghost use Rattle.commands.specs.Command.{requestedBy};
-ghost use Rattle.exchange.specs.Request.{counted, askedByCode, acceptedIn, stateFor, Asked·Is, FitsState·Is, OwnResponse·Is, Declined·Is};
+ghost use Rattle.exchange.specs.Request.{counted, askedByCode, acceptedIn, stateFor, Asked·Is, FitsState·Is, Declined·Is};
 
 pub enum Request {
     // What the parameters say; both numbers are 0 where there are none.
@@ -105,14 +105,7 @@ pub fn fits_state(state: State, request: Request) -> bool
     crate::state::state_number(state) == crate::state::state_number(state_for(request))
 }
 
-// A result in the command's own response, with nothing behind it.
-pub fn own_response(command: Command, result: u8) -> Answer
-    ensures { λ r. ⌜ OwnResponse·Is command result r ⌝ }
-{
-    Answer::Response { command, result }
-}
-
-// A request that is declined; no caller gives it 06.
+// A result in the command's own response; no caller gives it 06.
 pub fn declined(request: Request, result: u8) -> Answer
     ensures { λ r. ⌜ Declined·Is request result r ⌝ }
 {
@@ -121,7 +114,7 @@ pub fn declined(request: Request, result: u8) -> Answer
             command,
             start: _,
             end: _,
-        } => own_response(command, result),
+        } => Answer::Response { command, result },
         Request::Packet { sector, length: _ } => Answer::Written {
             sector,
             result,
