@@ -18,6 +18,7 @@ use Rattle.flash.proofs.Sweeps.{length-sweep}
 use Rattle.flash.proofs.Writes.{FitsAt, length-written, written-here}
 use Rattle.layout.specs.declared.Bank.{Bank}
 use Rattle.layout.specs.declared.Bank.the-variants.{Zero, One}
+use Rattle.layout.proofs.Layouts.{good-below}
 use Rattle.exchange.specs.declared.answer.Answer.{Answer}
 use Rattle.exchange.specs.declared.answer.Answer.the-variants.{Response, Written}
 use Rattle.decision.specs.declared.plan.Plan.{Plan}
@@ -48,6 +49,7 @@ fits-stored c target datagram sector m s =
     let short = values-short (c .n) sector m (s .values) in
     let words = values-whole (c .n) sector m (s .values) in
     record {
+      good = good-below (c .n) (s .good) sector low high;
       inside = record { first = low; last = omega arith };
       short = omega arith;
       words = ap (λ (x : ℕ). x % 4) sent ∙ words;

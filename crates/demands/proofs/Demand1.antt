@@ -19,7 +19,7 @@ use Rattle.frame.specs.declared.read.Read.{Read}
 use Rattle.frame.specs.declared.read.Read.the-variants.{Fault, Control, Write}
 use Rattle.flash.specs.Bank.{withSector}
 use Rattle.flash.specs.Sector.{paddedOf}
-use Rattle.flash.proofs.Writes.{FitsAt, written-here, already-same}
+use Rattle.flash.proofs.Writes.{FitsAt, written-with, written-here, already-same}
 use Rattle.layout.specs.declared.Bank.{Bank}
 use Rattle.layout.specs.declared.Bank.the-variants.{Zero, One}
 use Rattle.layout.specs.Layout.{sectorSize, goodN, otherOf, sectorOf}
@@ -46,7 +46,6 @@ use Rattle.decision.proofs.Planning.{lent}
 use Rattle.client.proofs.Promising.{whole-target}
 use Rattle.demands.specs.Board.{Board, board, Call, Input, Initiate, Terminate, Datagram, Outcome, backIn, answerNumber, lentTarget, callOutcome, stepMachine}
 use Rattle.demands.specs.Demand1.{firstOf, isFault, refused, changed, answered, stored, afterFrame, callRows, tableOf, sweptTarget, Meets1}
-use Rattle.demands.proofs.Sessions.{written-with}
 use Rattle.demands.proofs.Storing.{storing}
 use Rattle.demands.proofs.Steps.{run-stays, run-running}
 
