@@ -11,6 +11,7 @@ use Rattle.frame.specs.declared.read.Footer.{Footer}
 use Rattle.frame.specs.declared.read.Read.the-variants.{Write}
 use Rattle.flash.proofs.Writes.{FitsAt}
 use Rattle.layout.specs.Layout.{goodN, bankSize}
+use Rattle.layout.proofs.Layouts.{good-below}
 use Rattle.exchange.specs.declared.request.Asked.the-variants.{Right}
 use Rattle.exchange.specs.declared.request.Request.the-variants.{Packet}
 use Rattle.exchange.specs.declared.state.State.the-variants as state
@@ -95,6 +96,7 @@ fits-stored c target datagram sector s =
     let sent = packed-in datagram sector (s .m) (s .asks) .sent in
     let short = values-short n sector (s .m) (s .values) in
     record {
+      good = good-below n (s .good) sector low high;
       inside = record { first = low; last = omega arith };
       short = omega arith;
       words = ap (λ (x : ℕ). x % 4) sent ∙ values-whole n sector (s .m) (s .values);

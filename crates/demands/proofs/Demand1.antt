@@ -21,7 +21,7 @@ use Rattle.frame.specs.declared.read.Read.{Read}
 use Rattle.frame.specs.declared.read.Read.the-variants.{Fault, Control, Write}
 use Rattle.flash.specs.Bank.{withSector}
 use Rattle.flash.specs.Sector.{paddedOf}
-use Rattle.flash.proofs.Writes.{FitsAt, written-here, already-same}
+use Rattle.flash.proofs.Writes.{FitsAt, written-with, written-here, already-same}
 use Rattle.layout.specs.declared.Bank.{Bank}
 use Rattle.layout.specs.Layout.{goodN, bankSize, otherOf, sectorOf}
 use Rattle.layout.specs.Pair.{Banks, bankIn, withBank}
@@ -82,7 +82,6 @@ use Rattle.demands.specs.Board.{
 }
 use Rattle.demands.specs.Demand1.{firstOf, isFault, refused, changed, answered, stored, afterFrame, callRows, tableOf, sweptTarget, Meets1}
 use Rattle.demands.proofs.Lending.{back-with, whole-again}
-use Rattle.demands.proofs.Sessions.{written-with}
 use Rattle.demands.proofs.Steps.{run-stays, run-running}
 
 -- ---- what came of a call, as the rows put it

@@ -23,7 +23,7 @@ use Rattle.frame.specs.declared.read.Read.the-variants.{Control, Write}
 use Rattle.flash.specs.Bank.{withSector}
 use Rattle.flash.specs.Sector.{paddedOf}
 use Rattle.flash.proofs.Blanks.{blank-whole, sector-blanks}
-use Rattle.flash.proofs.Sectors.{Has, ext-sector, with-here, with-other}
+use Rattle.flash.proofs.Sectors.{Lies, ext-sector, with-here, with-other}
 use Rattle.flash.proofs.Sweeps.{length-sweep}
 use Rattle.layout.specs.declared.Bank.{Bank}
 use Rattle.layout.specs.Layout.{goodN, bankSize, otherOf, sectorOf}
@@ -287,8 +287,8 @@ module _ (fixed : Fixed) (good : goodN (fixed .n) ≡ true) (image : List ℕ) (
       i : Sent image sectors s
       i = sent-in image sectors p h
 
-      has-s : Has (length shown) s
-      has-s =
+      lies-s : Lies (length shown) s
+      lies-s =
           let low = i .low in
           let high = i .high in
           record { first = low; last = omega arith }
@@ -307,10 +307,10 @@ module _ (fixed : Fixed) (good : goodN (fixed .n) ≡ true) (image : List ℕ) (
       by (yes e) d =
           inl
           (ap (sectorOf (withSector shown s (sectorOf image s))) e
-          ∙ with-here shown s (sectorOf image s) has-s w
+          ∙ with-here shown s (sectorOf image s) lies-s w
           ∙ ap (sectorOf image) (sym e))
       by (no ne) (inl e) =
-          inl (with-other shown s (sectorOf image s) has-s w j (record { first = a; last = omega arith }) ne ∙ e)
+          inl (with-other shown s (sectorOf image s) lies-s w j (record { first = a; last = omega arith }) ne ∙ e)
       by (no ne) (inr c) = inr (later c ne)
 
   deliver : {ps : List ℕ} {is : List Input} → Packets image sectors ps is → (b : Board) (shown : List ℕ) → Busy fixed b shown → Due shown ps

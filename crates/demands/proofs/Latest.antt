@@ -13,7 +13,7 @@ use Rattle.frame.specs.Read.{dataIn}
 use Rattle.flash.specs.Bank.{withSector, blankSector}
 use Rattle.flash.specs.Sector.{paddedOf}
 use Rattle.flash.proofs.Blanks.{sector-blanks}
-use Rattle.flash.proofs.Sectors.{Has, has-still, length-with, with-here, with-other}
+use Rattle.flash.proofs.Sectors.{Lies, lies-still, length-with, with-here, with-other}
 use Rattle.flash.proofs.Words.{length-padded}
 use Rattle.layout.specs.Layout.{bankSize, sectorOf}
 use Rattle.commands.specs.declared.Command.the-variants.{WriteEnd}
@@ -39,7 +39,7 @@ module _ (n k : ℕ) (low : 1 ≤ k) (high : k ≤ n) where
 
   module _ (image sector : List ℕ) (at : At n k image sector) where
     -- one sector of the image becomes another
-    put-at : (number : ℕ) (bytes : List ℕ) → Has (length image) number → length bytes ≡ 512 → At n k (withSector image number bytes) (cond (eqb number k) bytes sector)
+    put-at : (number : ℕ) (bytes : List ℕ) → Lies (length image) number → length bytes ≡ 512 → At n k (withSector image number bytes) (cond (eqb number k) bytes sector)
     put-at number bytes h e =
         record { size = length-with image number bytes h e ∙ at .size; is = by (eqb number k) refl }
       where
@@ -59,7 +59,7 @@ module _ (n k : ℕ) (low : 1 ≤ k) (high : k ≤ n) where
           let f = fits-stored (b .client) (lentTarget b call) (call .datagram) number h in
           let whole : length image ≡ length (lentTarget b call) = at .size ∙ ap bankSize (sym sectors) ∙ sym (h .whole) in
           rw (a, written-begin number 0x06 write (crcOf (paddedOf bytes)), written-stored number write (crcOf (paddedOf bytes)) v, packed-in (call .datagram) number (h .m) (h .asks) .reads)
-          (put-at number (paddedOf bytes) (has-still whole (f .inside)) (length-padded bytes (f .short)))
+          (put-at number (paddedOf bytes) (lies-still whole (f .inside)) (length-padded bytes (f .short)))
       step-at (ends result u a t x h) = rw (a, ended-begin result, response-stored WriteEnd result) at
 
       call-at : At n k (exchanged n image (call .datagram) (said (stepMachine b (Datagram call)))) (lately k sector (call .datagram) (said (stepMachine b (Datagram call))))

@@ -12,15 +12,13 @@ use Rattle.buffer.proofs.Places.{front-take}
 use Rattle.crc.specs.Crc.{crcOf}
 use Rattle.frame.specs.Read.{dataIn}
 use Rattle.flash.specs.Bank.{withSector, writtenAt, sweptOf}
-use Rattle.flash.specs.Sector.{paddedOf, writtenOf}
-use Rattle.flash.proofs.Changes.{at-has}
+use Rattle.flash.specs.Sector.{paddedOf}
 use Rattle.flash.proofs.Received.{swept-written}
-use Rattle.flash.proofs.Sectors.{has, has-still, length-sector}
+use Rattle.flash.proofs.Sectors.{lies-still}
 use Rattle.flash.proofs.Sweeps.{length-sweep, swept-blank}
-use Rattle.flash.proofs.Words.{written-fits}
-use Rattle.flash.proofs.Writes.{FitsAt, length-written}
+use Rattle.flash.proofs.Writes.{FitsAt, length-written, written-with}
 use Rattle.layout.specs.declared.Bank.{Bank}
-use Rattle.layout.specs.Layout.{mostSectors, goodN, bankSize, otherOf, sectorOf}
+use Rattle.layout.specs.Layout.{mostSectors, goodN, bankSize, otherOf}
 use Rattle.layout.specs.Pair.{bankIn}
 use Rattle.layout.proofs.Layouts.{good-high}
 use Rattle.layout.proofs.Pairs.{bank-there}
@@ -77,15 +75,6 @@ pub record Session (b : Board) (image : List ℕ) : Type 0 where
 
 abbrev pub Shows : Board → List ℕ → Type 0
 Shows b image = b .client .state ≡ state.Write → Session b image
-
--- ---- the laws of flash, as a session uses them
-
--- a bank whose sector becomes the bytes and 0xFF behind them
-pub written-with : (bank : List ℕ) (k : ℕ) (bytes : List ℕ) → FitsAt bank k bytes → writtenAt bank k bytes ≡ withSector bank k (paddedOf bytes)
-written-with bank k bytes f =
-    at-has (λ (sector : List ℕ). writtenOf sector bytes) k bank (has (length bank) k (f .inside))
-    ∙ ap (withSector bank k)
-    (written-fits (sectorOf bank k) bytes (record { whole = length-sector bank k (f .inside); short = f .short; words = f .words }))
 
 none-received : (i : ℕ) → i < mostSectors → getD noneReceived i false ≡ false
 unfolding noneReceived
@@ -186,7 +175,7 @@ module _ (b : Board) (call : Call) where
     keeps (begins a t m h) s =
         let e : now ≡ allBlank n = rw (a, response-begin) in
         make next n noneReceived (lentTarget b call) behind now stays-n m (target-next ∙ ap (λ (l : List ℕ). l ++ behind) t) (h .whole) (h .good) length-none
-        (swept-blank (lentTarget b call) n noneReceived (h .whole) (λ i l. let most = good-high n (h .good) in none-received i (omega arith)) ∙ sym e)
+        (swept-blank (lentTarget b call) n noneReceived (h .good) (h .whole) (λ i l. let most = good-high n (h .good) in none-received i (omega arith)) ∙ sym e)
     keeps (stores sector write h v a t k) s =
         let bytes : List ℕ = dataIn (call .datagram) in
         let o : Session b image = shows (h .writing) in
@@ -194,7 +183,12 @@ module _ (b : Board) (call : Call) where
         let p : sweptOf (lentTarget b call) n (b .client .received) ≡ image =
         lent-shows image shows (record { writing = h .writing; good = h .good; whole = h .whole }) in
         let g : FitsAt image sector bytes =
-        record { inside = has-still (sym (ap length p) ∙ length-sweep (lentTarget b call) n (b .client .received)) (f .inside); short = f .short; words = f .words } in
+        record {
+          good = f .good;
+          inside = lies-still (sym (ap length p) ∙ length-sweep (lentTarget b call) n (b .client .received)) (f .inside);
+          short = f .short;
+          words = f .words;
+        } in
         let low = values-low n sector (h .m) (h .values) in
         let high = values-high n sector (h .m) (h .values) in
         let most = good-high n (h .good) in
@@ -206,7 +200,7 @@ module _ (b : Board) (call : Call) where
         (length-written (lentTarget b call) sector bytes ∙ h .whole)
         (h .good)
         (length-set (b .client .received) (sector - 1) true ∙ marked)
-        (swept-written (lentTarget b call) n sector bytes (b .client .received) (h .whole) f (omega arith)
+        (swept-written (lentTarget b call) n sector bytes (b .client .received) (h .good) (h .whole) f (omega arith)
         ∙ ap (λ (l : List ℕ). writtenAt l sector bytes) p
         ∙ written-with image sector bytes g
         ∙ sym e)

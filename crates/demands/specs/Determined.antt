@@ -29,8 +29,8 @@ use Rattle.frame.specs.Checksum.{Checksum·Is}
 use Rattle.frame.specs.Read.{Read·Is as ReadFrame·Is}
 use Rattle.frame.specs.Read.{Parameters·Is, Data·Is}
 use Rattle.frame.specs.Write.{PutControl·Is, PutWrite·Is, PutError·Is}
-use Rattle.flash.specs.Bank.{WriteAt·Is, SectorBlank·Is, Sweep·Is}
-use Rattle.flash.specs.Sector.{Erase·Is, StoreWord·Is, WriteSector·Is}
+use Rattle.flash.specs.declared.sector.Store.{Store}
+use Rattle.flash.specs.Bank.{Store·Is, WriteAt·Is, Sweep·Is}
 use Rattle.layout.specs.Layout.{GoodN·Is, BankSize·Is, Sectors·Is, BankNumber·Is, Other·Is, Start·Is, End·Is, SectorOffset·Is}
 use Rattle.digits.specs.Digit.{Value·Is, Digit·Is}
 use Rattle.bank.specs.Listed.{BodyCount·Is, BehindTable·Is, StretchAt·Is}
@@ -85,11 +85,8 @@ pub record Determined : Type 0 where
   pub put-write : (before : List ℕ) (sector : ℕ) (bytes : List ℕ) (footer : Footer) → Once (PutWrite·Is before sector bytes footer)
   pub put-error : (before : List ℕ) → Once (PutError·Is before)
   -- sectors
-  pub erase : (before : List ℕ) → Once (Erase·Is before)
-  pub store-word : (before : List ℕ) (at : ℕ) (word : List ℕ) → Once (StoreWord·Is before at word)
-  pub write-sector : (before bytes : List ℕ) → Twice (WriteSector·Is before bytes)
+  pub store : (before : List ℕ) (k : ℕ) (store : Store) → Once (Store·Is before k store)
   pub write-at : (before : List ℕ) (k : ℕ) (bytes : List ℕ) → Twice (WriteAt·Is before k bytes)
-  pub sector-blank : (bank : List ℕ) (k : ℕ) → Once (SectorBlank·Is bank k)
   pub sweep : (before : List ℕ) (n : ℕ) (received : List Bool) → Once (Sweep·Is before n received)
   -- banks
   pub good-n : (n : ℕ) → Once (GoodN·Is n)

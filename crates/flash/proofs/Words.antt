@@ -6,20 +6,25 @@ use mathlib.Core.List.{List, [], _∷_, _++_, append-assoc}
 use Prim.Native.Nat.{ℕ, zero, suc, _+_, _-_, _*_, _/_, _%_, _≤_, _<_}
 use native.Mathlib.Numerals.{add-one}
 use native.Mathlib.Omega.{arith}
-use lib.Dec.{eqb, leb}
 use lib.ListN.{length, getD, take, drop, length-append, length-drop, replicate-append-replicate, take-append-drop}
-use lib.Seq.{take-add, drop-at, length-take-le, take-length}
-use borrow.Author.Tests.{eqb-true, leb-true, le-leb, lt-leb, eq-eqb, ne-eqb}
+use lib.Seq.{take-add, drop-at, length-take-le}
 use Rattle.buffer.specs.Compare.{sameOf, blankOf}
+use Rattle.buffer.specs.Number.{numberOf, bytesOf, numberAt}
 use Rattle.buffer.specs.Place.{placeOf}
-use Rattle.buffer.proofs.Bools.{and-left, and-right}
-use Rattle.buffer.proofs.Comparing.{blank-true, blank-part, same-append, same-filled, same-true}
-use Rattle.buffer.proofs.Parts.{part-next, part-length}
+use Rattle.buffer.proofs.Bools.{not-so}
+use Rattle.buffer.proofs.Comparing.{blank-true, blank-part, same-append, same-filled}
+use Rattle.buffer.proofs.Numbers.{number-inside, number-four, bytes-four}
+use Rattle.buffer.proofs.Parts.{part-length, part-next, rest-out}
 use Rattle.buffer.proofs.Places.{place-next}
-use Rattle.layout.specs.Layout.{sectorSize}
-use Rattle.flash.specs.Sector.{wordBytes, blanks, erasedOf, paddedOf, fitsSector, writtenOf, alreadyOf, WriteSector·Is}
-use Rattle.flash.specs.Store.{Store, Erase, allMade, wordAt, wordStore, wordStores, storesOf}
+use Rattle.layout.specs.Layout.{sectorSize, sectorOf}
+use Rattle.flash.specs.declared.sector.Store.the-variants as kind
+use Rattle.flash.specs.Sector.{wordBytes, blanks, erasedOf, paddedOf}
+use Rattle.flash.specs.Bank.{hasSector, withSector, atSector, Store·Is}
+use Rattle.flash.specs.Store.{Erase, flash, allMade, Leaves, wordAt, wordStore, wordStores}
 use Rattle.flash.proofs.Blanks.{length-blanks, erased-blank, padded-blanks}
+use Rattle.flash.proofs.Changes.{at-has, at-with}
+use Rattle.flash.proofs.Sectors.{has-lies, length-sector}
+use Rattle.flash.proofs.Stores.{leaves-none, leaves-then, leaves-call}
 
 -- ---- bytes followed by 0xFF
 
@@ -77,158 +82,123 @@ module _ (sector bytes : List ℕ) (s : length sector ≡ sectorSize) (h : lengt
       ∙ ap (λ (r : Bool). sameOf (take m sector) bytes && r)
       (ap (λ (n : ℕ). sameOf (drop m sector) (blanks n)) (sym d) ∙ same-filled (drop m sector))
 
-  pub holds-not : (r : Bool) → r ≡ sameOf (take (length bytes) sector) bytes → r ≡ false → false ≡ sameOf sector (paddedOf bytes)
-  holds-not r e f = sym (same-padded ∙ ap (λ (q : Bool). q && blankOf (drop (length bytes) sector)) (sym e ∙ f))
+  pub holds-not : {r : Bool} → r ≡ sameOf (take (length bytes) sector) bytes → r ≡ false → false ≡ sameOf sector (paddedOf bytes)
+  holds-not e f = sym (same-padded ∙ ap (λ (q : Bool). q && blankOf (drop (length bytes) sector)) (sym e ∙ f))
 
-  pub holds-rest : (r : Bool) → r ≡ sameOf (take (length bytes) sector) bytes → r ≡ true → blankOf (drop (length bytes) sector) ≡ sameOf sector (paddedOf bytes)
-  holds-rest r e t = sym (same-padded ∙ ap (λ (q : Bool). q && blankOf (drop (length bytes) sector)) (sym e ∙ t))
+  pub holds-rest : {r : Bool} → r ≡ sameOf (take (length bytes) sector) bytes → r ≡ true
+      → blankOf (drop (length bytes) sector) ≡ sameOf sector (paddedOf bytes)
+  holds-rest e t = sym (same-padded ∙ ap (λ (q : Bool). q && blankOf (drop (length bytes) sector)) (sym e ∙ t))
 
--- ---- the words
+-- ---- the words, one by one
 
-all-append : (a b : List Store) (sector : List ℕ) → allMade (a ++ b) sector ≡ allMade b (allMade a sector)
-unfolding allMade
-all-append [] b sector = refl
-all-append (x ∷ a) b sector = all-append a b _
+module _ (k : ℕ) (bytes : List ℕ) where
+  -- none yet, and one more, as the loop has them
+  pub words-none : {bank : List ℕ} → Leaves (wordStores k bytes 0) bank bank
+  unfolding wordStores
+  words-none = leaves-none
 
--- a word is its four bytes
-pub word-bytes : (bytes : List ℕ) (at : ℕ) → at + wordBytes ≤ length bytes
-    → getD bytes at 0 ∷ getD bytes (at + 1) 0 ∷ getD bytes (at + 2) 0 ∷ getD bytes (at + 3) 0 ∷ [] ≡ take wordBytes (drop at bytes)
-word-bytes bytes at h =
-    let two : at + 1 + 1 ≡ at + 2 = omega arith in
-    let three : at + 2 + 1 ≡ at + 3 = omega arith in
-    rw (part-next bytes at 3 (omega arith), part-next bytes (at + 1) 2 (omega arith), two, part-next bytes (at + 2) 1 (omega arith), three, part-next bytes (at + 3) 0 (omega arith))
+  pub words-next : (i : ℕ) {bank begun after : List ℕ} → Leaves (wordStores k bytes i) bank begun → Leaves (wordStore k bytes i) begun after
+      → Leaves (wordStores k bytes (i + 1)) bank after
+  unfolding wordStores
+  words-next i p q = rw add-one (leaves-then p q)
 
-module _ (bytes : List ℕ) (i : ℕ) (word sector : List ℕ) (e : word ≡ wordAt bytes i) where
-  pub word-blank : true ≡ blankOf word → sector ≡ allMade (wordStore bytes i) sector
-  unfolding wordStore allMade
-  word-blank b = rw (← e, ← b)
+  -- blank bytes have no word to store
+  pub blank-words : (n : ℕ) → blankOf bytes ≡ true → wordStores k bytes n ≡ []
+  unfolding wordStores wordStore
+  blank-words zero b = refl
+  blank-words (suc i) b = rw (blank-words i b, blank-part bytes (i * wordBytes) wordBytes b)
 
-  pub word-put : false ≡ blankOf word → placeOf sector (i * wordBytes) word ≡ allMade (wordStore bytes i) sector
-  unfolding wordStore allMade
-  word-put b = rw (← e, ← b)
+-- four bytes that were read as a number and are written again
+word-back : (a b c d : ℕ) → a < 256 → b < 256 → c < 256 → d < 256 → bytesOf 4 ((a * 256 + b) * 65536 + (c * 256 + d)) ≡ a ∷ b ∷ c ∷ d ∷ []
+word-back a b c d ha hb hc hd =
+    let n : ℕ = (a * 256 + b) * 65536 + (c * 256 + d) in
+    let first : n / 16777216 % 256 ≡ a = omega arith in
+    let second : n / 65536 % 256 ≡ b = omega arith in
+    let third : n / 256 % 256 ≡ c = omega arith in
+    let fourth : n % 256 ≡ d = omega arith in
+    bytes-four n ∙ rw (first, second, third, fourth)
 
--- none yet, and one more, as the loop has them
-pub words-none : (bytes sector : List ℕ) → sector ≡ allMade (wordStores bytes 0) sector
-unfolding wordStores allMade
-words-none bytes sector = refl
+-- word i, read from the rest of the bytes as a number
+module _ (bytes : List ℕ) (i word : ℕ) (h : i * wordBytes + wordBytes ≤ length bytes)
+    (is : word ≡ numberAt 4 (take (length bytes - i * wordBytes) (drop (i * wordBytes) bytes)) 0) where
+  word-read : word ≡ numberAt 4 bytes (i * wordBytes)
+  word-read =
+      let at : ℕ = i * wordBytes in
+      is
+      ∙ ap (λ (l : List ℕ). numberAt 4 l 0) (rest-out bytes at)
+      ∙ number-inside 4 (drop at bytes) 0 (omega (arith, length-drop at bytes))
+      ∙ sym (number-inside 4 bytes at h)
 
-pub words-next : (bytes : List ℕ) (i : ℕ) (sector begun after : List ℕ) → begun ≡ allMade (wordStores bytes i) sector → after ≡ allMade (wordStore bytes i) begun → after ≡ allMade (wordStores bytes (i + 1)) sector
-unfolding wordStores
-words-next bytes i sector begun after b a =
-    a ∙ ap (allMade (wordStore bytes i)) b ∙ rw add-one (sym (all-append (wordStores bytes i) (wordStore bytes i) sector))
+  word-bytes : ((j : ℕ) → getD bytes j 0 < 256) → bytesOf wordBytes word ≡ wordAt bytes i
+  word-bytes small =
+      let at : ℕ = i * wordBytes in
+      let two : at + 1 + 1 ≡ at + 2 = omega arith in
+      let three : at + 2 + 1 ≡ at + 3 = omega arith in
+      ap (bytesOf 4) (word-read ∙ number-four bytes at h)
+      ∙ word-back (getD bytes at 0) (getD bytes (at + 1) 0) (getD bytes (at + 2) 0) (getD bytes (at + 3) 0) (small _) (small _) (small _) (small _)
+      ∙ rw (part-next bytes at 3 (omega arith), part-next bytes (at + 1) 2 (omega arith), two)
+      (rw (part-next bytes (at + 2) 1 (omega arith), three, part-next bytes (at + 3) 0 (omega arith)))
 
--- one word more
-module _ (bytes : List ℕ) (i : ℕ) (begun : List ℕ) (n : length begun ≡ i * wordBytes) (h : length begun + length (wordAt bytes i) ≤ sectorSize) where
-  word-more : (b : Bool) → b ≡ blankOf (wordAt bytes i) → allMade (wordStore bytes i) (paddedOf begun) ≡ paddedOf (begun ++ wordAt bytes i)
-  word-more true b = sym (word-blank bytes i (wordAt bytes i) (paddedOf begun) refl b) ∙ padded-blank begun (wordAt bytes i) h (sym b)
-  word-more false b =
-      sym (word-put bytes i (wordAt bytes i) (paddedOf begun) refl b)
-      ∙ ap (λ (at : ℕ). placeOf (paddedOf begun) at (wordAt bytes i)) (sym n)
-      ∙ padded-put begun (wordAt bytes i) h
+  -- it is blank where the number is the largest
+  blank-read : blankOf (wordAt bytes i) ≡ true → word ≡ 0xFFFFFFFF
+  unfolding numberOf
+  blank-read b =
+      let l : length (wordAt bytes i) ≡ 4 = part-length bytes (i * wordBytes) 4 h in
+      word-read
+      ∙ number-inside 4 bytes (i * wordBytes) h
+      ∙ ap numberOf (blank-true (wordAt bytes i) b ∙ ap (λ (n : ℕ). blanks n) l)
 
--- the first n words, stored to a sector that was erased
-words-leave : (bytes : List ℕ) (n : ℕ) → n * wordBytes ≤ length bytes → length bytes ≤ sectorSize → allMade (wordStores bytes n) (paddedOf []) ≡ paddedOf (take (n * wordBytes) bytes)
-unfolding wordStores allMade
-words-leave bytes zero h l = refl
-words-leave bytes (suc i) h l =
-    let begun : List ℕ = take (i * wordBytes) bytes in
-    let b : length begun ≡ i * wordBytes = length-take-le (i * wordBytes) bytes (omega arith) in
-    let w : length (wordAt bytes i) ≡ wordBytes = part-length bytes (i * wordBytes) wordBytes (omega arith) in
-    let e : suc i * wordBytes ≡ i * wordBytes + wordBytes = omega arith in
-    all-append (wordStores bytes i) (wordStore bytes i) (paddedOf [])
-    ∙ ap (allMade (wordStore bytes i)) (words-leave bytes i (omega arith) l)
-    ∙ word-more bytes i begun b (omega arith) (blankOf (wordAt bytes i)) refl
-    ∙ sym (ap (λ (k : ℕ). paddedOf (take k bytes)) e ∙ ap paddedOf (take-add (i * wordBytes) wordBytes bytes))
+  module _ (small : (j : ℕ) → getD bytes j 0 < 256) where
+    read-blank : word ≡ 0xFFFFFFFF → blankOf (wordAt bytes i) ≡ true
+    unfolding blankOf bytesOf
+    read-blank e = ap blankOf (sym (word-bytes small) ∙ ap (bytesOf wordBytes) e)
 
--- blank bytes have no word to store
-blank-words : (bytes : List ℕ) (n : ℕ) → blankOf bytes ≡ true → wordStores bytes n ≡ []
-unfolding wordStores wordStore
-blank-words bytes zero b = refl
-blank-words bytes (suc i) b = rw (blank-words bytes i b, blank-part bytes (i * wordBytes) wordBytes b)
+    -- then it is not stored, and else it is
+    pub word-left : (k : ℕ) {bank : List ℕ} → word ≡ 0xFFFFFFFF → Leaves (wordStore k bytes i) bank bank
+    unfolding wordStore
+    word-left k e = rw (read-blank e) leaves-none
 
--- ---- the whole sector
+    pub word-put : (k : ℕ) (bank : List ℕ) {after : List ℕ} → (word ≡ 0xFFFFFFFF → ⊥) → Store·Is bank k (kind.Word (i * wordBytes) word) after
+        → Leaves (wordStore k bytes i) bank after
+    unfolding wordStore
+    word-put k bank n e =
+        rw (not-so (blankOf (wordAt bytes i)) (λ b. n (blank-read b)))
+        (rw (word-bytes small) at (leaves-call bank k (kind.Word (i * wordBytes) word) e))
 
--- a whole sector, and bytes that fit it in whole words
-pub record Fits (sector bytes : List ℕ) : Type 0 where
-  pub whole : length sector ≡ sectorSize
-  pub short : length bytes ≤ sectorSize
-  pub words : length bytes % wordBytes ≡ 0
+-- ---- all of them
 
-module _ (sector bytes : List ℕ) where
-  pub fits-told : fitsSector sector bytes ≡ true → Fits sector bytes
-  unfolding fitsSector
-  fits-told e =
-      let w : Bool = eqb (length sector) sectorSize in
-      let s : Bool = leb (length bytes) sectorSize in
-      let v : Bool = eqb (length bytes % wordBytes) 0 in
-      let r : (s && v) ≡ true = and-right w (s && v) e in
-      record {
-        whole = eqb-true (length sector) sectorSize (and-left w (s && v) e);
-        short = leb-true (length bytes) sectorSize (and-left s v r);
-        words = eqb-true (length bytes % wordBytes) 0 (and-right s v r);
-      }
+-- the bank whose sector k is these bytes, followed by 0xFF
+module _ (bank : List ℕ) (k : ℕ) (h : hasSector (length bank) k ≡ true) where
+  -- erased
+  pub erase-leaves : Leaves (Erase k ∷ []) bank (withSector bank k (paddedOf []))
+  erase-leaves =
+      leaves-call bank k kind.Erase
+      (sym (at-has erasedOf k bank h ∙ ap (withSector bank k) (padded-none (sectorOf bank k) (length-sector bank k (has-lies (length bank) k h)))))
 
-  fits : Fits sector bytes → fitsSector sector bytes ≡ true
-  unfolding fitsSector
-  fits f = rw (eq-eqb (length sector) sectorSize (f .whole), le-leb (length bytes) sectorSize (f .short), eq-eqb (length bytes % wordBytes) 0 (f .words))
+  -- one word more
+  module _ (bytes : List ℕ) (i : ℕ) (begun : List ℕ) (n : length begun ≡ i * wordBytes)
+      (l : length begun + length (wordAt bytes i) ≤ sectorSize) where
+    word-leaves : (b : Bool) → blankOf (wordAt bytes i) ≡ b
+        → Leaves (wordStore k bytes i) (withSector bank k (paddedOf begun)) (withSector bank k (paddedOf (begun ++ wordAt bytes i)))
+    unfolding wordStore allMade
+    word-leaves true b = rw (b, padded-blank begun (wordAt bytes i) l b) leaves-none
+    word-leaves false b =
+        let word : List ℕ = wordAt bytes i in
+        let put : List ℕ → List ℕ = λ sector. placeOf sector (i * wordBytes) word in
+        let p : put (paddedOf begun) ≡ paddedOf (begun ++ word) =
+        ap (λ (at : ℕ). placeOf (paddedOf begun) at word) (sym n) ∙ padded-put begun word l in
+        let a : atSector put k (withSector bank k (paddedOf begun)) ≡ withSector bank k (paddedOf (begun ++ word)) =
+        at-with put k bank (paddedOf begun) h (length-padded begun (omega arith)) ∙ ap (withSector bank k) p in
+        rw b (record { left = λ next. ap (λ (x : List ℕ). flash x next) a })
 
-  pub written-fits : Fits sector bytes → writtenOf sector bytes ≡ paddedOf bytes
-  unfolding writtenOf
-  written-fits f = rw (fits f)
-
-  pub already-fits : Fits sector bytes → alreadyOf sector bytes ≡ sameOf sector (paddedOf bytes)
-  unfolding alreadyOf
-  already-fits f = rw (fits f)
-
-  -- erased, and every word stored
-  words-stored : Fits sector bytes → allMade (wordStores bytes (length bytes / wordBytes)) (erasedOf sector) ≡ paddedOf bytes
-  words-stored f =
-      let e : length bytes / wordBytes * wordBytes ≡ length bytes = omega arith in
-      ap (allMade (wordStores bytes (length bytes / wordBytes))) (padded-none sector (f .whole))
-      ∙ words-leave bytes (length bytes / wordBytes) (omega arith) (f .short)
-      ∙ ap paddedOf (ap (λ (k : ℕ). take k bytes) e ∙ take-length bytes)
-
-  -- what the stores leave is what the definition says
-  pub stores-leave : allMade (storesOf sector bytes) sector ≡ writtenOf sector bytes
-  unfolding storesOf writtenOf allMade
-  stores-leave = by (fitsSector sector bytes) (sameOf sector (paddedOf bytes)) refl refl
-    where
-      by : (f s : Bool) → fitsSector sector bytes ≡ f → sameOf sector (paddedOf bytes) ≡ s → allMade (storesOf sector bytes) sector ≡ writtenOf sector bytes
-      by false s e g = rw e
-      by true true e g = rw (e, g) (same-true sector (paddedOf bytes) g)
-      by true false e g = rw (e, g) (words-stored (fits-told e))
-
-  -- blank bytes take one store over what is not blank: the sector is erased
-  pub blank-stores : Fits sector bytes → blankOf bytes ≡ true → sameOf sector (paddedOf bytes) ≡ false → storesOf sector bytes ≡ Erase ∷ []
-  unfolding storesOf
-  blank-stores f b d = rw (fits f, d) (ap (λ (l : List Store). Erase ∷ l) (blank-words bytes (length bytes / wordBytes) b))
-
-  -- ---- each way out of the writing of a sector
-
-  unfit : fitsSector sector bytes ≡ false → WriteSector·Is sector bytes sector false
-  unfolding writtenOf alreadyOf
-  unfit e = record { written = rw e; already = rw e }
-
-  pub write-part : (length sector ≡ sectorSize → ⊥) → WriteSector·Is sector bytes sector false
-  unfolding fitsSector
-  write-part n = unfit (rw (ne-eqb (length sector) sectorSize n))
-
-  pub write-long : length sector ≡ sectorSize → sectorSize < length bytes → WriteSector·Is sector bytes sector false
-  unfolding fitsSector
-  write-long w l = unfit (rw (eq-eqb (length sector) sectorSize w, lt-leb (length bytes) sectorSize l))
-
-  pub write-odd : length sector ≡ sectorSize → length bytes ≤ sectorSize → (length bytes % wordBytes ≡ 0 → ⊥) → WriteSector·Is sector bytes sector false
-  unfolding fitsSector
-  write-odd w l n = unfit (rw (eq-eqb (length sector) sectorSize w, le-leb (length bytes) sectorSize l, ne-eqb (length bytes % wordBytes) 0 n))
-
-  pub write-held : Fits sector bytes → true ≡ sameOf sector (paddedOf bytes) → WriteSector·Is sector bytes sector true
-  write-held f h =
-      record { written = same-true sector (paddedOf bytes) (sym h) ∙ sym (written-fits f); already = h ∙ sym (already-fits f) }
-
-  pub write-stored : (erased after : List ℕ) → Fits sector bytes → false ≡ sameOf sector (paddedOf bytes) → erased ≡ erasedOf sector
-      → after ≡ allMade (wordStores bytes (length bytes / wordBytes)) erased → WriteSector·Is sector bytes after false
-  write-stored erased after f h e a =
-      record {
-        written = a ∙ ap (allMade (wordStores bytes (length bytes / wordBytes))) e ∙ words-stored f ∙ sym (written-fits f);
-        already = h ∙ sym (already-fits f);
-      }
+  pub words-leave : (bytes : List ℕ) (n : ℕ) → n * wordBytes ≤ length bytes → length bytes ≤ sectorSize
+      → Leaves (wordStores k bytes n) (withSector bank k (paddedOf [])) (withSector bank k (paddedOf (take (n * wordBytes) bytes)))
+  unfolding wordStores
+  words-leave bytes zero m l = leaves-none
+  words-leave bytes (suc i) m l =
+      let begun : List ℕ = take (i * wordBytes) bytes in
+      let b : length begun ≡ i * wordBytes = length-take-le (i * wordBytes) bytes (omega arith) in
+      let w : length (wordAt bytes i) ≡ wordBytes = part-length bytes (i * wordBytes) wordBytes (omega arith) in
+      let e : suc i * wordBytes ≡ i * wordBytes + wordBytes = omega arith in
+      rw (e, take-add (i * wordBytes) wordBytes bytes)
+      (leaves-then (words-leave bytes i (omega arith) l) (word-leaves bytes i begun b (omega arith) (blankOf (wordAt bytes i)) refl))

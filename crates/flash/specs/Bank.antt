@@ -1,18 +1,18 @@
 -- A bank as sectors (01, 'Banks and sectors'; 'End OTA Write').
 -- Assumes nothing.
 use mathlib.Core.Path.{_≡_}
-use mathlib.Core.Bool.{Bool, true, false, not, _&&_, cond}
+use mathlib.Core.Bool.{Bool, false, _&&_, cond}
 use mathlib.Core.List.{List, _++_}
 use Prim.Native.Nat.{ℕ, zero, suc, _*_}
-use lib.Dec.{eqb, leb}
+use lib.Dec.{leb}
 use lib.ListN.{length, getD, take, drop}
-use Rattle.buffer.specs.Compare.{blankOf}
-use Rattle.layout.specs.Layout.{sectorSize, sectorStart, sectorOf}
-use Rattle.flash.specs.Sector.{blanks, erasedOf, writtenOf, alreadyOf}
+use Rattle.layout.specs.Layout.{sectorSize, goodN, sectorStart, sectorOf}
+use Rattle.flash.specs.declared.sector.Store.{Store}
+use Rattle.flash.specs.Sector.{blanks, erasedOf, storedIn, writtenOf, alreadyOf}
 
--- whether a bank of so many bytes has a sector k ("Sector numbers run from 1")
+-- whether a bank of so many bytes has a sector k: numbers run from 1, no bank has more than 491, and the sector ends within the bank
 unfoldable pub hasSector : ℕ → ℕ → Bool
-hasSector bytes k = not (eqb k 0) && leb (k * sectorSize) bytes
+hasSector bytes k = goodN k && leb (k * sectorSize) bytes
 
 -- the bank with another sector k
 unfoldable pub withSector : List ℕ → ℕ → List ℕ → List ℕ
@@ -34,10 +34,6 @@ writtenAt bank k bytes = atSector (λ (sector : List ℕ). writtenOf sector byte
 unfoldable pub alreadyAt : List ℕ → ℕ → List ℕ → Bool
 alreadyAt bank k bytes = hasSector (length bank) k && alreadyOf (sectorOf bank k) bytes
 
--- every byte of sector k is 0xFF; so is one that the bank does not have, since no byte of it is another
-unfoldable pub blankAt : List ℕ → ℕ → Bool
-blankAt bank k = cond (hasSector (length bank) k) (blankOf (sectorOf bank k)) true
-
 -- the bank after sector k was swept: "each sector not received .. is erased"
 abbrev pub sweptOne : List ℕ → ℕ → Bool → List ℕ
 sweptOne bank k received = cond received bank (atSector erasedOf k bank)
@@ -50,12 +46,13 @@ swept received (suc j) bank = sweptOne (swept received j bank) (suc j) (getD rec
 abbrev pub sweptOf : List ℕ → ℕ → List Bool → List ℕ
 sweptOf bank n received = swept received n bank
 
+-- one store to sector k
+abbrev pub Store·Is : List ℕ → ℕ → Store → List ℕ → Type 0
+Store·Is before k store after = after ≡ atSector (storedIn store) k before
+
 pub record WriteAt·Is (before : List ℕ) (k : ℕ) (bytes after : List ℕ) (r : Bool) : Type 0 where
   pub written : after ≡ writtenAt before k bytes
   pub already : r ≡ alreadyAt before k bytes
-
-abbrev pub SectorBlank·Is : List ℕ → ℕ → Bool → Type 0
-SectorBlank·Is bank k r = r ≡ blankAt bank k
 
 abbrev pub Sweep·Is : List ℕ → ℕ → List Bool → List ℕ → Type 0
 Sweep·Is before n received after = after ≡ sweptOf before n received

@@ -1,16 +1,18 @@
--- One sector, erased and written (01, 'The client, step by step', "Write packet in write state").
+-- One sector: what one store does to it, and what a write makes of it (01, 'The client, step by step', "Write packet in write state").
 -- Assumes nothing.
-use mathlib.Core.Path.{_≡_}
 use mathlib.Core.Bool.{Bool, _&&_, cond}
 use mathlib.Core.List.{List, _++_}
 use Prim.Native.Nat.{ℕ, _-_, _%_}
 use lib.Dec.{eqb, leb}
 use lib.ListN.{length, replicate}
 use Rattle.buffer.specs.Compare.{sameOf}
+use Rattle.buffer.specs.Number.{bytesOf}
 use Rattle.buffer.specs.Place.{placeOf}
 use Rattle.layout.specs.Layout.{sectorSize}
+use Rattle.flash.specs.declared.sector.Store.{Store}
+use Rattle.flash.specs.declared.sector.Store.the-variants.{Erase, Word}
 
--- what is stored at once
+-- the bytes of a word, which is stored at once
 abbrev pub wordBytes : ℕ
 wordBytes = 4
 
@@ -22,29 +24,23 @@ blanks n = replicate n 0xFF
 unfoldable pub erasedOf : List ℕ → List ℕ
 erasedOf sector = blanks (length sector)
 
+-- the sector after one store; a word that does not lie within it changes nothing
+abbrev pub storedIn : Store → List ℕ → List ℕ
+storedIn Erase sector = erasedOf sector
+storedIn (Word at word) sector = placeOf sector at (bytesOf wordBytes word)
+
 -- "the M data bytes followed by 0xFF"
 unfoldable pub paddedOf : List ℕ → List ℕ
 paddedOf bytes = bytes ++ blanks (sectorSize - length bytes)
 
--- a whole sector, and bytes that fit it in whole words
-unfoldable pub fitsSector : List ℕ → List ℕ → Bool
-fitsSector sector bytes =
-    eqb (length sector) sectorSize && (leb (length bytes) sectorSize && eqb (length bytes % wordBytes) 0)
+-- so many bytes fit a sector, in whole words
+unfoldable pub fitsSector : ℕ → Bool
+fitsSector m = leb m sectorSize && eqb (m % wordBytes) 0
 
 -- the sector after the bytes were written to it: what does not fit changes nothing
 unfoldable pub writtenOf : List ℕ → List ℕ → List ℕ
-writtenOf sector bytes = cond (fitsSector sector bytes) (paddedOf bytes) sector
+writtenOf sector bytes = cond (fitsSector (length bytes)) (paddedOf bytes) sector
 
 -- "all 512 bytes already were what they should become"
 unfoldable pub alreadyOf : List ℕ → List ℕ → Bool
-alreadyOf sector bytes = fitsSector sector bytes && sameOf sector (paddedOf bytes)
-
-abbrev pub Erase·Is : List ℕ → List ℕ → Type 0
-Erase·Is before after = after ≡ erasedOf before
-
-abbrev pub StoreWord·Is : List ℕ → ℕ → List ℕ → List ℕ → Type 0
-StoreWord·Is before at word after = after ≡ placeOf before at word
-
-pub record WriteSector·Is (before bytes after : List ℕ) (r : Bool) : Type 0 where
-  pub written : after ≡ writtenOf before bytes
-  pub already : r ≡ alreadyOf before bytes
+alreadyOf sector bytes = fitsSector (length bytes) && sameOf sector (paddedOf bytes)

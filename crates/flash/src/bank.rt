@@ -1,64 +1,108 @@
-// A bank of sectors, numbered from 1. Only the bytes of one sector are lent on to what changes them.
+// A bank of sectors, numbered from 1. Its bytes change through `store` alone, which lends on just the 512 bytes of one sector.
+use crate::sector::Store;
+use crate::sector::WORD;
 use layout::SECTOR;
 ghost use mathlib.Core.Path.{_≡_};
-ghost use mathlib.Core.Bool.{false};
+ghost use mathlib.Core.Bool.{true, false};
 ghost use Prim.Native.Nat.{_+_, _*_, _/_, _≤_, min};
-ghost use lib.ListN.{getD};
-ghost use Rattle.layout.specs.Layout.{sectorSize, sectorStart};
-ghost use Rattle.flash.specs.Bank.{hasSector, sweptOne, WriteAt·Is, SectorBlank·Is, Sweep·Is};
+ghost use lib.ListN.{length, getD};
+ghost use Rattle.buffer.specs.Compare.{sameOf};
+ghost use Rattle.layout.specs.Layout.{sectorSize, sectorOf};
+ghost use Rattle.flash.specs.Sector.{wordBytes, paddedOf, fitsSector};
+ghost use Rattle.flash.specs.Bank.{hasSector, Store·Is, WriteAt·Is, Sweep·Is};
+ghost use Rattle.flash.specs.Store.{Leaves, wordStore, wordStores, sweepStore};
 
 // Whether sector `k` lies within a bank of so many bytes.
 fn has_sector(bytes: usize, k: usize) -> bool
     ensures { λ r. ⌜ r ≡ hasSector bytes k ⌝ }
 {
-    if k == 0 {
+    if !layout::good_n(k) {
         return false;
     }
-    k <= bytes / SECTOR
+    k * SECTOR <= bytes
 }
 
-// The index of the first byte of sector `k`, which a bank of so many bytes has.
-fn start(bytes: usize, k: usize) -> usize
-    requires { ⌜ (1 ≤ k) × (k * sectorSize ≤ bytes) ⌝ }
-    ensures { λ r. ⌜ (r ≡ sectorStart k) × (r + sectorSize ≤ bytes) ⌝ }
+// One store to sector `k`. What does not lie within a sector of the bank changes nothing.
+pub fn store(bank: &mut [u8], k: usize, store: Store)
+    ensures { λ _. ⌜ Store·Is (now (bank .entry)) k store (now (bank .exit)) ⌝ }
 {
-    (k - 1) * SECTOR
+    if !has_sector(bank.len(), k) {
+        return;
+    }
+    let from = layout::sector_offset(k);
+    crate::sector::make(&mut bank[from..from + SECTOR], store);
 }
 
-// Sector `k` becomes the bytes followed by 0xFF. Whether all of it already was that.
+// Word `i` of the bytes to its place in sector `k`. A blank one is there already: the sector was erased.
+fn put_word(bank: &mut [u8], k: usize, bytes: &[u8], i: usize)
+    requires { ⌜ i * wordBytes + wordBytes ≤ length (now bytes) ⌝ }
+    ensures { λ _. ⌜ Leaves (wordStore k (now (bytes .entry)) i) (now (bank .entry)) (now (bank .exit)) ⌝ }
+{
+    let at = i * WORD;
+    let word = buffer::number::number4(&bytes[at..], 0);
+    if word == 0xFFFF_FFFF {
+        return;
+    }
+    store(bank, k, Store::Word { at, word });
+}
+
+// The first `n` words of the bytes, ascending.
+fn put_words(bank: &mut [u8], k: usize, bytes: &[u8], n: usize)
+    requires { ⌜ n * wordBytes ≤ length (now bytes) ⌝ }
+    ensures { λ _. ⌜ Leaves (wordStores k (now (bytes .entry)) n) (now (bank .entry)) (now (bank .exit)) ⌝ }
+{
+    let mut i = 0;
+    while i < n {
+        put_word(bank, k, bytes, i);
+        i += 1;
+    }
+}
+
+// Whether so many bytes fit a sector, in whole words.
+fn fits_sector(m: usize) -> bool
+    ensures { λ r. ⌜ r ≡ fitsSector m ⌝ }
+{
+    if SECTOR < m {
+        return false;
+    }
+    m % WORD == 0
+}
+
+// Whether all of sector `k` is the bytes followed by 0xFF already.
+fn already(bank: &[u8], k: usize, bytes: &[u8]) -> bool
+    requires { ⌜ (hasSector (length (now bank)) k ≡ true) × (fitsSector (length (now bytes)) ≡ true) ⌝ }
+    ensures { λ r. ⌜ r ≡ sameOf (sectorOf (now (bank .entry)) k) (paddedOf (now (bytes .entry))) ⌝ }
+{
+    let from = layout::sector_offset(k);
+    crate::sector::holds(&bank[from..from + SECTOR], bytes)
+}
+
+// Sector `k` becomes the bytes followed by 0xFF. Whether all of it already was that: then there is nothing to store.
 pub fn write_at(bank: &mut [u8], k: usize, bytes: &[u8]) -> bool
     ensures { λ r. ⌜ WriteAt·Is (now (bank .entry)) k (now (bytes .entry)) (now (bank .exit)) r ⌝ }
 {
     if !has_sector(bank.len(), k) {
         return false;
     }
-    let from = start(bank.len(), k);
-    crate::sector::write_sector(&mut bank[from..from + SECTOR], bytes)
-}
-
-// Whether every byte of sector `k` is 0xFF, as of one that the bank does not have.
-pub fn sector_blank(bank: &[u8], k: usize) -> bool
-    ensures { λ r. ⌜ SectorBlank·Is (now (bank .entry)) k r ⌝ }
-{
-    if !has_sector(bank.len(), k) {
+    if !fits_sector(bytes.len()) {
+        return false;
+    }
+    if already(bank, k, bytes) {
         return true;
     }
-    let from = start(bank.len(), k);
-    buffer::compare::blank(&bank[from..from + SECTOR])
+    store(bank, k, Store::Erase);
+    put_words(bank, k, bytes, bytes.len() / WORD);
+    false
 }
 
 // Sector `k` is erased, unless it was received.
 fn sweep_one(bank: &mut [u8], k: usize, received: bool)
-    ensures { λ _. ⌜ now (bank .exit) ≡ sweptOne (now (bank .entry)) k received ⌝ }
+    ensures { λ _. ⌜ Leaves (sweepStore (length (now (bank .entry))) k received) (now (bank .entry)) (now (bank .exit)) ⌝ }
 {
     if received {
         return;
     }
-    if !has_sector(bank.len(), k) {
-        return;
-    }
-    let from = start(bank.len(), k);
-    crate::sector::erase(&mut bank[from..from + SECTOR]);
+    store(bank, k, Store::Erase);
 }
 
 // How many of the first `n` sectors a bank of so many bytes has.

@@ -1,8 +1,11 @@
--- `flash::bank::write_at` meets its contract: what `write_sector` says of the part, said of the bank.
+-- `flash::bank::write_at` meets its contract: what its stores leave is what the definition says.
 -- Assumes nothing.
-use Rattle.flash.proofs.Sectors.{has-tested}
-use Rattle.flash.proofs.Writes.{write-outside, write-inside}
+use mathlib.Core.Path.{sym, _∙_}
 use borrow.Author.Needs.{needs}
+use borrow.Author.Tests.{not-true, not-false}
+use Rattle.flash.specs.declared.sector.Store.the-variants.{Erase}
+use Rattle.flash.proofs.Stores.{leaves-call}
+use Rattle.flash.proofs.Writes.{write-outside, write-unfit, write-held, write-stored}
 use Rattle.flash.proofs.bank.write_at.Statement.{statement}
 use Rattle.flash.proofs.bank.write_at.Tie as tie
 
@@ -10,34 +13,56 @@ has-sector-requires : tie.Need-has-sector-requires
 has-sector-requires c κs = search needs
 
 returns : tie.Need-returns
-returns c = write-outside (c .before .before .before .before .args .bank .now) (c .before .before .before .before .args .k) (c .before .before .before .before .args .bytes .now) _ (c .before .has-sector .ensures) (c .if1 .taken)
+returns c =
+    let a = c .before .before .before .before .args in
+    write-outside (a .bank .now) (a .k) (a .bytes .now) (sym (c .before .has-sector .ensures) ∙ not-true _ (c .if1 .taken))
 
-start-requires : tie.Need-start-requires
-start-requires c κs =
-    let h = has-tested _ _ _ (c .before .has-sector .ensures) (c .if1 .left) in
-    search needs
+fits-sector-requires : tie.Need-fits-sector-requires
+fits-sector-requires c κs = search needs
 
-add-write-sector : tie.Need-add-write-sector
-add-write-sector c = search needs
+returns-2 : tie.Need-returns-2
+returns-2 c =
+    let d = c .before .before in
+    let a = d .before .before .before .before .args in
+    write-unfit (a .bank .now) (a .k) (a .bytes .now) (sym (d .before .has-sector .ensures) ∙ not-false _ (d .if1 .left))
+    (sym (c .before .fits-sector .ensures) ∙ not-true _ (c .if2 .taken))
 
-sub-write-sector : tie.Need-sub-write-sector
-sub-write-sector c = search needs
-
-part-write-sector-start : tie.Need-part-write-sector-start
-part-write-sector-start c = search needs
-
-part-write-sector-end : tie.Need-part-write-sector-end
-part-write-sector-end c = search needs
-
-write-sector-requires : tie.Need-write-sector-requires
-write-sector-requires c κs = search needs
+already-requires : tie.Need-already-requires
+already-requires c κs =
+    let d = c .before .before .before in
+    let e = c .before in
+    (sym (d .before .has-sector .ensures) ∙ not-false _ (d .if1 .left), sym (e .before .fits-sector .ensures) ∙ not-false _ (e .if2 .left))
 
 same-length : tie.Need-same-length
 same-length c = search needs
 
-returns-2 : tie.Need-returns-2
-returns-2 c =
-    write-inside (c .before .before .before .before .before .before .before .before .before .args .bank .now) (c .before .before .before .before .before .before .before .before .before .args .k) _ (c .before .before .before .before .before .before .before .before .before .args .bytes .now) _ _ (has-tested _ _ _ (c .before .before .before .before .before .before .has-sector .ensures) (c .before .before .before .before .before .if1 .left)) (c .before .before .before .before .start .ensures .0) (c .before .before .write-sector .ensures)
+returns-3 : tie.Need-returns-3
+returns-3 c =
+    let e = c .before .before .before in
+    let d = e .before .before in
+    let a = d .before .before .before .before .args in
+    write-held (a .bank .now) (a .k) (a .bytes .now) (sym (d .before .has-sector .ensures) ∙ not-false _ (d .if1 .left))
+    (sym (e .before .fits-sector .ensures) ∙ not-false _ (e .if2 .left)) (sym (c .if3 .taken) ∙ c .before .already .ensures)
+
+store-requires : tie.Need-store-requires
+store-requires c κs = search needs
+
+put-words-requires : tie.Need-put-words-requires
+put-words-requires c κs = search needs
+
+same-length-2 : tie.Need-same-length-2
+same-length-2 c = search needs
+
+returns-4 : tie.Need-returns-4
+returns-4 c =
+    let s = c .before .before .before .before .before .before in
+    let f = s .before .before in
+    let e = f .before .before .before in
+    let d = e .before .before in
+    let a = d .before .before .before .before .args in
+    write-stored (a .bank .now) (a .k) (a .bytes .now) (sym (d .before .has-sector .ensures) ∙ not-false _ (d .if1 .left))
+    (sym (e .before .fits-sector .ensures) ∙ not-false _ (e .if2 .left)) (sym (f .if3 .left) ∙ f .before .already .ensures)
+    (leaves-call (a .bank .now) (a .k) Erase (s .store .ensures)) (c .before .before .put-words .ensures)
 
 pub write-at-spec : {M : Type 1} → statement M
 write-at-spec =
@@ -45,11 +70,12 @@ write-at-spec =
     (tie.spec
     has-sector-requires
     returns
-    start-requires
-    add-write-sector
-    sub-write-sector
-    part-write-sector-start
-    part-write-sector-end
-    write-sector-requires
+    fits-sector-requires
+    returns-2
+    already-requires
     same-length
-    returns-2)
+    returns-3
+    store-requires
+    put-words-requires
+    same-length-2
+    returns-4)
