@@ -4,8 +4,7 @@ use Prim.Native.Nat.{ℕ}
 use mathlib.Core.Path.{_≡_}
 use mathlib.Core.List.{List}
 use Rattle.layout.specs.Said.{Said, number, result, value}
-use Rattle.bank.specs.Said.{verdictSaid}
-use Rattle.bank.specs.Sound.{verdictOf}
+use Rattle.bank.specs.Said.{checkSays}
 
 abbrev pub code : Said → ℕ
 code (number n) = n
@@ -13,4 +12,4 @@ code (result n) = n
 code (value n) = n
 
 abbrev pub CheckNumber·Is : List ℕ → ℕ → Type 0
-CheckNumber·Is b r = r ≡ code (verdictSaid (verdictOf b))
+CheckNumber·Is b r = r ≡ code (checkSays b)

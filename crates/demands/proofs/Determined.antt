@@ -39,8 +39,8 @@ determined =
       body-count = λ bank. once _;
       behind-table = λ bank. once _;
       stretch-at = λ bank i. once _;
-      contents = λ bank. once _;
-      check = λ bank. once _;
+      contents = λ bank x y p q. p .verdict ∙ sym (q .verdict);
+      check = λ bank x y p q. p .verdict ∙ sym (q .verdict);
       body = λ bank i. once _;
       ahead = λ text at. once _;
       reader-at = λ text at r s p q. λ k. record { text = (p .text-is ∙ sym (q .text-is)) k; at = (p .at-is ∙ sym (q .at-is)) k };

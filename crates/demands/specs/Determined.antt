@@ -29,7 +29,8 @@ use Rattle.flash.specs.Bank.{WriteAt·Is, SectorBlank·Is, Sweep·Is}
 use Rattle.flash.specs.Sector.{Erase·Is, StoreWord·Is, WriteSector·Is}
 use Rattle.layout.specs.Layout.{GoodN·Is, Sectors·Is, BankNumber·Is, Other·Is, Start·Is, End·Is, SectorOffset·Is}
 use Rattle.bank.specs.Listed.{BodyCount·Is, BehindTable·Is, StretchAt·Is}
-use Rattle.bank.specs.Sound.{Contents·Is, Check·Is, Body·Is}
+use Rattle.bank.specs.Said.{Contents·Is, Check·Is}
+use Rattle.bank.specs.Sound.{Body·Is}
 use Rattle.lines.specs.Places.{Ahead·Is, Reader·Is, Next·Is}
 use Rattle.hex.specs.Read.{KindNumber·Is}
 use Rattle.hex.specs.Read.{Read·Is as ReadText·Is}
