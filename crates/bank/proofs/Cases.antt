@@ -3,21 +3,21 @@
 use Prim.Native.Nat.{ℕ, _≤_, _<_}
 use native.Mathlib.Omega.{arith}
 use native.Mathlib.Decide.{decLt}
-use mathlib.Core.Path.{_≡_, refl, sym, _∙_}
+use mathlib.Core.Path.{_≡_, refl, sym, ap, _∙_}
 use mathlib.Core.Bool.{Bool, true, false, _&&_, cond}
 use mathlib.Core.List.{List, []}
 use lib.Dec.{ltb}
 use lib.ListN.{length}
 use borrow.Author.Tests.{lt-ltb, le-ltb, le-leb}
 use Rattle.buffer.proofs.Bools.{and-left, and-assoc, and-true, and-false}
-use Rattle.layout.specs.Said.{number, result}
+use Rattle.layout.specs.Said.{number, result, value}
 use Rattle.layout.specs.Layout.{wholeLength}
 use Rattle.bank.specs.declared.check.Contents.{Contents}
 use Rattle.bank.specs.declared.check.Contents.the-variants as contents
 use Rattle.bank.specs.declared.check.Verdict.{Verdict}
 use Rattle.bank.specs.declared.check.Verdict.the-variants.{Refused, Sound, Unsound}
 use Rattle.bank.specs.declared.stretch.Stretch.{Stretch}
-use Rattle.bank.specs.Said.{verdictSaid}
+use Rattle.bank.specs.Said.{verdictSaid, contentsSaid, checkSays, contentsSays, Check·Is, Contents·Is}
 use Rattle.bank.specs.Stretch.{stopOf, part}
 use Rattle.bank.specs.Table.{countOf, entryAt}
 use Rattle.bank.specs.Sound.{headerGood, tableFits, tableGood, listedGood, contentsGood, blankGood, soundOf}
@@ -41,34 +41,61 @@ module _ (b : List ℕ) (outside : Bool) (n : ℕ) where
     unfolding contentsGood tableFits
     rules-listed q = rw (t .header, le-leb _ _ (t .fits), q)
 
--- r is whether those rules are kept
-module _ (b : List ℕ) where
-  pub contents-refused : wholeLength (length b) ≡ false → contents.Refused ≡ contentsOf b
-  unfolding contentsOf
-  contents-refused l = rw l
+-- a verdict and what it says
+check-said : (b : List ℕ) → verdictSaid (verdictOf b) ≡ checkSays b
+unfolding verdictOf checkSays
+check-said b = by (wholeLength (length b)) (soundOf b)
+  where
+    by : (l s : Bool) → verdictSaid (cond l (cond s Sound Unsound) Refused) ≡ cond l (cond s (result 0x06) (result 0x1E)) (number 2)
+    by true true = refl
+    by true false = refl
+    by false s = refl
 
-  pub check-refused : wholeLength (length b) ≡ false → Refused ≡ verdictOf b
+check-is : (b : List ℕ) (r : Verdict) → r ≡ verdictOf b → Check·Is b r
+check-is b r e = record { verdict = e; said = ap verdictSaid e ∙ check-said b }
+
+contents-said : (b : List ℕ) → contentsSaid (contentsOf b) ≡ contentsSays b
+unfolding contentsOf contentsSays
+contents-said b = by (wholeLength (length b)) (contentsGood b)
+  where
+    by :
+        (l s : Bool)
+        → contentsSaid (cond l (cond s contents.Good contents.Faulty) contents.Refused) ≡ cond l (cond s (value 1) (value 0)) (number 2)
+    by true true = refl
+    by true false = refl
+    by false s = refl
+
+contents-is : (b : List ℕ) (r : Contents) → r ≡ contentsOf b → Contents·Is b r
+contents-is b r e = record { verdict = e; said = ap contentsSaid e ∙ contents-said b }
+
+-- each way out; r is whether the rules are kept
+module _ (b : List ℕ) where
+  pub contents-refused : wholeLength (length b) ≡ false → Contents·Is b contents.Refused
+  unfolding contentsOf
+  contents-refused l = contents-is b contents.Refused (rw l)
+
+  pub check-refused : wholeLength (length b) ≡ false → Check·Is b Refused
   unfolding verdictOf
-  check-refused l = rw l
+  check-refused l = check-is b Refused (rw l)
 
   module _ (l : wholeLength (length b) ≡ true) (r : Bool) where
     module _ (is : r ≡ (contentsGood b && asked false (blankGood b))) where
-      pub contents-good : r ≡ true → contents.Good ≡ contentsOf b
+      pub contents-good : r ≡ true → Contents·Is b contents.Good
       unfolding contentsOf asked
-      contents-good e = rw (l, ← and-true (contentsGood b), ← is, e)
+      contents-good e = contents-is b contents.Good (rw (l, ← and-true (contentsGood b), ← is, e))
 
-      pub contents-faulty : r ≡ false → contents.Faulty ≡ contentsOf b
+      pub contents-faulty : r ≡ false → Contents·Is b contents.Faulty
       unfolding contentsOf asked
-      contents-faulty e = rw (l, ← and-true (contentsGood b), ← is, e)
+      contents-faulty e = contents-is b contents.Faulty (rw (l, ← and-true (contentsGood b), ← is, e))
 
     module _ (is : r ≡ (contentsGood b && asked true (blankGood b))) where
-      pub check-sound : r ≡ true → Sound ≡ verdictOf b
+      pub check-sound : r ≡ true → Check·Is b Sound
       unfolding verdictOf soundOf asked
-      check-sound e = rw (l, ← is, e)
+      check-sound e = check-is b Sound (rw (l, ← is, e))
 
-      pub check-unsound : r ≡ false → Unsound ≡ verdictOf b
+      pub check-unsound : r ≡ false → Check·Is b Unsound
       unfolding verdictOf soundOf asked
-      check-unsound e = rw (l, ← is, e)
+      check-unsound e = check-is b Unsound (rw (l, ← is, e))
 
 -- what is handed out is the table's, where that verdict was given; v is what was said (02 §7, §10)
 by-good : (l s : Bool) → contents.Good ≡ cond l (cond s contents.Good contents.Faulty) contents.Refused → (l ≡ true) × (s ≡ true)
@@ -129,15 +156,3 @@ module _ (b : List ℕ) (v : Verdict) (is : v ≡ verdictOf b) (i : ℕ) where
             → part b (stretchAt b i .offset) (stopOf (stretchAt b i)) ≡ cond (ltb i (countOf b)) (stretchBytes b (entryAt b i)) []
         by (yes h) = rw (told .stretch i (omega (arith, told .count)), lt-ltb _ _ h)
         by (no h) = rw (← stretch-none b i (omega (arith, told .count)), le-ltb i (countOf b) (omega arith))
-
--- ---- as 01 says it
-
-pub check-said :
-    (b : List ℕ) → verdictSaid (verdictOf b) ≡ cond (wholeLength (length b)) (cond (soundOf b) (result 0x06) (result 0x1E)) (number 2)
-unfolding verdictOf
-check-said b = by (wholeLength (length b)) (soundOf b)
-  where
-    by : (l s : Bool) → verdictSaid (cond l (cond s Sound Unsound) Refused) ≡ cond l (cond s (result 0x06) (result 0x1E)) (number 2)
-    by true true = refl
-    by true false = refl
-    by false s = refl

@@ -4,8 +4,7 @@ use Prim.Native.Nat.{ℕ}
 use mathlib.Core.Path.{_≡_}
 use mathlib.Core.List.{List}
 use Rattle.layout.specs.Said.{code}
-use Rattle.bank.specs.Said.{verdictSaid}
-use Rattle.bank.specs.Sound.{verdictOf}
+use Rattle.bank.specs.Said.{checkSays}
 
 abbrev pub CheckNumber·Is : List ℕ → ℕ → Type 0
-CheckNumber·Is b r = r ≡ code (verdictSaid (verdictOf b))
+CheckNumber·Is b r = r ≡ code (checkSays b)

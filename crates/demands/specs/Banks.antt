@@ -6,20 +6,21 @@ use mathlib.Core.List.{List, []}
 use Prim.Native.Nat.{ℕ, _≤_, _<_}
 use lib.ListN.{length}
 use Rattle.bank.specs.declared.check.Verdict.{Verdict}
-use Rattle.bank.specs.declared.check.Verdict.the-variants.{Refused, Sound, Unsound}
 use Rattle.layout.specs.Layout.{wholeLength}
+use Rattle.layout.specs.Said.{number, result}
 use Rattle.bank.specs.Meaning.{Kept}
+use Rattle.bank.specs.Said.{verdictSaid}
 use Rattle.bank.specs.Sound.{stretchBytes}
 use Rattle.bank.specs.Table.{countOf, entryAt}
 use Rattle.client.specs.declared.record.Client.{Client}
 use Rattle.layout.specs.Pair.{Banks, banks, bankIn}
 use Rattle.client.specs.Body.{banksGood}
 
--- 2 unless the length is 1 to 491 sectors; then sound if each rule is kept, and unsound if not
+-- 2 unless the length is 1 to 491 sectors; then 06 if each rule is kept, and 1E if not
 pub record MeetsCheck (check : List ℕ → Verdict) : Type 0 where
-  pub wrong : (b : List ℕ) → wholeLength (length b) ≡ false → check b ≡ Refused
-  pub sound : (b : List ℕ) → wholeLength (length b) ≡ true → Kept b → check b ≡ Sound
-  pub unsound : (b : List ℕ) → wholeLength (length b) ≡ true → (Kept b → ⊥) → check b ≡ Unsound
+  pub wrong : (b : List ℕ) → wholeLength (length b) ≡ false → verdictSaid (check b) ≡ number 2
+  pub sound : (b : List ℕ) → wholeLength (length b) ≡ true → Kept b → verdictSaid (check b) ≡ result 0x06
+  pub unsound : (b : List ℕ) → wholeLength (length b) ≡ true → (Kept b → ⊥) → verdictSaid (check b) ≡ result 0x1E
 
 -- record, banks, which body
 abbrev pub View : Type 0

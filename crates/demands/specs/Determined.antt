@@ -34,7 +34,8 @@ use Rattle.flash.specs.Bank.{Store·Is, WriteAt·Is, Sweep·Is}
 use Rattle.layout.specs.Layout.{GoodN·Is, BankSize·Is, Sectors·Is, BankNumber·Is, Other·Is, Start·Is, End·Is, SectorOffset·Is}
 use Rattle.digits.specs.Digit.{Value·Is, Digit·Is}
 use Rattle.bank.specs.Listed.{BodyCount·Is, BehindTable·Is, StretchAt·Is}
-use Rattle.bank.specs.Sound.{Contents·Is, Check·Is, Body·Is}
+use Rattle.bank.specs.Said.{Contents·Is, Check·Is}
+use Rattle.bank.specs.Sound.{Body·Is}
 use Rattle.lines.specs.Places.{Ahead·Is, Reader·Is, Next·Is}
 use Rattle.hex.specs.Read.{KindNumber·Is}
 use Rattle.hex.specs.Read.{Read·Is as ReadText·Is}

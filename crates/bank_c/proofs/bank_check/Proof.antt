@@ -20,13 +20,13 @@ enum-told-3 : tie.Need-enum-told-3
 enum-told-3 c = search needs
 
 returns : tie.Need-returns
-returns c = ap (λ v. code (verdictSaid v)) (sym (c .enum-told .given .1) ∙ c .before .before .check .ensures)
+returns c = ap code (ap verdictSaid (sym (c .enum-told .given .1)) ∙ c .before .before .check .ensures .said)
 
 returns-2 : tie.Need-returns-2
-returns-2 c = ap (λ v. code (verdictSaid v)) (sym (c .enum-told2 .given .1) ∙ c .before .before .check .ensures)
+returns-2 c = ap code (ap verdictSaid (sym (c .enum-told2 .given .1)) ∙ c .before .before .check .ensures .said)
 
 returns-3 : tie.Need-returns-3
-returns-3 c = ap (λ v. code (verdictSaid v)) (sym (c .enum-told3 .given .1) ∙ c .before .before .check .ensures)
+returns-3 c = ap code (ap verdictSaid (sym (c .enum-told3 .given .1)) ∙ c .before .before .check .ensures .said)
 
 pub bank-check-spec : {M : Type 1} → statement M
 bank-check-spec =

@@ -29,7 +29,7 @@ stretch-at-requires c κs = search needs
 add-to : tie.Need-add-to
 add-to c =
     let told = c .before in
-    let w = body-within _ _ (told .before .before .before .check .ensures) _ (told .before .enum-told3 .given .1) _ (told .stretch-at .ensures) in
+    let w = body-within _ _ (told .before .before .before .check .ensures .verdict) _ (told .before .enum-told3 .given .1) _ (told .stretch-at .ensures) in
     search needs
 
 sub-result : tie.Need-sub-result
@@ -41,18 +41,18 @@ part-result-start c = search needs
 part-result-end : tie.Need-part-result-end
 part-result-end c =
     let told = c .before in
-    body-within _ _ (told .before .before .before .check .ensures) _ (told .before .enum-told3 .given .1) _ (told .stretch-at .ensures)
+    body-within _ _ (told .before .before .before .check .ensures .verdict) _ (told .before .enum-told3 .given .1) _ (told .stretch-at .ensures)
 
 returns : tie.Need-returns
-returns c = body-refused _ _ (c .before .before .before .check .ensures) _ (c .before .enum-told .given .1)
+returns c = body-refused _ _ (c .before .before .before .check .ensures .verdict) _ (c .before .enum-told .given .1)
 
 returns-2 : tie.Need-returns-2
-returns-2 c = body-unsound _ _ (c .before .before .before .check .ensures) _ (c .before .enum-told2 .given .1)
+returns-2 c = body-unsound _ _ (c .before .before .before .check .ensures .verdict) _ (c .before .enum-told2 .given .1)
 
 returns-3 : tie.Need-returns-3
 returns-3 c =
     let told = c .before .before in
-    body-is _ _ (told .before .before .before .check .ensures) _ (told .before .enum-told3 .given .1) _ (told .stretch-at .ensures)
+    body-is _ _ (told .before .before .before .check .ensures .verdict) _ (told .before .enum-told3 .given .1) _ (told .stretch-at .ensures)
 
 pub body-spec : {M : Type 1} → statement M
 body-spec =
