@@ -17,7 +17,7 @@ use Rattle.decision.proofs.Numbers.{planNumber, plan-number}
 use Rattle.client.specs.declared.record.Client.{Client}
 use Rattle.client.specs.Record.{standingOf}
 use Rattle.client.specs.Perform.{fitOf, Done, storeOf, checkedOf, servedOf}
-use Rattle.client.specs.Step.{carriedOf, planned, takeOf, takeSays, besideOf, stepSays}
+use Rattle.client.specs.Step.{carriedOf, planned, takeOf, takeSays, besideOf, besideSays}
 use Rattle.flash.specs.Bank.{sweptOf}
 
 -- what a plan leads to has the plan's number
@@ -35,7 +35,7 @@ carried-number c Finish target address buffer bytes =
 
 module _ (c : Client) where
   pub take-says : (target marks address buffer datagram : List ℕ)
-      → answerNumber (takeOf c target marks address buffer datagram .answer) ≡ takeSays c (length target) (length marks) (length address) (length buffer)
+      → answerNumber (takeOf c target marks address buffer datagram .answer) ≡ takeSays c target marks address buffer
   unfolding takeOf
   take-says target marks address buffer datagram =
       carried-number c (planned c target marks address buffer datagram) target address buffer (dataIn datagram)
@@ -43,13 +43,13 @@ module _ (c : Client) where
 
   pub beside-says : (running : ℕ) (target marks address buffer datagram : List ℕ)
       → answerNumber (besideOf c running target marks address buffer datagram .answer)
-      ≡ stepSays c running (length target) (length marks) (length address) (length buffer)
+      ≡ besideSays c running target marks address buffer
   unfolding besideOf
   beside-says running target marks address buffer datagram = by (goodN (c .fixed .n)) (eqb running (bankSize (c .fixed .n))) refl refl
     where
       by : (g e : Bool) → goodN (c .fixed .n) ≡ g → eqb running (bankSize (c .fixed .n)) ≡ e
           → answerNumber (besideOf c running target marks address buffer datagram .answer)
-          ≡ stepSays c running (length target) (length marks) (length address) (length buffer)
+          ≡ besideSays c running target marks address buffer
       by false e g is = rw g (carried-number c _ target address buffer _)
       by true false g is = rw (g, is) (carried-number c _ target address buffer _)
       by true true g is = rw (g, is) (rw g at (take-says target marks address buffer datagram))

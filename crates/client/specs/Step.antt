@@ -94,15 +94,15 @@ takeOf c target marks address buffer datagram =
     carriedOf c (planned c target marks address buffer datagram) target address buffer (dataIn datagram)
 
 -- the paper's number where there is no answer: "3, 2, 1"
-abbrev pub takeSays : Client → ℕ → ℕ → ℕ → ℕ → ℕ
+abbrev pub takeSays : Client → List ℕ → List ℕ → List ℕ → List ℕ → ℕ
 takeSays c target marks address buffer =
     cond (not (goodN (c .fixed .n))) 3
-    (cond (not (lentGood (c .fixed .n) target marks address buffer)) 2 (cond (isClosed (c .state)) 1 0))
+    (cond (not (lentGood (c .fixed .n) (length target) (length marks) (length address) (length buffer))) 2 (cond (isClosed (c .state)) 1 0))
 
 pub record Take·Is (c : Client) (target marks address buffer datagram : List ℕ) (r : Stepped) (after answered : List ℕ) : Type 0 where
   pub client : r .client ≡ takeOf c target marks address buffer datagram .client
   pub answer : r .answer ≡ takeOf c target marks address buffer datagram .answer
-  pub says : answerNumber (r .answer) ≡ takeSays c (length target) (length marks) (length address) (length buffer)
+  pub says : answerNumber (r .answer) ≡ takeSays c target marks address buffer
   pub told : r .length ≡ takeOf c target marks address buffer datagram .told
   pub notice : r .notice ≡ takeOf c target marks address buffer datagram .notice
   pub target-left : after ≡ takeOf c target marks address buffer datagram .target
@@ -128,17 +128,19 @@ stepOf c pair marks address buffer datagram =
 abbrev pub banksAfter : Client → Banks → Carried → Banks
 banksAfter c pair r = withBank (otherOf (c .fixed .running)) (r .target) pair
 
-abbrev pub stepSays : Client → ℕ → ℕ → ℕ → ℕ → ℕ → ℕ
-stepSays c running target marks address buffer =
+abbrev pub besideSays : Client → ℕ → List ℕ → List ℕ → List ℕ → List ℕ → ℕ
+besideSays c running target marks address buffer =
     cond (not (goodN (c .fixed .n))) 3
     (cond (not (eqb running (bankSize (c .fixed .n)))) 2 (takeSays c target marks address buffer))
+
+abbrev pub stepSays : Client → Banks → List ℕ → List ℕ → List ℕ → ℕ
+stepSays c pair marks address buffer =
+    besideSays c (length (bankIn (c .fixed .running) pair)) (bankIn (otherOf (c .fixed .running)) pair) marks address buffer
 
 pub record Step·Is (c : Client) (bank0 bank1 marks address buffer datagram : List ℕ) (r : Stepped) (zero one answered : List ℕ) : Type 0 where
   pub client : r .client ≡ stepOf c (banks bank0 bank1) marks address buffer datagram .client
   pub answer : r .answer ≡ stepOf c (banks bank0 bank1) marks address buffer datagram .answer
-  pub says : answerNumber (r .answer)
-      ≡ stepSays c (length (bankIn (c .fixed .running) (banks bank0 bank1))) (length (bankIn (otherOf (c .fixed .running)) (banks bank0 bank1)))
-      (length marks) (length address) (length buffer)
+  pub says : answerNumber (r .answer) ≡ stepSays c (banks bank0 bank1) marks address buffer
   pub told : r .length ≡ stepOf c (banks bank0 bank1) marks address buffer datagram .told
   pub notice : r .notice ≡ stepOf c (banks bank0 bank1) marks address buffer datagram .notice
   pub bank-zero : zero ≡ banksAfter c (banks bank0 bank1) (stepOf c (banks bank0 bank1) marks address buffer datagram) .zero
