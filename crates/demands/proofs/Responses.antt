@@ -32,7 +32,20 @@ use Rattle.commands.proofs.Codes.{response-back}
 use Rattle.response.specs.declared.read.Response.{Response}
 use Rattle.response.specs.declared.read.Response.the-variants.{Unreadable, Plain, Error, Target, Firmware, Written}
 use Rattle.response.specs.Response.{
-  mayCarry, addedOf, targetOf, acceptedOf, ownOf, errorOf, answerOf, controlOf, repeatsOf, crcFits, writeOf, responseIn, responseOf}
+  mayCarry,
+  addedOf,
+  targetOf,
+  acceptedOf,
+  ownOf,
+  errorOf,
+  answerOf,
+  controlOf,
+  repeatsOf,
+  crcFits,
+  writeOf,
+  responseIn,
+  responseOf,
+}
 use Rattle.response.specs.Said.{responseSaid, resultIn}
 use Rattle.response.proofs.Responses.{adds-none, adds-some}
 use Rattle.response.proofs.Six.{response-says}
