@@ -78,4 +78,9 @@ determined =
             one-same = p .bank-one ∙ sym (q .bank-one);
             answer-same = p .answered ∙ sym (q .answered);
           };
+      first-field = λ text. once _;
+      other-fields = λ text. once _;
+      ends-in-blank = λ text. once _;
+      before-lines = once _;
+      held-line = λ line turn. once _;
     }

@@ -17,6 +17,7 @@ use Rattle.exchange.specs.declared.state.State.{State}
 use Rattle.decision.specs.declared.plan.Standing.{Standing}
 use Rattle.client.specs.declared.record.Client.{Client}
 use Rattle.client.specs.declared.step.Stepped.{Stepped}
+use Rattle.script.specs.declared.line.Turn.{Turn}
 use Rattle.buffer.specs.Compare.{Same·Is, Blank·Is}
 use Rattle.buffer.specs.Fill.{Fill·Is}
 use Rattle.buffer.specs.Number.{Number·Is, PutNumber·Is}
@@ -45,6 +46,8 @@ use Rattle.client.specs.Step.{Step·Is}
 use Rattle.bank_c.specs.Check.{CheckNumber·Is}
 use Rattle.hex_c.specs.Code.{Code·Is}
 use Rattle.client_c.specs.Take.{Take·Is}
+use Rattle.script.specs.Text.{First·Is, Rest·Is, EndsInBlank·Is}
+use Rattle.script.specs.Line.{Before·Is, Held·Is}
 
 -- what a function gives is determined; so are two things that it gives, as a result and a lent list
 abbrev pub Once : {A : Type 0} → (A → Type 0) → Type 0
@@ -125,3 +128,9 @@ pub record Determined : Type 0 where
   pub hex-code : (text : List ℕ) (n : ℕ) (before : List ℕ) → Twice (Code·Is text n before)
   pub take : (n : ℕ) (slots bank0 bank1 marks address buffer : List ℕ) (r s : ℕ) (zero zero′ one one′ answer answer′ : List ℕ) → Take·Is n slots bank0 bank1 marks address buffer r zero one answer → Take·Is n slots bank0 bank1 marks address buffer s zero′ one′ answer′
       → Same r s zero zero′ one one′ answer answer′
+  -- lines and fields, for the programs
+  pub first-field : (text : List ℕ) → Once (First·Is text)
+  pub other-fields : (text : List ℕ) → Once (Rest·Is text)
+  pub ends-in-blank : (text : List ℕ) → Once (EndsInBlank·Is text)
+  pub before-lines : Once Before·Is
+  pub held-line : (line : List ℕ) (turn : Turn) → Once (Held·Is line turn)

@@ -1,4 +1,6 @@
 // All of standard input at once.
+ghost use lib.ListN.{length};
+ghost use Rattle.script.specs.Input.{Within};
 use libc::STDIN_FILENO;
 
 pub enum Input {
@@ -8,7 +10,9 @@ pub enum Input {
     Read(usize),
 }
 
-pub fn all(room: &mut [u8]) -> Input {
+pub fn all(room: &mut [u8]) -> Input
+    ensures { λ r. ⌜ Within (length (now (room .entry))) r ⌝ }
+{
     let mut done = 0;
     while done < room.len() {
         let got = libc::read(STDIN_FILENO, &mut room[done..]);

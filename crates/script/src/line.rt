@@ -1,6 +1,8 @@
 // The lines of standard input, one after another. What is read stands in a chunk; the line that was found is copied out of it.
+ghost use mathlib.Core.Path.{_≡_};
 ghost use Prim.Native.Nat.{_≤_};
 ghost use lib.ListN.{length};
+ghost use Rattle.script.specs.Line.{ownOf, Before·Is, Held·Is};
 use crate::call;
 use libc::STDIN_FILENO;
 
@@ -21,7 +23,9 @@ pub struct Turn {
 }
 
 // Before the first turn: nothing was read.
-pub fn before() -> Turn {
+pub fn before() -> Turn
+    ensures { λ r. ⌜ Before·Is r ⌝ }
+{
     Turn {
         found: Found::End,
         held: 0,
@@ -68,7 +72,9 @@ fn whole_last(line: &[u8], held: usize) -> Found {
 }
 
 // Nothing says that a line ends, so the loop counts its turns down, from a number that no run uses up.
-pub fn next(chunk: &mut [u8], line: &mut [u8], last: Turn) -> Turn {
+pub fn next(chunk: &mut [u8], line: &mut [u8], last: Turn) -> Turn
+    ensures { λ r. ⌜ r .to ≤ length (now (chunk .exit)) ⌝ }
+{
     let mut from = last.from;
     let mut to = within(chunk, last.to);
     let mut held = 0;
@@ -111,7 +117,7 @@ pub fn next(chunk: &mut [u8], line: &mut [u8], last: Turn) -> Turn {
 // How many of the first `size` bytes are the line's own: a CR before its LF is not.
 fn own(line: &[u8], size: usize) -> usize
     requires { ⌜ size ≤ length (now line) ⌝ }
-    ensures { λ r. ⌜ r ≤ length (now (line .entry)) ⌝ }
+    ensures { λ r. ⌜ (r ≤ length (now (line .entry))) × (r ≡ ownOf (now (line .entry)) size) ⌝ }
 {
     if size == 0 {
         return 0;
@@ -121,7 +127,9 @@ fn own(line: &[u8], size: usize) -> usize
 }
 
 // The line that a turn found, without its end; nothing, should it have found none.
-pub fn held(line: &[u8], turn: Turn) -> &[u8] {
+pub fn held(line: &[u8], turn: Turn) -> &[u8]
+    ensures { λ r. ⌜ Held·Is (now (line .entry)) turn (now r) ⌝ }
+{
     let n = turn.held;
     if n > line.len() {
         return &line[..0];

@@ -1,9 +1,11 @@
 -- `script::line::next` is safe and ends. The measure is the number of turns that are left.
 -- Assumes nothing.
 use Prim.Native.Nat.{_+_, _≤_}
-use mathlib.Core.Path.{_≡_}
+use mathlib.Core.Path.{_≡_, ap}
+use native.Mathlib.Omega.{arith}
 use lib.ListN.{length}
 use borrow.Author.Needs.{needs}
+use Rattle.script.specs.declared.line.Turn.{Turn}
 use Rattle.script.proofs.line.next.Statement.{statement}
 use Rattle.script.proofs.line.next.Tie as tie
 
@@ -40,7 +42,7 @@ same-length-2 : tie.Need-same-length-2 Inv-loop μ-loop
 same-length-2 c = search needs
 
 returns : tie.Need-returns Inv-loop μ-loop
-returns c = search needs
+returns c = omega (arith, ap (λ (t : Turn). t .to) (c .before2 .ensures))
 
 count-requires : tie.Need-count-requires Inv-loop μ-loop
 count-requires c κs = search needs
@@ -103,7 +105,7 @@ same-length-8 : tie.Need-same-length-8 Inv-loop μ-loop
 same-length-8 c = search needs
 
 returns-4 : tie.Need-returns-4 Inv-loop μ-loop
-returns-4 c = search needs
+returns-4 c = omega (arith, ap (λ (t : Turn). t .to) (c .before3 .ensures))
 
 pub next-spec : {M : Type 1} → statement M
 next-spec =
