@@ -99,8 +99,12 @@ impl Board {
         if line.len() > LONGEST_LINE {
             return Err("too long".to_string());
         }
+        let line = line.strip_suffix(b"\r").unwrap_or(line);
         if line.is_empty() || line[0] == b'#' {
             return Ok(None);
+        }
+        if line.ends_with(b" ") {
+            return Err("a blank at its end".to_string());
         }
         let text = String::from_utf8_lossy(line);
         let words: Vec<&str> = text.split(' ').collect();
@@ -108,74 +112,82 @@ impl Board {
             Some((_, takes)) => takes,
             None => return Err("no such command".to_string()),
         };
-        match self.command(&words) {
-            Some(text) => Ok(Some(text)),
-            None => Err(format!("{} takes {}", words[0], takes)),
+        if *takes == "nothing" && words.len() > 1 {
+            return Err(format!("{} takes nothing", words[0]));
+        }
+        let written = Fields::of(text.split_once(' ').map_or("", |(_, fields)| fields));
+        match self.command(words[0], written) {
+            Ok(text) => Ok(Some(text)),
+            Err(field) => Err(format!("{} takes {}; {}", words[0], takes, field)),
         }
     }
 
-    fn command(&mut self, words: &[&str]) -> Option<String> {
-        match *words {
-            ["client", n, running, major, minor, revision] => {
-                let (n, running) = (decimal(n, usize::MAX)?, bank(running)?);
-                let (major, minor) = (decimal(major, 255)? as u8, decimal(minor, 255)? as u8);
-                let revision = number(revision, 10, u32::MAX as usize)? as u32;
-                Some(self.renew(n, running, Version { major, minor, revision }))
+    /// What a command writes, or what the first of its fields that is wrong may be.
+    fn command(&mut self, word: &str, mut fields: Fields) -> Result<String, String> {
+        match word {
+            "client" => {
+                let (n, running) = (fields.number("N", 6, 0, 999_999)?, fields.bank()?);
+                let (major, minor) = (fields.number("MAJOR", 6, 0, 255)?, fields.number("MINOR", 6, 0, 255)?);
+                let revision = fields.last().number("REVISION", 10, 0, u32::MAX as usize)? as u32;
+                Ok(self.renew(n, running, Version { major: major as u8, minor: minor as u8, revision }))
             }
-            ["bank", b, length] => {
-                let (b, length) = (bank(b)?, decimal(length, ROOM)?);
+            "bank" => {
+                let (b, length) = (fields.bank()?, fields.last().number("LENGTH", 6, 0, ROOM)?);
                 self.lent[b] = length;
-                Some(format!("bank {} {}", b, length))
+                Ok(format!("bank {} {}", b, length))
             }
-            ["fill", b, value] => {
-                let (b, value) = (bank(b)?, byte(value)?);
+            "fill" => {
+                let (b, value) = (fields.bank()?, fields.last().byte()?);
                 self.rooms[b].fill(value);
-                Some(format!("fill {} {:02X}", b, value))
+                Ok(format!("fill {} {:02X}", b, value))
             }
-            ["put", b, offset, bytes] => {
-                let (b, offset, bytes) = (bank(b)?, decimal(offset, ROOM)?, hex::bytes(bytes)?);
-                self.rooms[b].get_mut(offset..offset + bytes.len())?.copy_from_slice(&bytes);
-                Some(format!("put {} {} {}", b, offset, bytes.len()))
+            "put" => {
+                let (b, offset) = (fields.bank()?, fields.number("OFFSET", 6, 0, ROOM)?);
+                let bytes = fields.last().bytes(ROOM - offset)?;
+                self.rooms[b][offset..offset + bytes.len()].copy_from_slice(&bytes);
+                Ok(format!("put {} {} {}", b, offset, bytes.len()))
             }
-            ["marks", length] => {
-                self.marks_lent = decimal(length, MARKS)?;
+            "marks" => {
+                self.marks_lent = fields.last().number("LENGTH", 6, 0, MARKS)?;
                 self.marks.fill(0);
-                Some(format!("marks {}", self.marks_lent))
+                Ok(format!("marks {}", self.marks_lent))
             }
-            ["mark", sector, value] => {
-                let (sector, value) = (decimal(sector, MARKS)?, byte(value)?);
-                *self.marks.get_mut(sector.checked_sub(1)?)? = value;
-                Some(format!("mark {} {:02X}", sector, value))
+            "mark" => {
+                let (sector, value) = (fields.number("SECTOR", 6, 1, MARKS)?, fields.last().byte()?);
+                self.marks[sector - 1] = value;
+                Ok(format!("mark {} {:02X}", sector, value))
             }
-            ["address", bytes] => {
-                self.address = hex::bytes(bytes).filter(|bytes| bytes.len() <= LONGEST_ADDRESS)?;
-                Some(format!("address {}", self.address.len()))
+            "address" => {
+                self.address = fields.last().bytes(LONGEST_ADDRESS)?;
+                Ok(format!("address {}", self.address.len()))
             }
-            ["buffer", length, value] => {
-                self.buffer = vec![byte(value)?; decimal(length, LARGEST_BUFFER)?];
+            "buffer" => {
+                let length = fields.number("LENGTH", 6, 0, LARGEST_BUFFER)?;
+                self.buffer = vec![fields.last().byte()?; length];
                 self.answered = 0;
-                Some(format!("buffer {}", self.buffer.len()))
+                Ok(format!("buffer {}", self.buffer.len()))
             }
-            ["initiate"] => Some(done(self.client.initiate())),
-            ["terminate"] => Some(done(self.client.terminate())),
-            ["send", datagram] => Some(self.send(&hex::bytes(datagram)?)),
-            ["body", i] => {
-                let i = decimal(i, usize::MAX)?;
+            "initiate" => Ok(done(self.client.initiate())),
+            "terminate" => Ok(done(self.client.terminate())),
+            "send" => Ok(self.send(&fields.last().bytes(LONGEST_LINE)?)),
+            "body" => {
+                let i = fields.last().number("I", 6, 0, 999_999)?;
                 let body = self.client.body([0, 1].map(|b| &self.rooms[b][..self.lent[b]]), i);
-                Some(format!("body {} {:08X}", body.len(), crc32(body)))
+                Ok(format!("body {} {:08X}", body.len(), crc32(body)))
             }
-            ["record"] => Some(self.record()),
-            ["crc", b] => {
-                let b = bank(b)?;
+            "record" => Ok(self.record()),
+            "crc" => {
+                let b = fields.last().bank()?;
                 let crc = self.crc(b);
-                Some(format!("crc {} {} {:08X}", b, self.lent[b], crc))
+                Ok(format!("crc {} {} {:08X}", b, self.lent[b], crc))
             }
-            ["show", b, offset, length] => {
-                let (b, offset, length) = (bank(b)?, decimal(offset, ROOM)?, decimal(length, ROOM)?);
-                Some(format!("show {}", hex::text(self.rooms[b].get(offset..offset + length)?)))
+            "show" => {
+                let (b, offset) = (fields.bank()?, fields.number("OFFSET", 6, 0, ROOM)?);
+                let within = || "OFFSET and LENGTH stay within 252416 bytes".to_string();
+                let length = fields.last().number("LENGTH", 6, 0, ROOM).map_err(|_| within())?;
+                Ok(format!("show {}", hex::text(self.rooms[b].get(offset..offset + length).ok_or_else(within)?)))
             }
-            ["rest"] => Some(format!("rest {}", hex::text(&self.buffer[self.answered..]))),
-            _ => None,
+            _ => Ok(format!("rest {}", hex::text(&self.buffer[self.answered..]))),
         }
     }
 
@@ -251,21 +263,49 @@ fn done(taken: Result<(), u8>) -> String {
     }
 }
 
-fn bank(text: &str) -> Option<usize> {
-    ["0", "1"].iter().position(|name| *name == text)
+/// The fields of a line, taken one by one. A field that is missing is empty; the last has all that is left.
+struct Fields<'a> {
+    left: &'a str,
+    last: bool,
 }
 
-fn byte(text: &str) -> Option<u8> {
-    hex::number(text, 2).map(|number| number as u8)
-}
-
-fn decimal(text: &str, most: usize) -> Option<usize> {
-    number(text, 6, most)
-}
-
-fn number(text: &str, digits: usize, most: usize) -> Option<usize> {
-    if text.is_empty() || text.len() > digits || !text.bytes().all(|b| b.is_ascii_digit()) {
-        return None;
+impl<'a> Fields<'a> {
+    fn of(left: &'a str) -> Fields<'a> {
+        Fields { left, last: false }
     }
-    text.parse().ok().filter(|n| *n <= most)
+
+    fn last(&mut self) -> &mut Fields<'a> {
+        self.last = true;
+        self
+    }
+
+    fn next(&mut self) -> &'a str {
+        let (first, rest) = match self.last {
+            true => (self.left, ""),
+            false => self.left.split_once(' ').unwrap_or((self.left, "")),
+        };
+        self.left = rest;
+        first
+    }
+
+    fn number(&mut self, name: &str, digits: usize, least: usize, most: usize) -> Result<usize, String> {
+        let text = self.next();
+        let good = !text.is_empty() && text.len() <= digits && text.bytes().all(|b| b.is_ascii_digit());
+        let number = if good { text.parse().ok() } else { None };
+        let within = number.filter(|n| (least..=most).contains(n));
+        within.ok_or_else(|| format!("{} is {} to {}", name, least, most))
+    }
+
+    fn bank(&mut self) -> Result<usize, String> {
+        self.number("BANK", 1, 0, 1)
+    }
+
+    fn byte(&mut self) -> Result<u8, String> {
+        hex::number(self.next(), 2).map(|number| number as u8).ok_or_else(|| "BYTE is two hex digits".to_string())
+    }
+
+    fn bytes(&mut self, most: usize) -> Result<Vec<u8>, String> {
+        let bytes = hex::bytes(self.next()).filter(|bytes| bytes.len() <= most);
+        bytes.ok_or_else(|| "BYTES is two hex digits for each byte, - for none, and has to fit".to_string())
+    }
 }

@@ -1,34 +1,4 @@
-//! The form of the request lines and of their answers, for the peer and for the program `vectors` alike.
-//!
-//! A line is a word and its fields, with one blank between two, and ends in LF. Hex digits are read in either case and
-//! written in upper case; a string of bytes is two digits for each byte, or `-` for none. NUMBER is decimal, one to six digits.
-//!
-//!     request                            answer
-//!     crc BYTES                          crc XXXXXXXX
-//!     more XXXXXXXX BYTES                more XXXXXXXX: the register after the bytes, not complemented
-//!     crcrun XX NUMBER                   crc XXXXXXXX, of so many bytes of that value
-//!     crcramp NUMBER                     crc XXXXXXXX, of so many bytes 0, 1, .. 250, 0, 1, ..
-//!     sum BYTES                          sum XX
-//!     read BYTES                         fault
-//!                                        control CODE PARAMETERS
-//!                                        write SECTOR LENGTH FOOTER DATA
-//!     control CODE BYTES NUMBER          the bytes of a buffer of that length, filled with A5, after such a frame was put
-//!     write SECTOR BYTES 03|17 NUMBER        to its front; a frame that does not fit changes nothing
-//!     error NUMBER
-//!     layout 0|1 NUMBER                  layout BANK START END, of a bank of so many sectors; END is 0 where none has as many
-//!     sectors NUMBER                     sectors NUMBER, in a bank of that length
-//!                                        refused
-//!     check LENGTH PIECE..               refused
-//!                                        sound
-//!                                        unsound
-//!     body NUMBER LENGTH PIECE..         body BYTES, of at most 64 bytes
-//!                                        body NUMBER XXXXXXXX: a longer one's length and CRC-32
-//!
-//! A bank has LENGTH bytes, 0xFF but where a later piece says another: OFFSET:BYTES, or OFFSET~NUMBER for so many bytes 0, 1, .. 250,
-//! 0, 1, .. from a decimal offset on. No piece goes past the bank's end; there may be none.
-//!
-//! A run has at most 300,000 bytes, a buffer at most 600, a bank at most 252,416. Any other line, and one of more than 4,096 characters, is
-//! answered by `?`.
+//! The request lines that the program `vectors` answers, and their answers: docs/REQUESTS.md has the form of both.
 use crate::{bank, crc, frame, hex};
 
 const LONGEST_LINE: usize = 4_096;
@@ -47,8 +17,14 @@ pub fn requests(text: &[u8]) -> Vec<Option<&str>> {
         return Vec::new();
     }
     let text = text.strip_suffix(b"\n").unwrap_or(text);
-    let request = |line| std::str::from_utf8(line).ok().filter(|line| line.len() <= LONGEST_LINE);
+    let short = |line: &&[u8]| line.len() <= LONGEST_LINE;
+    let request = |line| Some(line).filter(short).and_then(|line| std::str::from_utf8(line).ok()).map(own);
     text.split(|b| *b == b'\n').map(request).collect()
+}
+
+/// A line without the CR at its end.
+fn own(line: &str) -> &str {
+    line.strip_suffix('\r').unwrap_or(line)
 }
 
 fn known(line: &str) -> Option<String> {

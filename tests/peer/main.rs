@@ -3,11 +3,12 @@
 //!
 //!     peer selftest          its own CRC-32, frames, bank check, hex text and client against published values and the paper's examples
 //!     peer cases             the request lines that `vectors` is tried with
-//!     peer vectors           the answer to each request line on standard input (lines.rs has the form of both)
+//!     peer vectors           the answer to each request line on standard input (docs/REQUESTS.md has the form of both)
 //!     peer sending-cases [FILE.hex ..]
 //!                            the request lines that `sending` is tried with, on those files too
-//!     peer sending           the answer to each of them (sending.rs has the form of both)
+//!     peer sending           the answer to each of them (docs/REQUESTS.md)
 //!     peer packets           what the paper's program writes for the text on standard input
+//!     peer update BANK N     what `update` writes for the text on standard input
 //!     peer texts DIRECTORY   the texts that `packets` is tried with, each in a file of its own
 //!     peer board-cases       the script that `board` is tried with
 //!     peer board-endings     lines that are none, each of which ends a script
@@ -43,6 +44,7 @@ mod sending;
 mod sending_cases;
 mod text_cases;
 mod texts;
+mod update;
 mod wrong;
 
 use std::io::{self, Read, Write};
@@ -66,6 +68,10 @@ fn main() {
         }
         ["sending"] => read_in().and_then(|text| write_out(&sending::answers(&text))),
         ["packets"] => read_in().and_then(|text| write_out(&packets::lines(&text))),
+        ["update", target @ ("0" | "1"), n] => read_in().and_then(|text| {
+            let n = lines::decimal(n, bank::MOST_SECTORS).filter(|n| *n > 0).ok_or("N is 1 to 491")?;
+            write_out(&update::lines(&text, (target == "1") as usize, n))
+        }),
         ["texts", directory] => packets_texts::write(directory),
         _ => {
             eprintln!("usage: peer COMMAND [ARGUMENT ..]; the head of main.rs has the commands");

@@ -1,30 +1,4 @@
-//! The form of the request lines on hex texts, images, packets and responses, for the peer and for the program `sending` alike.
-//!
-//! Lines, BYTES and NUMBERs have the form of lines.rs. There is a text, of at most 720,896 bytes, and an image, of at most 252,416; at first
-//! both are empty. A line works on what the lines before it have left.
-//!
-//!     request                            answer
-//!     text BYTES                         text LENGTH, once the text is those bytes
-//!     more BYTES                         text LENGTH, once those bytes are behind it
-//!     read BANK N LENGTH                 of the text read into an image of so many bytes A5, each with the image's CRC-32 afterwards:
-//!                                        refused 3 CRC, refused 2 CRC
-//!                                        refused H1 line NUMBER CRC, and so to H6
-//!                                        accepted CRC
-//!     image LENGTH                       image LENGTH, once the image is so many bytes FF
-//!     put OFFSET BYTES                   put OFFSET LENGTH, once those bytes are in the image from there on
-//!     count N                            refused 3, refused 2
-//!                                        count NUMBER
-//!     packet N NUMBER ROOM               of a buffer of ROOM bytes A5, at most 600, each with all bytes of the buffer afterwards:
-//!     request start|bank|version ROOM        refused 3 BYTES, refused 2 BYTES, refused 5 BYTES
-//!     request end|finish ROOM                frame LENGTH BYTES
-//!     request write BANK N ROOM
-//!     response BYTES                     refused 6
-//!                                        result CODE RESULT
-//!                                        bank NUMBER
-//!                                        version ID MAJOR MINOR REVISION
-//!                                        written SECTOR RESPONSE WRITE CRC
-//!
-//! Any other line is answered by `?` and changes nothing: also one that would need more room, or put bytes past the image's end.
+//! The request lines that the program `sending` answers, and their answers: docs/REQUESTS.md has the form of both.
 use crate::lines::{self, decimal};
 use crate::response::Response;
 use crate::{crc, hex, intel, packets, response, sender};
@@ -122,11 +96,10 @@ fn code(word: &str) -> Option<u8> {
 
 fn made(room: &str, put: impl Fn(&mut [u8]) -> Result<usize, u8>) -> Option<String> {
     let mut buffer = vec![0xA5; decimal(room, LARGEST_BUFFER)?];
-    let said = match put(&mut buffer) {
-        Ok(length) => format!("frame {}", length),
-        Err(number) => format!("refused {}", number),
-    };
-    Some(format!("{} {}", said, hex::text(&buffer)))
+    Some(match put(&mut buffer) {
+        Ok(length) => format!("frame {} {}", hex::text(&buffer[..length]), hex::text(&buffer[length..])),
+        Err(number) => format!("refused {} {}", number, hex::text(&buffer)),
+    })
 }
 
 fn reading(read: Option<Response>) -> String {

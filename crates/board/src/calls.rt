@@ -3,6 +3,7 @@ use crate::send;
 use crate::state;
 use crate::state::Board;
 use crate::word::Call;
+use crate::wrong::Wrong;
 use client::host::Hosted;
 use client::host::Told;
 use client::record::Client;
@@ -55,13 +56,13 @@ fn versioned(
     let minor = text::decimal(text::first(later), 6);
     let revision = text::decimal(text::rest(later), 10);
     if major > 255 {
-        return state::unknown(board);
+        return state::kept(board, Wrong::Major);
     }
     if minor > 255 {
-        return state::unknown(board);
+        return state::kept(board, Wrong::Minor);
     }
     if revision > 0xFFFF_FFFF {
-        return state::unknown(board);
+        return state::kept(board, Wrong::Revision);
     }
     renew(
         bank0,
@@ -79,10 +80,10 @@ fn client(board: Board, bank0: &mut [u8], bank1: &mut [u8], fields: &[u8]) -> Bo
     let n = text::decimal(text::first(fields), 6);
     let bank = text::decimal(text::first(later), 1);
     if n > text::LARGEST_NUMBER {
-        return state::unknown(board);
+        return state::kept(board, Wrong::N);
     }
     if bank > 1 {
-        return state::unknown(board);
+        return state::kept(board, Wrong::Bank);
     }
     versioned(board, bank0, bank1, n, bank_of(bank), text::rest(later))
 }
@@ -98,7 +99,7 @@ fn hosted(board: Board, hosted: Hosted) -> Board {
 
 fn initiate(board: Board, fields: &[u8]) -> Board {
     if fields.len() > 0 {
-        return state::unknown(board);
+        return state::kept(board, Wrong::Fields);
     }
     let client = board.client;
     hosted(board, client.initiate())
@@ -106,7 +107,7 @@ fn initiate(board: Board, fields: &[u8]) -> Board {
 
 fn terminate(board: Board, fields: &[u8]) -> Board {
     if fields.len() > 0 {
-        return state::unknown(board);
+        return state::kept(board, Wrong::Fields);
     }
     let client = board.client;
     hosted(board, client.terminate())

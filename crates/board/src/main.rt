@@ -6,9 +6,11 @@ mod settings;
 mod shows;
 mod state;
 mod word;
+mod wrong;
 
 use client::record::Client;
 use layout::Bank;
+use script::call;
 use script::line;
 use script::line::Found;
 use script::line::Turn;
@@ -27,7 +29,7 @@ fn follow(
     match found {
         Found::Line => command::follow(board, bank0, bank1, number, line::held(text, turn)),
         Found::TooLong => command::too_long(board, number),
-        Found::End => state::unknown(board),
+        Found::End => state::ended(board),
     }
 }
 
@@ -46,7 +48,7 @@ fn follow_all(first: Board, bank0: &mut [u8], bank1: &mut [u8], chunk: &mut [u8]
     }
 }
 
-fn main() {
+fn play() {
     let mut bank0 = [0xFFu8; state::BANK_ROOM];
     let mut bank1 = [0xFFu8; state::BANK_ROOM];
     let mut chunk = [0u8; 4096];
@@ -60,4 +62,10 @@ fn main() {
         &mut chunk,
         &mut text,
     );
+}
+
+fn main() {
+    if call::takes(0, b"usage: ./run board [FILE]\n") {
+        play();
+    }
 }

@@ -1,6 +1,7 @@
 // A datagram for the client, and what comes of it.
 use crate::state;
 use crate::state::Board;
+use crate::wrong::Wrong;
 use client::notice::Kind;
 use client::notice::Notice;
 use client::record::Client;
@@ -151,7 +152,7 @@ pub(crate) fn send(board: Board, bank0: &mut [u8], bank1: &mut [u8], fields: &[u
     let mut datagram = [0u8; 2048];
     let got = text::bytes(fields, &mut datagram);
     if got < 0 {
-        return state::unknown(board);
+        return state::kept(board, Wrong::Bytes);
     }
     let count = io::count(got, &datagram);
     with_banks(board, bank0, bank1, &datagram[..count])

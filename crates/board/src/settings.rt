@@ -3,6 +3,7 @@ ghost use Prim.Native.Nat.{_≤_};
 use crate::state;
 use crate::state::Board;
 use crate::word::Setting;
+use crate::wrong::Wrong;
 use script::say;
 use script::text;
 
@@ -20,10 +21,10 @@ fn bank(board: Board, fields: &[u8]) -> Board {
     let bank = text::decimal(text::first(fields), 1);
     let count = text::decimal(text::rest(fields), 6);
     if bank > 1 {
-        return state::unknown(board);
+        return state::kept(board, Wrong::Bank);
     }
     if count > state::BANK_ROOM {
-        return state::unknown(board);
+        return state::kept(board, Wrong::Length(state::BANK_ROOM));
     }
     say::text(b"bank");
     say::field(bank);
@@ -32,14 +33,14 @@ fn bank(board: Board, fields: &[u8]) -> Board {
     lend_bank(board, bank, count as u32)
 }
 
-fn fill(bank0: &mut [u8], bank1: &mut [u8], fields: &[u8]) -> bool {
+fn fill(bank0: &mut [u8], bank1: &mut [u8], fields: &[u8]) -> Wrong {
     let bank = text::decimal(text::first(fields), 1);
     let byte = text::number(text::rest(fields), 2);
     if bank > 1 {
-        return false;
+        return Wrong::Bank;
     }
     if byte > 255 {
-        return false;
+        return Wrong::Byte;
     }
     say::text(b"fill");
     say::field(bank);
@@ -51,27 +52,27 @@ fn fill(bank0: &mut [u8], bank1: &mut [u8], fields: &[u8]) -> bool {
     } else {
         buffer::fill::fill(bank1, byte as u8);
     }
-    true
+    Wrong::Nothing
 }
 
 // The bytes that `digits` spells, to a bank's room from `offset` on.
-fn put_in(room: &mut [u8], bank: usize, offset: usize, digits: &[u8]) -> bool {
+fn put_in(room: &mut [u8], bank: usize, offset: usize, digits: &[u8]) -> Wrong {
     if offset > room.len() {
-        return false;
+        return Wrong::Offset;
     }
     let got = text::bytes(digits, &mut room[offset..]);
     if got < 0 {
-        return false;
+        return Wrong::Bytes;
     }
     say::text(b"put");
     say::field(bank);
     say::field(offset);
     say::field(io::count(got, room));
     say::end();
-    true
+    Wrong::Nothing
 }
 
-fn put(bank0: &mut [u8], bank1: &mut [u8], fields: &[u8]) -> bool {
+fn put(bank0: &mut [u8], bank1: &mut [u8], fields: &[u8]) -> Wrong {
     let bank = text::decimal(text::first(fields), 1);
     let later = text::rest(fields);
     let offset = text::decimal(text::first(later), 6);
@@ -81,13 +82,13 @@ fn put(bank0: &mut [u8], bank1: &mut [u8], fields: &[u8]) -> bool {
     if bank == 1 {
         return put_in(bank1, bank, offset, text::rest(later));
     }
-    false
+    Wrong::Bank
 }
 
 fn marks(board: Board, fields: &[u8]) -> Board {
     let count = text::decimal(fields, 6);
     if count > state::MARKS_ROOM {
-        return state::unknown(board);
+        return state::kept(board, Wrong::Length(state::MARKS_ROOM));
     }
     say::text(b"marks");
     say::field(count);
@@ -111,13 +112,13 @@ fn mark(board: Board, fields: &[u8]) -> Board {
     let sector = text::decimal(text::first(fields), 6);
     let byte = text::number(text::rest(fields), 2);
     if sector < 1 {
-        return state::unknown(board);
+        return state::kept(board, Wrong::Sector);
     }
     if sector > state::MARKS_ROOM {
-        return state::unknown(board);
+        return state::kept(board, Wrong::Sector);
     }
     if byte > 255 {
-        return state::unknown(board);
+        return state::kept(board, Wrong::Byte);
     }
     say::text(b"mark");
     say::field(sector);
@@ -131,7 +132,7 @@ fn address(board: Board, fields: &[u8]) -> Board {
     let mut address = board.address;
     let got = text::bytes(fields, &mut address);
     if got < 0 {
-        return state::unknown(board);
+        return state::kept(board, Wrong::Bytes);
     }
     let count = io::count(got, &address);
     say::text(b"address");
@@ -147,10 +148,10 @@ fn buffer(board: Board, fields: &[u8]) -> Board {
     let count = text::decimal(text::first(fields), 6);
     let byte = text::number(text::rest(fields), 2);
     if count > state::BUFFER_ROOM {
-        return state::unknown(board);
+        return state::kept(board, Wrong::Length(state::BUFFER_ROOM));
     }
     if byte > 255 {
-        return state::unknown(board);
+        return state::kept(board, Wrong::Byte);
     }
     say::text(b"buffer");
     say::field(count);

@@ -2,6 +2,7 @@
 use crate::state;
 use crate::state::Board;
 use crate::word::Show;
+use crate::wrong::Wrong;
 use client::record::Client;
 use client::record::Latest;
 use exchange::state::State;
@@ -18,17 +19,17 @@ fn say_sum(bytes: &[u8]) {
     say::end();
 }
 
-fn body<'a>(board: Board, bank0: &'a [u8], bank1: &'a [u8], fields: &[u8]) -> bool {
+fn body<'a>(board: Board, bank0: &'a [u8], bank1: &'a [u8], fields: &[u8]) -> Wrong {
     let i = text::decimal(fields, 6);
     if i > text::LARGEST_NUMBER {
-        return false;
+        return Wrong::Index;
     }
     let client = board.client;
     let lent0 = state::front(bank0, board.bank0 as usize);
     let lent1 = state::front(bank1, board.bank1 as usize);
     say::text(b"body");
     say_sum(client.body(lent0, lent1, i));
-    true
+    Wrong::Nothing
 }
 
 fn say_state(state: State) {
@@ -100,13 +101,13 @@ fn say_record(client: Client) {
     say_received(received);
 }
 
-fn record(board: Board, fields: &[u8]) -> bool {
+fn record(board: Board, fields: &[u8]) -> Wrong {
     if fields.len() > 0 {
-        return false;
+        return Wrong::Fields;
     }
     let client = board.client;
     say_record(client);
-    true
+    Wrong::Nothing
 }
 
 fn say_crc(bank: usize, bytes: &[u8]) {
@@ -115,34 +116,34 @@ fn say_crc(bank: usize, bytes: &[u8]) {
     say_sum(bytes);
 }
 
-fn crc(board: Board, bank0: &[u8], bank1: &[u8], fields: &[u8]) -> bool {
+fn crc(board: Board, bank0: &[u8], bank1: &[u8], fields: &[u8]) -> Wrong {
     let bank = text::decimal(fields, 1);
     if bank == 0 {
         say_crc(bank, state::front(bank0, board.bank0 as usize));
-        return true;
+        return Wrong::Nothing;
     }
     if bank == 1 {
         say_crc(bank, state::front(bank1, board.bank1 as usize));
-        return true;
+        return Wrong::Nothing;
     }
-    false
+    Wrong::Bank
 }
 
-fn show_of(room: &[u8], offset: usize, count: usize) -> bool {
+fn show_of(room: &[u8], offset: usize, count: usize) -> Wrong {
     if offset > room.len() {
-        return false;
+        return Wrong::Offset;
     }
     if count > room.len() - offset {
-        return false;
+        return Wrong::Within;
     }
     let end = offset + count;
     say::text(b"show ");
     say::bytes(&room[offset..end]);
     say::end();
-    true
+    Wrong::Nothing
 }
 
-fn show(bank0: &[u8], bank1: &[u8], fields: &[u8]) -> bool {
+fn show(bank0: &[u8], bank1: &[u8], fields: &[u8]) -> Wrong {
     let bank = text::decimal(text::first(fields), 1);
     let later = text::rest(fields);
     let offset = text::decimal(text::first(later), 6);
@@ -153,7 +154,7 @@ fn show(bank0: &[u8], bank1: &[u8], fields: &[u8]) -> bool {
     if bank == 1 {
         return show_of(bank1, offset, count);
     }
-    false
+    Wrong::Bank
 }
 
 // What is lent of the buffer, behind an answer of so many bytes.
@@ -165,9 +166,9 @@ fn behind(lent: &[u8], answered: usize) -> &[u8] {
     }
 }
 
-fn rest(board: Board, fields: &[u8]) -> bool {
+fn rest(board: Board, fields: &[u8]) -> Wrong {
     if fields.len() > 0 {
-        return false;
+        return Wrong::Fields;
     }
     let buffer = board.buffer;
     say::text(b"rest ");
@@ -176,7 +177,7 @@ fn rest(board: Board, fields: &[u8]) -> bool {
         board.answered,
     ));
     say::end();
-    true
+    Wrong::Nothing
 }
 
 pub(crate) fn run<'a>(
@@ -185,7 +186,7 @@ pub(crate) fn run<'a>(
     bank1: &'a [u8],
     asked: Show,
     fields: &[u8],
-) -> bool {
+) -> Wrong {
     match asked {
         Show::Body => body(board, bank0, bank1, fields),
         Show::Record => record(board, fields),

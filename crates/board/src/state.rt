@@ -1,5 +1,7 @@
 // The board between two lines of its script. The rooms of its banks are large, so they are lent beside it.
 ghost use Prim.Native.Nat.{_≤_};
+use crate::wrong;
+use crate::wrong::Wrong;
 use client::record::Client;
 use layout::MOST;
 use layout::SECTOR;
@@ -26,8 +28,9 @@ pub struct Board {
     pub buffer_lent: u32,
     // As many bytes as the latest answer in the buffer has.
     pub answered: usize,
-    // Whether the latest line was a line of the script; the first that is none ends it.
+    // Whether the latest line was a line of the script; the first that is none ends it, and this is what is wrong with it.
     pub known: bool,
+    pub wrong: Wrong,
 }
 
 // As many sectors as are lent to a client of n: a bank has no more than 491.
@@ -52,19 +55,24 @@ pub(crate) fn fresh(client: Client) -> Board {
         buffer_lent: 14,
         answered: 0,
         known: true,
+        wrong: Wrong::Nothing,
     }
 }
 
-// After a line that is none.
-pub(crate) fn unknown(board: Board) -> Board {
+// At the script's end.
+pub(crate) fn ended(board: Board) -> Board {
     let mut b = board;
     b.known = false;
     b
 }
 
-// After a line that left the board as it is.
-pub(crate) fn kept(board: Board, known: bool) -> Board {
-    if known { board } else { unknown(board) }
+// After a line that left the board as it is, whatever may be wrong with it.
+pub(crate) fn kept(board: Board, wrong: Wrong) -> Board {
+    Board {
+        known: wrong::is_nothing(wrong),
+        wrong,
+        ..board
+    }
 }
 
 // The first bytes of a room; none, should it have fewer.

@@ -99,32 +99,32 @@ pub(crate) fn word_of(word: &[u8]) -> Word {
 
 fn setting_takes(setting: Setting) {
     match setting {
-        Setting::Bank => say::text(b"bank takes BANK LENGTH\n"),
-        Setting::Fill => say::text(b"fill takes BANK BYTE\n"),
-        Setting::Put => say::text(b"put takes BANK OFFSET BYTES\n"),
-        Setting::Marks => say::text(b"marks takes LENGTH\n"),
-        Setting::Mark => say::text(b"mark takes SECTOR BYTE\n"),
-        Setting::Address => say::text(b"address takes BYTES\n"),
-        Setting::Buffer => say::text(b"buffer takes LENGTH BYTE\n"),
+        Setting::Bank => say::text(b"bank takes BANK LENGTH"),
+        Setting::Fill => say::text(b"fill takes BANK BYTE"),
+        Setting::Put => say::text(b"put takes BANK OFFSET BYTES"),
+        Setting::Marks => say::text(b"marks takes LENGTH"),
+        Setting::Mark => say::text(b"mark takes SECTOR BYTE"),
+        Setting::Address => say::text(b"address takes BYTES"),
+        Setting::Buffer => say::text(b"buffer takes LENGTH BYTE"),
     }
 }
 
 fn call_takes(call: Call) {
     match call {
-        Call::Client => say::text(b"client takes N BANK MAJOR MINOR REVISION\n"),
-        Call::Initiate => say::text(b"initiate takes nothing\n"),
-        Call::Terminate => say::text(b"terminate takes nothing\n"),
-        Call::Send => say::text(b"send takes BYTES\n"),
+        Call::Client => say::text(b"client takes N BANK MAJOR MINOR REVISION"),
+        Call::Initiate => say::text(b"initiate takes nothing"),
+        Call::Terminate => say::text(b"terminate takes nothing"),
+        Call::Send => say::text(b"send takes BYTES"),
     }
 }
 
 fn show_takes(show: Show) {
     match show {
-        Show::Body => say::text(b"body takes I\n"),
-        Show::Record => say::text(b"record takes nothing\n"),
-        Show::Crc => say::text(b"crc takes BANK\n"),
-        Show::Show => say::text(b"show takes BANK OFFSET LENGTH\n"),
-        Show::Rest => say::text(b"rest takes nothing\n"),
+        Show::Body => say::text(b"body takes I"),
+        Show::Record => say::text(b"record takes nothing"),
+        Show::Crc => say::text(b"crc takes BANK"),
+        Show::Show => say::text(b"show takes BANK OFFSET LENGTH"),
+        Show::Rest => say::text(b"rest takes nothing"),
     }
 }
 
@@ -133,6 +133,6 @@ pub(crate) fn say_takes(word: Word) {
         Word::Sets(setting) => setting_takes(setting),
         Word::Calls(call) => call_takes(call),
         Word::Shows(show) => show_takes(show),
-        Word::Other => say::text(b"no such command\n"),
+        Word::Other => say::text(b"no such command"),
     }
 }

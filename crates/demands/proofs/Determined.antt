@@ -90,4 +90,9 @@ determined =
         (p .bank-zero ∙ sym (q .bank-zero), (p .bank-one ∙ sym (q .bank-one), p .said ∙ sym (q .said))),
       );
       next-body = λ c bank0 bank1 i. once _;
+      first-field = λ text. once _;
+      other-fields = λ text. once _;
+      ends-in-blank = λ text. once _;
+      before-lines = once _;
+      held-line = λ line turn. once _;
     }

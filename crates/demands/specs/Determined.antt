@@ -20,6 +20,7 @@ use Rattle.exchange.specs.declared.state.State.{State}
 use Rattle.decision.specs.declared.plan.Standing.{Standing}
 use Rattle.client.specs.declared.record.Client.{Client}
 use Rattle.client.specs.declared.host.Told.{Told}
+use Rattle.script.specs.declared.line.Turn.{Turn}
 use Rattle.buffer.specs.Compare.{Same·Is, Blank·Is}
 use Rattle.buffer.specs.Fill.{Fill·Is}
 use Rattle.buffer.specs.Number.{Number·Is, PutNumber·Is}
@@ -50,6 +51,8 @@ use Rattle.decision.specs.Plan.{Plan·Is}
 use Rattle.client.specs.Body.{Body·Is as NextBody·Is}
 use Rattle.client.specs.Host.{Told·Is, New·Is, Initiate·Is, Terminate·Is}
 use Rattle.client.specs.Step.{Take·Is, Step·Is}
+use Rattle.script.specs.Text.{First·Is, Rest·Is, EndsInBlank·Is}
+use Rattle.script.specs.Line.{Before·Is, Held·Is}
 
 -- what a function gives is determined, whether it is one thing or several: a result, and each lent list
 abbrev pub Once : {A : Type 0} → (A → Type 0) → Type 0
@@ -141,3 +144,4 @@ pub record Determined : Type 0 where
   pub take : (c : Client) (target marks address buffer datagram : List ℕ) → Thrice (Take·Is c target marks address buffer datagram)
   pub step : (c : Client) (bank0 bank1 marks address buffer datagram : List ℕ) → Fourfold (Step·Is c bank0 bank1 marks address buffer datagram)
   pub next-body : (c : Client) (bank0 bank1 : List ℕ) (i : ℕ) → Once (NextBody·Is c bank0 bank1 i)
+use Rattle.script.specs.declared.line.Turn.{Turn}

@@ -4,7 +4,9 @@ use hex::fault::Refusal;
 use hex::read::Answer;
 use layout::Bank;
 use layout::SECTOR;
-use libc::STDIN_FILENO;
+use script::call;
+use script::input;
+use script::input::Input;
 use script::say;
 use sender::made::Made;
 use sender::made::ROOM;
@@ -18,6 +20,7 @@ const LONGEST_TEXT: usize = 49_152;
 fn say_refused(number: usize) {
     say::refused(number);
     say::end();
+    call::refused();
 }
 
 // Sector and footer as they stand in the packet: its second and third byte, and its last.
@@ -73,6 +76,7 @@ fn say_refusal(refusal: Refusal) {
     let kind = refusal.kind;
     say::refused_line(hex::fault::kind_number(kind) as usize, refusal.line);
     say::end();
+    call::refused();
 }
 
 fn answer(text: &[u8]) {
@@ -85,13 +89,30 @@ fn answer(text: &[u8]) {
     }
 }
 
-// The room is a byte larger than the longest text, so that a longer one is seen to be so.
-fn main() {
-    let mut text = [0u8; LONGEST_TEXT + 1];
-    let size = io::read_full(STDIN_FILENO, &mut text);
+fn say_too_long() {
+    say::text(b"too long\n");
+    call::refused();
+}
+
+fn answer_read(text: &[u8], size: usize) {
     if size > LONGEST_TEXT {
-        say::text(b"too long\n");
-        return;
+        return say_too_long();
     }
-    answer(&text[..size]);
+    let end = io::count(size as isize, text);
+    answer(&text[..end]);
+}
+
+// The room is a byte larger than the longest text, so that a longer one is seen to be so.
+fn list_input() {
+    let mut text = [0u8; LONGEST_TEXT + 1];
+    match input::all(&mut text) {
+        Input::Unread => (),
+        Input::Read(size) => answer_read(&text, size),
+    }
+}
+
+fn main() {
+    if call::takes(0, b"usage: ./run packets [FILE]\n") {
+        list_input();
+    }
 }

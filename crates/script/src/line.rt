@@ -1,13 +1,16 @@
 // The lines of standard input, one after another. What is read stands in a chunk; the line that was found is copied out of it.
+ghost use mathlib.Core.Path.{_≡_};
 ghost use Prim.Native.Nat.{_≤_};
 ghost use lib.ListN.{length};
+ghost use Rattle.script.specs.Line.{ownOf, Before·Is, Held·Is};
+use crate::call;
 use libc::STDIN_FILENO;
 
 pub enum Found {
     Line,
     // It has more bytes than there is room for, and was passed over.
     TooLong,
-    // The text has no further line.
+    // The text has no further line, or could not be read further.
     End,
 }
 
@@ -20,7 +23,9 @@ pub struct Turn {
 }
 
 // Before the first turn: nothing was read.
-pub fn before() -> Turn {
+pub fn before() -> Turn
+    ensures { λ r. ⌜ Before·Is r ⌝ }
+{
     Turn {
         found: Found::End,
         held: 0,
@@ -29,11 +34,13 @@ pub fn before() -> Turn {
     }
 }
 
-fn refill(chunk: &mut [u8]) -> usize
-    ensures { λ r. ⌜ r ≤ length (now (chunk .exit)) ⌝ }
-{
-    let got = libc::read(STDIN_FILENO, chunk);
-    io::count(got, chunk)
+// Where a read failed that is told, and what was begun of a line is no line.
+fn failed(got: isize) -> bool {
+    if got < 0 {
+        call::unread();
+        return true;
+    }
+    false
 }
 
 fn within(chunk: &[u8], to: usize) -> usize
@@ -65,7 +72,9 @@ fn whole_last(line: &[u8], held: usize) -> Found {
 }
 
 // Nothing says that a line ends, so the loop counts its turns down, from a number that no run uses up.
-pub fn next(chunk: &mut [u8], line: &mut [u8], last: Turn) -> Turn {
+pub fn next(chunk: &mut [u8], line: &mut [u8], last: Turn) -> Turn
+    ensures { λ r. ⌜ r .to ≤ length (now (chunk .exit)) ⌝ }
+{
     let mut from = last.from;
     let mut to = within(chunk, last.to);
     let mut held = 0;
@@ -74,7 +83,11 @@ pub fn next(chunk: &mut [u8], line: &mut [u8], last: Turn) -> Turn {
         turns -= 1;
         if from >= to {
             from = 0;
-            to = refill(chunk);
+            let got = libc::read(STDIN_FILENO, chunk);
+            if failed(got) {
+                return before();
+            }
+            to = io::count(got, chunk);
             if to == 0 {
                 return Turn {
                     found: whole_last(line, held),
@@ -101,12 +114,26 @@ pub fn next(chunk: &mut [u8], line: &mut [u8], last: Turn) -> Turn {
     before()
 }
 
-// The line that a turn found; nothing, should it have found none.
-pub fn held(line: &[u8], turn: Turn) -> &[u8] {
+// How many of the first `size` bytes are the line's own: a CR before its LF is not.
+fn own(line: &[u8], size: usize) -> usize
+    requires { ⌜ size ≤ length (now line) ⌝ }
+    ensures { λ r. ⌜ (r ≤ length (now (line .entry))) × (r ≡ ownOf (now (line .entry)) size) ⌝ }
+{
+    if size == 0 {
+        return 0;
+    }
+    let last = size - 1;
+    if line[last] == b'\r' { last } else { size }
+}
+
+// The line that a turn found, without its end; nothing, should it have found none.
+pub fn held(line: &[u8], turn: Turn) -> &[u8]
+    ensures { λ r. ⌜ Held·Is (now (line .entry)) turn (now r) ⌝ }
+{
     let n = turn.held;
     if n > line.len() {
         return &line[..0];
     }
-    let end = io::count(n as isize, line);
-    &line[..end]
+    let end = own(line, n);
+    &line[0..end]
 }

@@ -1,14 +1,23 @@
 // What is written to standard output.
 ghost use Prim.Native.Nat.{_<_, _≤_};
 ghost use Rattle.io.specs.Counts.{Counts};
+use crate::call;
 use libc::STDOUT_FILENO;
 
-pub fn text(words: &[u8]) {
-    io::write_all(STDOUT_FILENO, words);
+fn written(all: bool) {
+    if !all {
+        call::unwritten();
+    }
 }
 
+pub fn text(words: &[u8]) {
+    written(io::write_all(STDOUT_FILENO, words));
+}
+
+// Of a line that is no request: the next one is answered all the same.
 pub fn no_request() {
     text(b"?\n");
+    call::refused();
 }
 
 pub fn end() {
@@ -95,7 +104,7 @@ pub fn quad(value: u32) {
 }
 
 pub fn decimal(value: usize) {
-    io::print_decimal(STDOUT_FILENO, value as u64);
+    written(io::print_decimal(STDOUT_FILENO, value as u64));
 }
 
 // One field more.

@@ -1,11 +1,13 @@
 // The fields of a line, and what they say. What a field does not say is a number larger than any that it could: whoever asks
 // tests for that anyway.
+ghost use mathlib.Core.Path.{_≡_};
 ghost use Prim.Native.Nat.{_≤_};
 ghost use Rattle.io.specs.Counts.{Counts};
+ghost use Rattle.script.specs.Text.{blankAt, Said, First·Is, Rest·Is, EndsInBlank·Is};
 
 // The place of the first blank, or the end.
-pub fn blank_at(text: &[u8]) -> usize
-    ensures { λ r. ⌜ Counts r (now (text .entry)) ⌝ }
+fn blank_at(text: &[u8]) -> usize
+    ensures { λ r. ⌜ Counts r (now (text .entry)) × (r ≡ blankAt (now (text .entry))) ⌝ }
 {
     let mut i = 0;
     while i < text.len() {
@@ -17,13 +19,17 @@ pub fn blank_at(text: &[u8]) -> usize
     i
 }
 
-pub fn first(text: &[u8]) -> &[u8] {
+pub fn first(text: &[u8]) -> &[u8]
+    ensures { λ r. ⌜ First·Is (now (text .entry)) (now r) ⌝ }
+{
     let end = blank_at(text);
     &text[..end]
 }
 
 // What stands after the first field and its blank; nothing where there is no blank.
-pub fn rest(text: &[u8]) -> &[u8] {
+pub fn rest(text: &[u8]) -> &[u8]
+    ensures { λ r. ⌜ Rest·Is (now (text .entry)) (now r) ⌝ }
+{
     let end = blank_at(text);
     if end < text.len() {
         let start = end + 1;
@@ -34,7 +40,9 @@ pub fn rest(text: &[u8]) -> &[u8] {
 }
 
 // Whether the last field is an empty one, behind a blank.
-pub fn ends_in_blank(text: &[u8]) -> bool {
+pub fn ends_in_blank(text: &[u8]) -> bool
+    ensures { λ r. ⌜ EndsInBlank·Is (now (text .entry)) r ⌝ }
+{
     if text.len() == 0 {
         return false;
     }
@@ -59,6 +67,7 @@ const LARGEST_VALUE: usize = 0xFFFF_FFFF;
 // The number that the digits spell, if it is no larger than 32 bits hold.
 fn value(digits: &[u8], base: usize) -> usize
     requires { ⌜ base ≤ 16 ⌝ }
+    ensures { λ r. ⌜ Said r ⌝ }
 {
     let mut value: usize = 0;
     let mut i = 0;
@@ -80,7 +89,9 @@ fn value(digits: &[u8], base: usize) -> usize
 }
 
 // A number of exactly so many hex digits.
-pub fn number(text: &[u8], digits: usize) -> usize {
+pub fn number(text: &[u8], digits: usize) -> usize
+    ensures { λ r. ⌜ Said r ⌝ }
+{
     if text.len() != digits {
         return usize::MAX;
     }
@@ -91,7 +102,9 @@ pub fn number(text: &[u8], digits: usize) -> usize {
 pub const LARGEST_NUMBER: usize = 999_999;
 
 // A decimal number of one to so many digits.
-pub fn decimal(text: &[u8], most: usize) -> usize {
+pub fn decimal(text: &[u8], most: usize) -> usize
+    ensures { λ r. ⌜ Said r ⌝ }
+{
     if text.len() == 0 {
         return usize::MAX;
     }

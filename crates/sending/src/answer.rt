@@ -1,24 +1,4 @@
-// One request line and its answer. BYTES are two hex digits each, `-` for none; other numbers are decimal, of one to six digits.
-//
-//     request                      answer
-//     text BYTES                   text LENGTH, of the hex text, which is BYTES now
-//     more BYTES                   text LENGTH, BYTES being put behind it
-//     read BANK N LENGTH           refused 3 CRC, refused 2 CRC, refused H2 line 3 CRC, or accepted CRC: the text is read into an image of
-//                                  LENGTH bytes A5, whose CRC-32 afterwards is CRC
-//     image LENGTH                 image LENGTH: the image is as many bytes FF
-//     put OFFSET BYTES             put OFFSET COUNT: BYTES stand there in the image
-//     count N                      refused 3, refused 2, or count PACKETS, of the image
-//     packet N P ROOM              refused 3 BYTES, refused 2 BYTES, refused 5 BYTES, or frame LENGTH BYTES: all of a buffer of ROOM bytes,
-//                                  A5 before, to which packet P of the image went
-//     request WORD ROOM            the same of a request: start, bank, version, end or finish
-//     request write BANK N ROOM
-//     response BYTES               refused 6
-//                                  result CODE RESULT
-//                                  bank BANK
-//                                  version ID MAJOR MINOR REVISION
-//                                  written SECTOR RESPONSE WRITE CRC
-//
-// Any other line, and one of more than 4,096 characters, is answered by `?` and changes nothing; so is one for which there is no room.
+// One request line and its answer: docs/REQUESTS.md has the form of both.
 use crate::frames;
 use crate::held;
 use crate::held::Answered;

@@ -1,22 +1,30 @@
-// What the maker of a frame answered, and all of the buffer that it was lent, which holds A5 before.
+// What the maker of a frame answered, and the buffer that it was lent, which holds A5 before: the frame, and what stands behind it.
+use crate::held;
 use script::say;
 use sender::made::Made;
 
 pub const LARGEST_BUFFER: usize = 600;
 
-fn say_frame(size: usize) {
+fn say_frame(size: usize, buffer: &[u8]) {
+    let end = held::lent(buffer, size);
     say::text(b"frame ");
-    say::decimal(size);
+    say::bytes(&buffer[..end]);
+    say::text(b" ");
+    say::bytes(&buffer[end..]);
+}
+
+fn say_refused(number: usize, buffer: &[u8]) {
+    say::refused(number);
+    say::text(b" ");
+    say::bytes(buffer);
 }
 
 pub(crate) fn say_made(made: Made, buffer: &[u8]) {
     match made {
-        Made::BadN => say::refused(3),
-        Made::BadLength => say::refused(2),
-        Made::PastLast => say::refused(5),
-        Made::Frame(size) => say_frame(size),
+        Made::BadN => say_refused(3, buffer),
+        Made::BadLength => say_refused(2, buffer),
+        Made::PastLast => say_refused(5, buffer),
+        Made::Frame(size) => say_frame(size, buffer),
     }
-    say::text(b" ");
-    say::bytes(buffer);
     say::end();
 }

@@ -1,5 +1,5 @@
 // Answers request lines from standard input, one line each, by what the hex reader, the sender and the reader of responses compute, for any bank
-// and any number of sectors. `answer.rt` has their form.
+// and any number of sectors. docs/REQUESTS.md has their form.
 mod answer;
 mod frames;
 mod held;
@@ -11,6 +11,7 @@ use held::Answered;
 use held::Held;
 use held::LONGEST_IMAGE;
 use held::LONGEST_TEXT;
+use script::call;
 use script::line;
 use script::line::Found;
 use script::line::Turn;
@@ -50,10 +51,16 @@ fn answer_all(hex_text: &mut [u8], image: &mut [u8], chunk: &mut [u8], line: &mu
     }
 }
 
-fn main() {
+fn answer_input() {
     let mut hex_text = [0u8; LONGEST_TEXT];
     let mut image = [0u8; LONGEST_IMAGE];
     let mut chunk = [0u8; 4096];
     let mut line = [0u8; 4096];
     answer_all(&mut hex_text, &mut image, &mut chunk, &mut line);
+}
+
+fn main() {
+    if call::takes(0, b"usage: ./run sending [FILE]\n") {
+        answer_input();
+    }
 }

@@ -1,4 +1,4 @@
-// One request line and its answer.
+// One request line and its answer: docs/REQUESTS.md has the form of both.
 use crate::banks;
 use crate::frames;
 use crate::sums;

@@ -117,7 +117,7 @@ fn end_of(pieces: &[u8], at: usize) -> usize
     requires { ⌜ at ≤ length (now pieces) ⌝ }
     ensures { λ r. ⌜ (at ≤ r) × (r ≤ length (now (pieces .entry))) ⌝ }
 {
-    at + text::blank_at(&pieces[at..])
+    at + text::first(&pieces[at..]).len()
 }
 
 fn put_pieces(bank: &mut [u8], pieces: &[u8]) -> bool {

@@ -1,10 +1,11 @@
 // Answers request lines from standard input, one line each, by what the crates below compute. The peer in tests/ answers the
-// same lines; its lines.rs has their form.
+// same lines; docs/REQUESTS.md has their form.
 mod answer;
 mod banks;
 mod frames;
 mod sums;
 
+use script::call;
 use script::line;
 use script::line::Found;
 use script::line::Turn;
@@ -33,8 +34,14 @@ fn answer_all(chunk: &mut [u8], line: &mut [u8]) {
     }
 }
 
-fn main() {
+fn answer_input() {
     let mut chunk = [0u8; 4096];
     let mut line = [0u8; 4096];
     answer_all(&mut chunk, &mut line);
+}
+
+fn main() {
+    if call::takes(0, b"usage: ./run vectors [FILE]\n") {
+        answer_input();
+    }
 }

@@ -1,6 +1,8 @@
 -- `script::text::value` is safe and ends: what was read so far has room for one digit more.
 -- Assumes nothing.
 use Prim.Native.Nat.{ℕ, _≤_, _-_, _*_}
+use mathlib.Core.Logic.{_⊎_, inl, inr}
+use mathlib.Core.Path.{refl}
 use native.Mathlib.Nat.{mul-le-mul-right}
 use native.Mathlib.Omega.{arith}
 use lib.ListN.{length}
@@ -31,10 +33,10 @@ cast-d : tie.Need-cast-d Inv-loop μ-loop
 cast-d c = search needs
 
 returns : tie.Need-returns Inv-loop μ-loop
-returns c = search needs
+returns c = inr refl
 
 returns-2 : tie.Need-returns-2 Inv-loop μ-loop
-returns-2 c = search needs
+returns-2 c = inr refl
 
 mul-value : tie.Need-mul-value Inv-loop μ-loop
 mul-value c = omega (arith, below (c .before .before .before .before .before .loop .value) (c .before .before .before .before .before .before .before .args .base) (search needs) (c .before .before .before .before .before .before .before .pre))
@@ -52,10 +54,10 @@ loop-again : tie.Need-loop-again Inv-loop μ-loop
 loop-again c = search needs
 
 returns-3 : tie.Need-returns-3 Inv-loop μ-loop
-returns-3 c = search needs
+returns-3 c = inr refl
 
 returns-4 : tie.Need-returns-4 Inv-loop μ-loop
-returns-4 c = search needs
+returns-4 c = inl (search needs)
 
 pub value-spec : {M : Type 1} → statement M
 value-spec =
