@@ -12,10 +12,10 @@ use script::say;
 use script::text;
 
 fn say_told(told: Told) {
-    match told {
-        Told::Done => say::text(b"done\n"),
-        Told::BadN => send::say_refused(3),
-        Told::InVain => send::say_refused(4),
+    if let Told::Done = told {
+        say::text(b"done\n");
+    } else {
+        send::say_refused(client::host::told_number(told) as usize);
     }
 }
 

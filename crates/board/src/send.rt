@@ -41,11 +41,7 @@ fn say_notice(notice: Notice) {
 }
 
 fn say_refusal(refusal: Refusal) {
-    match refusal {
-        Refusal::BadN => say_refused(3),
-        Refusal::BadLength => say_refused(2),
-        Refusal::Closed => say_refused(1),
-    }
+    say_refused(exchange::answer::refusal_number(refusal) as usize);
 }
 
 fn say_answered(bytes: &[u8], notice: Notice) {

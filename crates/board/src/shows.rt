@@ -85,18 +85,19 @@ fn say_received(received: [bool; MOST]) {
 }
 
 fn say_record(client: Client) {
-    let running = client.running;
+    let fixed = client.fixed;
+    let running = fixed.running;
     let next = client.next;
     let state = client.state;
     let latest = client.latest;
     let received = client.received;
     say::text(b"record");
-    say::field(client.n);
+    say::field(fixed.n);
     say_bank(running);
     say_bank(next);
     say_state(state);
     say_latest(latest);
-    say_version(client.major, client.minor, client.revision);
+    say_version(fixed.major, fixed.minor, fixed.revision);
     say::text(b" ");
     say_received(received);
 }

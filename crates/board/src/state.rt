@@ -42,7 +42,8 @@ fn sectors(n: usize) -> u32
 
 // A new client's board but for its banks, which the caller fills.
 pub(crate) fn fresh(client: Client) -> Board {
-    let lent = sectors(client.n);
+    let fixed = client.fixed;
+    let lent = sectors(fixed.n);
     Board {
         client,
         bank0: lent * SECTOR as u32,

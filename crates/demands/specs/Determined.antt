@@ -144,4 +144,9 @@ pub record Determined : Type 0 where
   pub take : (c : Client) (target marks address buffer datagram : List ℕ) → Thrice (Take·Is c target marks address buffer datagram)
   pub step : (c : Client) (bank0 bank1 marks address buffer datagram : List ℕ) → Fourfold (Step·Is c bank0 bank1 marks address buffer datagram)
   pub next-body : (c : Client) (bank0 bank1 : List ℕ) (i : ℕ) → Once (NextBody·Is c bank0 bank1 i)
-use Rattle.script.specs.declared.line.Turn.{Turn}
+  -- lines and fields, for the programs
+  pub first-field : (text : List ℕ) → Once (First·Is text)
+  pub other-fields : (text : List ℕ) → Once (Rest·Is text)
+  pub ends-in-blank : (text : List ℕ) → Once (EndsInBlank·Is text)
+  pub before-lines : Once Before·Is
+  pub held-line : (line : List ℕ) (turn : Turn) → Once (Held·Is line turn)
