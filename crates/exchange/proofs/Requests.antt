@@ -25,7 +25,8 @@ module _ (command : Command) (n : ℕ) (parameters : List ℕ) where
   counted-wrong h = rw (ne-eqb n (parameterBytes command) h)
 
 -- a control frame, by its code and what it hands back
-pub asked-control : (d : List ℕ) (code n : ℕ) {parameters : List ℕ} {r : Asked} → r ≡ askedByCode (requestedBy code) n parameters → parameters ≡ parametersIn d
+pub asked-control : (d : List ℕ) (code n : ℕ) {parameters : List ℕ} {r : Asked} → r ≡ askedByCode (requestedBy code) n parameters
+    → parameters ≡ parametersIn d
     → read.Control code n ≡ readOf d → r ≡ askedOf d
 unfolding askedBy
 asked-control d code n e p q = e ∙ ap (askedByCode (requestedBy code) n) p ∙ ap (askedBy (parametersIn d)) q

@@ -119,6 +119,7 @@ module _ (before : List ℕ) where
           record { said = p .said; told = rw (lt-leb (length (answerBytes answer)) (length before) (omega arith)) }
 
 -- the length that is told where there is room for any answer
-pub told-whole : (answer : Answer) (room : ℕ) → length (answerBytes answer) ≤ room → toldLength (answerBytes answer) room ≡ length (answerBytes answer)
+pub told-whole : (answer : Answer) (room : ℕ) → length (answerBytes answer) ≤ room
+    → toldLength (answerBytes answer) room ≡ length (answerBytes answer)
 unfolding toldLength
 told-whole answer room h = rw (le-leb (length (answerBytes answer)) room h)

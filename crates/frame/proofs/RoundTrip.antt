@@ -32,7 +32,8 @@ module _ (first : ℕ) (covered : List ℕ) (footer i : ℕ) (e : i ≡ suc (len
       let less : i - 1 ≡ length covered = omega arith in
       eq-eqb _ _
       (getD-at (first ∷ covered) (checksumOf covered) (footer ∷ []) 0 i (sym e)
-      ∙ sym (ap checksumOf (ap (λ (n : ℕ). take n (covered ++ (checksumOf covered ∷ footer ∷ []))) less ∙ take-at covered (checksumOf covered ∷ footer ∷ []) (length covered) refl)))
+      ∙ sym (ap checksumOf (ap (λ (n : ℕ). take n (covered ++ (checksumOf covered ∷ footer ∷ []))) less
+      ∙ take-at covered (checksumOf covered ∷ footer ∷ []) (length covered) refl)))
 
   framed-footer : byteAt (framed first covered footer) (i + 1) ≡ footer
   unfolding framed
@@ -45,9 +46,11 @@ two-left : (d : List ℕ) (i : ℕ) → length d ≡ i + 2 → drop i d ≡ byte
 two-left d i n =
     drop-cons d i 0 (omega arith)
     ∙ ap (λ (r : List ℕ). byteAt d i ∷ r)
-    (drop-cons d (suc i) 0 (omega arith) ∙ ap₂ (λ (j : ℕ) (r : List ℕ). byteAt d j ∷ r) (sym (add-one i)) (drop-of-length-le d {i = suc (suc i)} (omega arith)))
+    (drop-cons d (suc i) 0 (omega arith) ∙ ap₂ (λ (j : ℕ) (r : List ℕ). byteAt d j ∷ r) (sym (add-one i))
+    (drop-of-length-le d {i = suc (suc i)} (omega arith)))
 
-framed-only : (d : List ℕ) (k : ℕ) → length d ≡ k + 3 → byteAt d (k + 1) ≡ checksumOf (take k (drop 1 d)) → d ≡ framed (byteAt d 0) (take k (drop 1 d)) (byteAt d (k + 2))
+framed-only : (d : List ℕ) (k : ℕ) → length d ≡ k + 3 → byteAt d (k + 1) ≡ checksumOf (take k (drop 1 d))
+    → d ≡ framed (byteAt d 0) (take k (drop 1 d)) (byteAt d (k + 2))
 unfolding framed
 framed-only d k n s =
     let one : 1 + k ≡ k + 1 = omega arith in
@@ -77,7 +80,8 @@ control-back code parameters =
     ∙ read-control d refl
 
 -- of a frame, what stands from index i on, behind its head
-framed-part : (first : ℕ) (head bytes : List ℕ) (footer i : ℕ) → suc (length head) ≡ i → partFrom i first (framed first (head ++ bytes) footer) ≡ bytes
+framed-part : (first : ℕ) (head bytes : List ℕ) (footer i : ℕ) → suc (length head) ≡ i
+    → partFrom i first (framed first (head ++ bytes) footer) ≡ bytes
 unfolding framed
 framed-part first head bytes footer i e =
     let covered : List ℕ = head ++ bytes in
@@ -139,7 +143,8 @@ spelt a b c e bytes footer n =
     (ap (byteAt d) foot ∙ framed-footer 0x02 covered (footerByte footer) (m + 5) (omega arith))
     ∙ read-write d refl refl
 
-pub write-back : (sector : ℕ) (bytes : List ℕ) (footer : Footer) → sector < 65536 → length bytes < 65536 → Write sector (length bytes) footer ≡ readOf (writeFrame sector bytes footer)
+pub write-back : (sector : ℕ) (bytes : List ℕ) (footer : Footer) → sector < 65536 → length bytes < 65536
+    → Write sector (length bytes) footer ≡ readOf (writeFrame sector bytes footer)
 unfolding writeFrame
 write-back sector bytes footer h k =
     let m : ℕ = length bytes in
@@ -168,7 +173,12 @@ write-only d sector m footer b t =
     let foot : m + 4 + 2 ≡ m + 6 = omega arith in
     let lies : take (m + 4) (drop 1 d) ≡ byteAt d 1 ∷ byteAt d 2 ∷ byteAt d 3 ∷ byteAt d 4 ∷ u =
     ap (λ (k : ℕ). take k (drop 1 d)) four
-    ∙ (rw (part-next d 1 (suc (suc (suc m))) (omega arith), part-next d 2 (suc (suc m)) (omega arith), part-next d 3 (suc m) (omega arith), part-next d 4 m (omega arith))) in
+    ∙ (rw (
+      part-next d 1 (suc (suc (suc m))) (omega arith),
+      part-next d 2 (suc (suc m)) (omega arith),
+      part-next d 3 (suc m) (omega arith),
+      part-next d 4 m (omega arith),
+    )) in
     let a : byteAt d 1 ∷ byteAt d 2 ∷ [] ≡ bytesOf 2 sector = bytes-pair (byteAt d 1) (byteAt d 2) sector (b 1) (b 2) s in
     let c : byteAt d 3 ∷ byteAt d 4 ∷ [] ≡ bytesOf 2 (length u) =
     bytes-pair (byteAt d 3) (byteAt d 4) (length u) (b 3) (b 4) (part-length d 5 m (omega arith) ∙ l) in
@@ -186,7 +196,8 @@ control-read d code n t =
     let l : length (parametersIn d) ≡ n = rw (← parameters-lie d code n t) (part-length d 3 n (omega arith)) in
     sym (ap readOf (control-only d code n t) ∙ sym (control-back code (parametersIn d)) ∙ ap (Control code) l)
 
-pub write-read : (d : List ℕ) (sector m : ℕ) (footer : Footer) → ((i : ℕ) → byteAt d i < 256) → WriteIn d sector m footer → Write sector m footer ≡ readOf d
+pub write-read : (d : List ℕ) (sector m : ℕ) (footer : Footer) → ((i : ℕ) → byteAt d i < 256) → WriteIn d sector m footer
+    → Write sector m footer ≡ readOf d
 write-read d sector m footer b t =
     let w : length d ≡ m + 7 = t .whole in
     let l : length (dataIn d) ≡ m = rw (← data-lie d sector m footer t) (part-length d 5 m (omega arith)) in

@@ -101,7 +101,8 @@ told-write d f =
     split (Told d) (n && s)
     (λ t.
     let w : length d ≡ m + 7 = eqb-true (length d) (m + 7) (and-left n s t) in
-    let c : byteAt d (m + 5) ≡ checksumOf (take (m + 5 - 1) (drop 1 d)) = eqb-true (byteAt d (m + 5)) (checksumOf (take (m + 5 - 1) (drop 1 d))) (and-right n s t) in
+    let c : byteAt d (m + 5) ≡ checksumOf (take (m + 5 - 1) (drop 1 d)) =
+    eqb-true (byteAt d (m + 5)) (checksumOf (take (m + 5 - 1) (drop 1 d))) (and-right n s t) in
     split (Told d) (eqb (byteAt d (m + 6)) 0x03)
     (λ e. write-in d m End f refl w c (eqb-true (byteAt d (m + 6)) 0x03 e))
     (λ _. split (Told d) (eqb (byteAt d (m + 6)) 0x17) (λ e. write-in d m Continued f refl w c (eqb-true (byteAt d (m + 6)) 0x17 e)) (λ _. tt)))

@@ -30,7 +30,12 @@ pub length-write : (sector : ℕ) (bytes : List ℕ) (footer : Footer) → lengt
 unfolding writeFrame
 length-write sector bytes footer =
     length-framed 0x02 (bytesOf 2 sector ++ bytesOf 2 (length bytes) ++ bytes) (footerByte footer)
-    ∙ (rw (length-append (bytesOf 2 sector ++ bytesOf 2 (length bytes)) bytes, length-append (bytesOf 2 sector) (bytesOf 2 (length bytes)), length-bytes 2 sector, length-bytes 2 (length bytes)) (omega arith))
+    ∙ (rw (
+      length-append (bytesOf 2 sector ++ bytesOf 2 (length bytes)) bytes,
+      length-append (bytesOf 2 sector) (bytesOf 2 (length bytes)),
+      length-bytes 2 sector,
+      length-bytes 2 (length bytes),
+    ) (omega arith))
 
 pub length-error : length frameError ≡ 6
 unfolding frameError
@@ -38,21 +43,25 @@ length-error = refl
 
 -- ---- what the length field can count stands at the front
 
-pub control-fits : (buffer : List ℕ) (code : ℕ) (parameters : List ℕ) → length parameters ≤ 254 → putControl buffer code parameters ≡ frontOf buffer (controlFrame code parameters)
+pub control-fits : (buffer : List ℕ) (code : ℕ) (parameters : List ℕ) → length parameters ≤ 254
+    → putControl buffer code parameters ≡ frontOf buffer (controlFrame code parameters)
 unfolding putControl
 control-fits buffer code parameters h = rw (le-leb (length parameters) 254 h)
 
-pub write-fits : (buffer : List ℕ) (sector : ℕ) (bytes : List ℕ) (footer : Footer) → length bytes ≤ 65535 → putWrite buffer sector bytes footer ≡ frontOf buffer (writeFrame sector bytes footer)
+pub write-fits : (buffer : List ℕ) (sector : ℕ) (bytes : List ℕ) (footer : Footer) → length bytes ≤ 65535
+    → putWrite buffer sector bytes footer ≡ frontOf buffer (writeFrame sector bytes footer)
 unfolding putWrite
 write-fits buffer sector bytes footer h = rw (le-leb (length bytes) 65535 h)
 
 -- ---- the pieces: a beginning, the bytes behind it, checksum and footer behind these
 
-close-next : (first : ℕ) (covered left : List ℕ) (footer : ℕ) → 2 ≤ length left → closedAt (first ∷ covered ++ left) (suc (length covered)) footer ≡ framed first covered footer ++ drop 2 left
+close-next : (first : ℕ) (covered left : List ℕ) (footer : ℕ) → 2 ≤ length left
+    → closedAt (first ∷ covered ++ left) (suc (length covered)) footer ≡ framed first covered footer ++ drop 2 left
 unfolding framed closedAt
 close-next first covered left footer h =
     let one : suc (length covered) - 1 ≡ length covered = omega arith in
-    let sum : take (suc (length covered) - 1) (covered ++ left) ≡ covered = ap (λ (n : ℕ). take n (covered ++ left)) one ∙ take-at covered left (length covered) refl in
+    let sum : take (suc (length covered) - 1) (covered ++ left) ≡ covered =
+    ap (λ (n : ℕ). take n (covered ++ left)) one ∙ take-at covered left (length covered) refl in
     ap (λ (l : List ℕ). placeOf (first ∷ covered ++ left) (suc (length covered)) (checksumOf l ∷ footer ∷ [])) sum
     ∙ place-next (first ∷ covered) left (checksumOf covered ∷ footer ∷ []) h
 
@@ -118,7 +127,8 @@ module _ (buffer : List ℕ) (sector : ℕ) (bytes : List ℕ) (footer : Footer)
   pub write-no-room : length bytes ≤ 65535 → length buffer < length bytes + 7 → buffer ≡ putWrite buffer sector bytes footer
   unfolding putWrite
   write-no-room h k =
-      rw (le-leb (length bytes) 65535 h) (sym (front-short buffer (writeFrame sector bytes footer) (omega (arith, length-write sector bytes footer))))
+      rw (le-leb (length bytes) 65535 h)
+      (sym (front-short buffer (writeFrame sector bytes footer) (omega (arith, length-write sector bytes footer))))
 
   -- 02, and the two numbers put behind it
   head-put : {one two : List ℕ} → one ≡ placeOf (0x02 ∷ 0 ∷ 0 ∷ 0 ∷ 0 ∷ []) 1 (bytesOf 2 sector) → two ≡ placeOf one 3 (bytesOf 2 (length bytes))

@@ -133,7 +133,8 @@ module _ (sector : ℕ) (bytes : List ℕ) where
   unfolding writeOf
   not-six l = rw (ne-eqb (length bytes) 6 l)
 
-  module _ (l : length bytes ≡ 6) (response write crc : ℕ) (a : response ≡ byteAt bytes 0) (b : write ≡ byteAt bytes 1) (e : crc ≡ numberAt 4 bytes 2) where
+  module _ (l : length bytes ≡ 6) (response write crc : ℕ)
+      (a : response ≡ byteAt bytes 0) (b : write ≡ byteAt bytes 1) (e : crc ≡ numberAt 4 bytes 2) where
     pub bad-response : mayCarry false response ≡ false → Unreadable ≡ writeOf sector bytes
     unfolding writeOf
     bad-response m = rw (eq-eqb (length bytes) 6 l, ← a, m)

@@ -7,7 +7,8 @@ use layout::Bank;
 ghost use mathlib.Core.Path.{_≡_};
 ghost use Prim.Native.Nat.{_+_};
 ghost use lib.ListN.{length};
-ghost use Rattle.response.specs.Response.{mayCarry, addedOf, targetOf, acceptedOf, ownOf, errorOf, controlOf, repeatsOf, storedOf, crcFits, writeOf};
+ghost use Rattle.response.specs.Response.{mayCarry, addedOf, targetOf, acceptedOf, ownOf, errorOf, controlOf};
+ghost use Rattle.response.specs.Response.{repeatsOf, storedOf, crcFits, writeOf};
 ghost use Rattle.response.specs.Said.{Response·Is};
 
 pub enum Response {

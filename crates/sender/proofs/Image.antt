@@ -28,13 +28,15 @@ use Rattle.sender.proofs.Packets.{Sent, sector-length, sent-blank, sent
 -- ---- which sector has which packet
 
 -- a packet stays the same, however many sectors follow
-later : (image : List ℕ) (n p : ℕ) → p < packetCount image n → (p < packetCount image (suc n)) × (packetSector image (suc n) p ≡ packetSector image n p)
+later : (image : List ℕ) (n p : ℕ) → p < packetCount image n
+    → (p < packetCount image (suc n)) × (packetSector image (suc n) p ≡ packetSector image n p)
 later image n p h = by (blankOf (sectorOf image (suc n))) refl
   where
     l : List ℕ
     l = sentOf image n
 
-    by : (b : Bool) → blankOf (sectorOf image (suc n)) ≡ b → (p < packetCount image (suc n)) × (packetSector image (suc n) p ≡ packetSector image n p)
+    by : (b : Bool) → blankOf (sectorOf image (suc n)) ≡ b
+        → (p < packetCount image (suc n)) × (packetSector image (suc n) p ≡ packetSector image n p)
     by true e = (omega (arith, ap length (sent-blank image n e)), ap (λ (x : List ℕ). getD x p 0) (sent-blank image n e))
     by false e = (
       omega (arith, ap length (sent-more image n e), length-append l (suc n ∷ [])),
@@ -98,7 +100,8 @@ module _ (image : List ℕ) (n p : ℕ) (g : goodN n ≡ true) (e : length image
   packet-read =
       let k : ℕ = packetSector image n p in
       let f : Footer = footerOf (packetCount image n) p in
-      ap (λ (m : ℕ). Write k m f) (sym data-length) ∙ write-back k (sectorOf image k) f (packet-small image n p g k h refl) (omega (arith, data-length))
+      ap (λ (m : ℕ). Write k m f) (sym data-length)
+      ∙ write-back k (sectorOf image k) f (packet-small image n p g k h refl) (omega (arith, data-length))
 
   -- 03 on the last packet, 17 on the others
   pub last-footer : p + 1 ≡ packetCount image n → Write (packetSector image n p) sectorSize End ≡ readOf (packetFrame image n p)
@@ -162,7 +165,8 @@ module _ (image : List ℕ) (n : ℕ) (g : goodN n ≡ true) (e : length image �
       let l : length front ≡ sectorSize * k = length-take-le (sectorSize * k) image (omega arith) in
       let w : length (sectorOf image (suc k)) ≡ sectorSize = whole k h in
       let r : length (blanks k) ≡ sectorSize + length (blanks (suc k)) =
-      ap length (blanks-behind k h) ∙ length-append (replicate sectorSize 0xFF) (blanks (suc k)) ∙ ap (λ (j : ℕ). j + length (blanks (suc k))) (length-replicate {A = ℕ} sectorSize 0xFF) in
+      ap length (blanks-behind k h) ∙ length-append (replicate sectorSize 0xFF) (blanks (suc k))
+      ∙ ap (λ (j : ℕ). j + length (blanks (suc k))) (length-replicate {A = ℕ} sectorSize 0xFF) in
       let d : drop (length (sectorOf image (suc k))) (blanks k) ≡ blanks (suc k) =
       ap₂ (λ (j : ℕ) (x : List ℕ). drop j x) w (blanks-behind k h)
       ∙ drop-at (replicate sectorSize 0xFF) (blanks (suc k)) sectorSize (length-replicate {A = ℕ} sectorSize 0xFF) in
@@ -171,7 +175,8 @@ module _ (image : List ℕ) (n : ℕ) (g : goodN n ≡ true) (e : length image �
       ∙ ap (λ (x : List ℕ). front ++ sectorOf image (suc k) ++ x) d
       ∙ begun-more k
 
-  put-next : (k : ℕ) → k < n → blankOf (sectorOf image (suc k)) ≡ false → restored image n (packetCount image k) ≡ begun k → restored image n (packetCount image (suc k)) ≡ begun (suc k)
+  put-next : (k : ℕ) → k < n → blankOf (sectorOf image (suc k)) ≡ false → restored image n (packetCount image k) ≡ begun k
+      → restored image n (packetCount image (suc k)) ≡ begun (suc k)
   unfolding restored
   put-next k h b before =
       let p : ℕ = packetCount image k in
@@ -195,7 +200,8 @@ module _ (image : List ℕ) (n : ℕ) (g : goodN n ≡ true) (e : length image �
   after zero h = first
   after (suc k) h = by (blankOf (sectorOf image (suc k))) refl (after k (omega arith))
     where
-      by : (b : Bool) → blankOf (sectorOf image (suc k)) ≡ b → restored image n (packetCount image k) ≡ begun k → restored image n (packetCount image (suc k)) ≡ begun (suc k)
+      by : (b : Bool) → blankOf (sectorOf image (suc k)) ≡ b → restored image n (packetCount image k) ≡ begun k
+          → restored image n (packetCount image (suc k)) ≡ begun (suc k)
       by true t before = ap (λ (l : List ℕ). restored image n (length l)) (sent-blank image k t) ∙ before ∙ over-blank k (omega arith) t
       by false t before = put-next k (omega arith) t before
 

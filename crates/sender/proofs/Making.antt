@@ -12,6 +12,7 @@ use Rattle.buffer.specs.Place.{placeOf}
 use Rattle.buffer.proofs.Numbers.{length-bytes}
 use Rattle.buffer.proofs.Places.{place-front, front-fits, place-next}
 use Rattle.commands.specs.Command.{requestCode}
+use Rattle.commands.specs.declared.Command.{Command}
 use Rattle.frame.specs.Frame.{controlFrame}
 use Rattle.frame.specs.Write.{putControl}
 use Rattle.frame.proofs.Writing.{length-control, control-fits}
@@ -58,7 +59,8 @@ request-is : (request : Request) (before after : List ℕ) (r : Made) → r ≡ 
     → after ≡ bufferAfter (requestMade request (length before)) before (requestFrame request) → Request·Is request before r after
 request-is request before after r e s = record { answered = e; says = ap madeSaid e ∙ request-says request (length before); stands = s }
 
-pub request-told : {request q : Request} {before after : List ℕ} {r : Made} → request ≡ q → Request·Is q before r after → Request·Is request before r after
+pub request-told : {request q : Request} {before after : List ℕ} {r : Made} → request ≡ q → Request·Is q before r after
+    → Request·Is request before r after
 request-told {before = before} {after = after} {r = r} t i = subst (λ (x : Request). Request·Is x before r after) (sym t) i
 
 -- a request q is the control frame of its code and parameters, its N being good
@@ -71,6 +73,12 @@ request-control {before} {after} {r} {parameters} q g c p i =
     (subst (λ (x : ℕ). Control·Is x parameters before r after) c i) in
     let e : roomFor (length before) (requestFrame q) ≡ requestMade q (length before) = rw g in
     request-is q before after r (d .answered ∙ e) (d .stands ∙ ap (λ (m : Made). bufferAfter m before (requestFrame q)) e)
+
+-- a request without parameters, by the code of its command
+pub request-bare :
+    {request : Request} {command : Command} {code : ℕ} {before after : List ℕ} {r : Made} (q : Request) → request ≡ q → command ≡ commandOf request
+    → code ≡ requestCode command → givenGood q ≡ true → [] ≡ asksFor q → Control·Is code [] before r after → Request·Is request before r after
+request-bare q t k c g p i = request-told t (request-control q g (c ∙ ap requestCode (k ∙ ap commandOf t)) p i)
 
 module _ (bank : Bank) (n : ℕ) (before : List ℕ) where
   pub start-refused : goodN n ≡ false → Request·Is (WriteStart bank n) before BadN before

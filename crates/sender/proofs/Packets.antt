@@ -25,7 +25,19 @@ use Rattle.sender.specs.declared.packet.Seen.{Seen}
 use Rattle.sender.specs.declared.packet.Tally.{Tally}
 use Rattle.sender.specs.declared.packet.Tally.the-variants.{BadN as NoBank, BadLength as NoImage, Packets}
 use Rattle.sender.specs.Made.{room, madeSaid, bufferAfter}
-use Rattle.sender.specs.Packet.{sentOf, packetCount, packetSector, footerOf, packetFrame, packetMade, tallyOf, tallySaid, seenOf, Count·Is, Packet·Is}
+use Rattle.sender.specs.Packet.{
+  sentOf,
+  packetCount,
+  packetSector,
+  footerOf,
+  packetFrame,
+  packetMade,
+  tallyOf,
+  tallySaid,
+  seenOf,
+  Count·Is,
+  Packet·Is,
+}
 use Rattle.sender.proofs.Refusals.{packet-says, count-says}
 
 -- ---- a sector of an image
@@ -54,7 +66,8 @@ sent-few image (suc k) = by (blankOf (sectorOf image (suc k))) (sent-few image k
     by false h = omega (arith, length-append (sentOf image k) (suc k ∷ []))
 
 -- the part that was looked at is the sector behind the first k
-pub looked-at : (image : List ℕ) (k from : ℕ) (r : Bool) → goodN (k + 1) ≡ true → from ≡ sectorOffset (k + 1) → r ≡ blankOf (take (from + sectorSize - from) (drop from image)) → r ≡ blankOf (sectorOf image (suc k))
+pub looked-at : (image : List ℕ) (k from : ℕ) (r : Bool) → goodN (k + 1) ≡ true → from ≡ sectorOffset (k + 1)
+    → r ≡ blankOf (take (from + sectorSize - from) (drop from image)) → r ≡ blankOf (sectorOf image (suc k))
 looked-at image k from r g o e = e ∙ ap blankOf (lent-out image (suc k) from (omega (arith, offset-good (k + 1) g)))
 
 -- an element behind a list changes no other
@@ -86,7 +99,8 @@ module _ (image : List ℕ) (p : ℕ) where
     seen-blank s e b = e ∙ rw (add-one, sent-blank image k b)
 
     -- packet p is found
-    pub seen-here : (s : Seen) → s ≡ seenOf image k p → blankOf (sectorOf image (suc k)) ≡ false → s .count ≡ p → record { count = s .count + 1; sector = k + 1 } ≡ seenOf image (k + 1) p
+    pub seen-here : (s : Seen) → s ≡ seenOf image k p → blankOf (sectorOf image (suc k)) ≡ false → s .count ≡ p
+        → record { count = s .count + 1; sector = k + 1 } ≡ seenOf image (k + 1) p
     unfolding seenOf
     seen-here s e b q =
         let l : List ℕ = sentOf image k in
@@ -95,7 +109,8 @@ module _ (image : List ℕ) (p : ℕ) where
         let f : k + 1 ≡ getD (l ++ (suc k ∷ [])) p 0 = add-one k ∙ sym (getD-at l (suc k) [] 0 p (sym n ∙ q)) in
         rw (add-one k, sent-more image k b) (ap₂ (λ (x y : ℕ). record { count = x; sector = y }) c (sym (add-one k) ∙ f))
 
-    pub seen-other : (s : Seen) → s ≡ seenOf image k p → blankOf (sectorOf image (suc k)) ≡ false → (s .count ≡ p → ⊥) → record { count = s .count + 1; sector = s .sector } ≡ seenOf image (k + 1) p
+    pub seen-other : (s : Seen) → s ≡ seenOf image k p → blankOf (sectorOf image (suc k)) ≡ false → (s .count ≡ p → ⊥)
+        → record { count = s .count + 1; sector = s .sector } ≡ seenOf image (k + 1) p
     unfolding seenOf
     seen-other s e b q =
         let l : List ℕ = sentOf image k in
@@ -125,14 +140,16 @@ sent-in image (suc n) p h = by (blankOf (sectorOf image (suc n))) refl (λ q. se
     l : List ℕ
     l = sentOf image n
 
-    last : blankOf (sectorOf image (suc n)) ≡ false → Dec (p < length l) → p < length (l ++ (suc n ∷ [])) → (p < length l → Sent image n (getD l p 0))
+    last : blankOf (sectorOf image (suc n)) ≡ false → Dec (p < length l) → p < length (l ++ (suc n ∷ []))
+        → (p < length l → Sent image n (getD l p 0))
         → Sent image (suc n) (getD (l ++ (suc n ∷ [])) p 0)
     last e (yes d) c before = rw (List·getD-append l (suc n ∷ []) 0 p d) (wider image n _ (before d))
     last e (no d) c before =
         let q : length l ≡ p = omega (arith, length-append l (suc n ∷ [])) in
         rw (getD-at l (suc n) [] 0 p q) (record { low = omega arith; high = omega arith; some = e })
 
-    by : (b : Bool) → blankOf (sectorOf image (suc n)) ≡ b → (p < length l → Sent image n (getD l p 0)) → Sent image (suc n) (packetSector image (suc n) p)
+    by : (b : Bool) → blankOf (sectorOf image (suc n)) ≡ b → (p < length l → Sent image n (getD l p 0))
+        → Sent image (suc n) (packetSector image (suc n) p)
     by true e before = rw (sent-blank image n e) (wider image n _ (before (omega (arith, ap length (sent-blank image n e)))))
     by false e before =
         let c : p < length (l ++ (suc n ∷ [])) = omega (arith, ap length (sent-more image n e)) in
@@ -148,7 +165,8 @@ module _ (image : List ℕ) (n p : ℕ) (g : goodN n ≡ true) where
       let s : Sent image n (packetSector image n p) = sent-in image n p q in
       offset-good _ (good-below n g _ (s .low) (s .high))
 
-  pub packet-end : length image ≡ sectorSize * n → (k : ℕ) → p < packetCount image n → k ≡ packetSector image n p → sectorOffset k + sectorSize ≤ length image
+  pub packet-end : length image ≡ sectorSize * n → (k : ℕ) → p < packetCount image n → k ≡ packetSector image n p
+      → sectorOffset k + sectorSize ≤ length image
   packet-end l k q e =
       let s : Sent image n (packetSector image n p) = sent-in image n p q in
       rw e (omega (arith, s .low, s .high, packet-offset q))
@@ -201,7 +219,9 @@ module _ (image : List ℕ) (n p : ℕ) where
 
       made-frame : room ≤ size → p < packetCount image n → Frame (sectorSize + 7) ≡ packetMade image n p size
       unfolding packetMade
-      made-frame h q = rw (g, eq-eqb (length image) (sectorSize * n) e, le-leb room size h, lt-ltb p (packetCount image n) q) (ap Frame (sym (frame-length g e q)))
+      made-frame h q =
+          rw (g, eq-eqb (length image) (sectorSize * n) e, le-leb room size h, lt-ltb p (packetCount image n) q)
+          (ap Frame (sym (frame-length g e q)))
 
   -- what is answered and what stands is all: what it says follows
   packet-is : (before after : List ℕ) (m : Made) → m ≡ packetMade image n p (length before)
@@ -209,7 +229,8 @@ module _ (image : List ℕ) (n p : ℕ) where
   packet-is before after m e s = record { answered = e; says = ap madeSaid e ∙ packet-says image n p (length before); stands = s }
 
   -- a refusal changes nothing
-  pub packet-refused : (before : List ℕ) (m : Made) → m ≡ packetMade image n p (length before) → bufferAfter m before (packetFrame image n p) ≡ before
+  pub packet-refused : (before : List ℕ) (m : Made) → m ≡ packetMade image n p (length before)
+      → bufferAfter m before (packetFrame image n p) ≡ before
       → Packet·Is image n p before m before
   packet-refused before m e s = packet-is before before m e (sym s ∙ ap (λ (x : Made). bufferAfter x before (packetFrame image n p)) e)
 

@@ -57,7 +57,8 @@ module _ (image : List ℕ) (n p size : ℕ) where
       by false false false k t q = ltb-false p (packetCount image n) t
 
   -- and always there, where nothing else is refused
-  pub five-always : goodN n ≡ true → length image ≡ sectorSize * n → room ≤ size → packetCount image n ≤ p → madeSaid (packetMade image n p size) ≡ number 5
+  pub five-always : goodN n ≡ true → length image ≡ sectorSize * n → room ≤ size → packetCount image n ≤ p
+      → madeSaid (packetMade image n p size) ≡ number 5
   unfolding senderSays
   five-always g e h q =
       packet-says ∙ rw (g, eq-eqb (length image) (sectorSize * n) e, le-leb room size h, le-ltb p (packetCount image n) q)

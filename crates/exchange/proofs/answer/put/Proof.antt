@@ -69,7 +69,10 @@ same-length-3 c = search needs
 
 returns-4 : tie.Need-returns-4
 unfolding answerBytes
-returns-4 c = rw ((c .before .before .before .before .before .before .answer2 .given .1), ← (c .before .before .before .response-code .ensures)) (c .before .before .put-result2 .ensures)
+returns-4 c =
+    let response-code = c .before .before .before .response-code in
+    let answer2 = c .before .before .before .before .before .before .answer2 in
+    rw (answer2 .given .1, ← response-code .ensures) (c .before .before .put-result2 .ensures)
 
 same-length-4 : tie.Need-same-length-4
 same-length-4 c = search needs

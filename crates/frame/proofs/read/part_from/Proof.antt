@@ -13,7 +13,7 @@ slice-aggregate-result : tie.Need-slice-aggregate-result
 slice-aggregate-result c = search needs
 
 returns : tie.Need-returns
-returns c = part-short (c .before .before .args .at) (c .before .before .args .first) (c .before .before .args .datagram .now) (c .before .if1 .taken)
+returns c = part-short _ _ (c .before .before .args .datagram .now) (c .before .if1 .taken)
 
 shared-slice-read-if2 : tie.Need-shared-slice-read-if2
 shared-slice-read-if2 c = search needs
@@ -24,7 +24,7 @@ slice-aggregate-result-2 c = search needs
 returns-2 : tie.Need-returns-2
 returns-2 c =
     let args = c .before .before .before .before .args in
-    part-other ((args .at)) ((args .first)) ((args .datagram .now)) (c .before .if2 .taken)
+    part-other (args .at) _ (args .datagram .now) (c .before .if2 .taken)
 
 sub-end : tie.Need-sub-end
 sub-end c = search needs
@@ -41,7 +41,7 @@ part-result-end c = search needs
 returns-3 : tie.Need-returns-3
 returns-3 c =
     let args = c .before .before .before .before .args in
-    part-lies ((args .at)) ((args .first)) ((args .datagram .now)) (c .before .if2 .left)
+    part-lies (args .at) _ (args .datagram .now) (c .before .if2 .left)
 
 pub part-from-spec : {M : Type 1} → statement M
 part-from-spec =

@@ -1,7 +1,6 @@
 -- `response::read::read_response` meets its contract: a frame hands back its parameters and its data.
 -- Assumes nothing.
 use mathlib.Core.Path.{sym, ap, _∙_}
-use Rattle.frame.specs.declared.read.Footer.{Footer}
 use Rattle.frame.specs.declared.read.Read.the-variants.{Write}
 use Rattle.response.proofs.Responses.{from-fault, from-control, from-write, from-continued}
 use borrow.Author.Needs.{needs}
@@ -43,22 +42,24 @@ returns c = from-fault _ (sym (c .enum-told .given .1) ∙ (c .before .before .r
 
 returns-2 : tie.Need-returns-2
 returns-2 c =
+    let code = c .before .before .before .code in
     let read-frame = c .before .before .before .before .before .read-frame in
-    from-control _ _ _ (sym (c .before .before .before .code .given .1) ∙ (read-frame .ensures)) (c .before .parameters .ensures) (c .control .ensures)
+    from-control _ _ _ (sym (code .given .1) ∙ (read-frame .ensures)) (c .before .parameters .ensures) (c .control .ensures)
 
 returns-3 : tie.Need-returns-3
 returns-3 c =
     let sector = c .before .before .before .before .before .sector in
     let read-frame = c .before .before .before .before .before .before .before .read-frame in
-    from-write _ _ _
-    (sym (ap (λ (f : Footer). Write (sector .given .0 .0) (sector .given .0 .1 .0) f) (c .before .before .enum-told2 .given .1)) ∙ sym (sector .given .1) ∙ (read-frame .ensures))
+    let read = sym (sector .given .1) ∙ (read-frame .ensures) in
+    from-write _ _ _ (ap (Write (sector .given .0 .0) (sector .given .0 .1 .0)) (sym (c .before .before .enum-told2 .given .1)) ∙ read)
     (c .before .«data» .ensures) (c .written .ensures)
 
 returns-4 : tie.Need-returns-4
 returns-4 c =
+    let sector = c .before .before .before .sector in
     let read-frame = c .before .before .before .before .before .read-frame in
-    from-continued _ _ _
-    (sym (ap (λ (f : Footer). Write (c .before .before .before .sector .given .0 .0) (c .before .before .before .sector .given .0 .1 .0) f) (c .enum-told3 .given .1)) ∙ sym (c .before .before .before .sector .given .1) ∙ (read-frame .ensures))
+    let read = sym (sector .given .1) ∙ (read-frame .ensures) in
+    from-continued _ _ _ (ap (Write (sector .given .0 .0) (sector .given .0 .1 .0)) (sym (c .enum-told3 .given .1)) ∙ read)
 
 pub read-response-spec : {M : Type 1} → statement M
 read-response-spec =

@@ -26,8 +26,10 @@ survey-requires c κs = (sym (c .before .before .good-n .ensures) ∙ not-false 
 
 returns-3 : tie.Need-returns-3
 returns-3 c =
+    let good-n = c .before .before .before .good-n in
     let args = c .before .before .before .before .before .args in
-    tally-packets _ _ (seen-count (args .image .now) 0 (args .n) _ (c .survey .ensures)) (sym (c .before .before .before .good-n .ensures) ∙ not-false _ (c .before .before .if1 .left)) (c .before .if2 .left)
+    let good = sym (good-n .ensures) ∙ not-false _ (c .before .before .if1 .left) in
+    tally-packets _ _ (seen-count (args .image .now) 0 (args .n) _ (c .survey .ensures)) good (c .before .if2 .left)
 
 pub count-spec : {M : Type 1} → statement M
 count-spec =

@@ -32,10 +32,15 @@ mul-if2 : tie.Need-mul-if2
 mul-if2 c = omega (arith, good-high _ (sym (c .before .good-n .ensures) ∙ not-false _ (c .if1 .left)))
 
 returns-2 : tie.Need-returns-2
-returns-2 c = packet-refused _ _ _ _ _ (made-bad-image _ _ _ _ (sym (c .before .before .good-n .ensures) ∙ not-false _ (c .before .if1 .left)) (c .if2 .taken)) refl
+returns-2 c =
+    let good = sym (c .before .before .good-n .ensures) ∙ not-false _ (c .before .if1 .left) in
+    packet-refused _ _ _ _ _ (made-bad-image _ _ _ _ good (c .if2 .taken)) refl
 
 returns-3 : tie.Need-returns-3
-returns-3 c = packet-refused _ _ _ _ _ (made-no-room _ _ _ _ (sym (c .before .before .before .good-n .ensures) ∙ not-false _ (c .before .before .if1 .left)) (c .before .if2 .left) (omega arith)) refl
+returns-3 c =
+    let good-n = c .before .before .before .good-n in
+    let good = sym (good-n .ensures) ∙ not-false _ (c .before .before .if1 .left) in
+    packet-refused _ _ _ _ _ (made-no-room _ _ _ _ good (c .before .if2 .left) (omega arith)) refl
 
 survey-requires : tie.Need-survey-requires
 survey-requires c κs = (sym (c .before .before .before .good-n .ensures) ∙ not-false _ (c .before .before .if1 .left), (c .before .if2 .left))
@@ -89,7 +94,11 @@ part-put-write-end c =
     let good = sym (good-n .ensures) ∙ not-false _ (if1 .left) in
     let counted = seen-count (args .image .now) (args .p) (args .n) _ (survey .ensures) in
     let found = seen-sector (args .image .now) (args .p) (args .n) _ (survey .ensures) in
-    omega (arith, packet-end (args .image .now) (args .n) (args .p) good (if2 .left) _ (omega arith) found, (c .before .before .sector-offset .ensures))
+    omega (
+      arith,
+      packet-end (args .image .now) (args .n) (args .p) good (if2 .left) _ (omega arith) found,
+      (c .before .before .sector-offset .ensures),
+    )
 
 footer-requires : tie.Need-footer-requires
 footer-requires c κs = search needs
@@ -116,7 +125,8 @@ returns-5 c =
     let counted = seen-count (args .image .now) (args .p) (args .n) _ (survey .ensures) in
     let found = seen-sector (args .image .now) (args .p) (args .n) _ (survey .ensures) in
     let last = (c .before .before .before .footer .ensures) ∙ ap (λ (x : ℕ). footerOf x (args .p)) counted in
-    packet-put _ _ _ _ _ _ _ _ good (if2 .left) (omega arith) (omega arith) found (sector-offset .ensures) last (c .before .before .put-write .ensures)
+    packet-put _ _ _ _ _ _ _ _ good (if2 .left) (omega arith) (omega arith) found (sector-offset .ensures) last
+    (c .before .before .put-write .ensures)
 
 pub packet-spec : {M : Type 1} → statement M
 packet-spec =

@@ -4,7 +4,7 @@ use mathlib.Core.Path.{refl, ap, _∙_}
 use Rattle.commands.specs.Command.{requestCode}
 use Rattle.sender.specs.declared.request.Request.the-variants.{ModeStart, BankInfo, VersionInfo, WriteEnd, ModeEnd}
 use Rattle.sender.specs.Request.{commandOf}
-use Rattle.sender.proofs.Making.{request-told, request-control}
+use Rattle.sender.proofs.Making.{request-told, request-bare}
 use borrow.Author.Needs.{needs}
 use Rattle.sender.proofs.request.make.Statement.{statement}
 use Rattle.sender.proofs.request.make.Tie as tie
@@ -38,8 +38,9 @@ enum-known-request c = search needs
 
 write-start-requires : tie.Need-write-start-requires
 write-start-requires c κs =
+    let request-code = c .before .before .before .before .request-code in
     let command-of = c .before .before .before .before .before .command-of in
-    (c .before .before .before .before .request-code .ensures) ∙ ap requestCode ((command-of .ensures) ∙ ap commandOf (c .before .before .request .given .1))
+    (request-code .ensures) ∙ ap requestCode ((command-of .ensures) ∙ ap commandOf (c .before .before .request .given .1))
 
 enum-told-4 : tie.Need-enum-told-4
 enum-told-4 c = search needs
@@ -58,30 +59,30 @@ same-length c = search needs
 
 returns : tie.Need-returns
 returns c =
+    let enum-told = c .before .before .before .before .enum-told in
     let request-code = c .before .before .before .before .before .before .request-code in
     let command-of = c .before .before .before .before .before .before .before .command-of in
-    request-told (c .before .before .before .before .enum-told .given .1)
-    (request-control ModeStart refl ((request-code .ensures) ∙ ap requestCode ((command-of .ensures) ∙ ap commandOf (c .before .before .before .before .enum-told .given .1))) refl (c .before .before .bare .ensures))
+    request-bare ModeStart (enum-told .given .1) (command-of .ensures) (request-code .ensures) refl refl (c .before .before .bare .ensures)
 
 same-length-2 : tie.Need-same-length-2
 same-length-2 c = search needs
 
 returns-2 : tie.Need-returns-2
 returns-2 c =
+    let enum-told2 = c .before .before .before .before .enum-told2 in
     let request-code = c .before .before .before .before .before .before .request-code in
     let command-of = c .before .before .before .before .before .before .before .command-of in
-    request-told (c .before .before .before .before .enum-told2 .given .1)
-    (request-control BankInfo refl ((request-code .ensures) ∙ ap requestCode ((command-of .ensures) ∙ ap commandOf (c .before .before .before .before .enum-told2 .given .1))) refl (c .before .before .bare2 .ensures))
+    request-bare BankInfo (enum-told2 .given .1) (command-of .ensures) (request-code .ensures) refl refl (c .before .before .bare2 .ensures)
 
 same-length-3 : tie.Need-same-length-3
 same-length-3 c = search needs
 
 returns-3 : tie.Need-returns-3
 returns-3 c =
+    let enum-told3 = c .before .before .before .before .enum-told3 in
     let request-code = c .before .before .before .before .before .before .request-code in
     let command-of = c .before .before .before .before .before .before .before .command-of in
-    request-told (c .before .before .before .before .enum-told3 .given .1)
-    (request-control VersionInfo refl ((request-code .ensures) ∙ ap requestCode ((command-of .ensures) ∙ ap commandOf (c .before .before .before .before .enum-told3 .given .1))) refl (c .before .before .bare3 .ensures))
+    request-bare VersionInfo (enum-told3 .given .1) (command-of .ensures) (request-code .ensures) refl refl (c .before .before .bare3 .ensures)
 
 same-length-4 : tie.Need-same-length-4
 same-length-4 c = search needs
@@ -96,20 +97,20 @@ same-length-5 c = search needs
 
 returns-5 : tie.Need-returns-5
 returns-5 c =
+    let enum-told4 = c .before .before .before .before .enum-told4 in
     let request-code = c .before .before .before .before .before .before .request-code in
     let command-of = c .before .before .before .before .before .before .before .command-of in
-    request-told (c .before .before .before .before .enum-told4 .given .1)
-    (request-control WriteEnd refl ((request-code .ensures) ∙ ap requestCode ((command-of .ensures) ∙ ap commandOf (c .before .before .before .before .enum-told4 .given .1))) refl (c .before .before .bare4 .ensures))
+    request-bare WriteEnd (enum-told4 .given .1) (command-of .ensures) (request-code .ensures) refl refl (c .before .before .bare4 .ensures)
 
 same-length-6 : tie.Need-same-length-6
 same-length-6 c = search needs
 
 returns-6 : tie.Need-returns-6
 returns-6 c =
+    let enum-told5 = c .before .before .before .before .enum-told5 in
     let request-code = c .before .before .before .before .before .before .request-code in
     let command-of = c .before .before .before .before .before .before .before .command-of in
-    request-told (c .before .before .before .before .enum-told5 .given .1)
-    (request-control ModeEnd refl ((request-code .ensures) ∙ ap requestCode ((command-of .ensures) ∙ ap commandOf (c .before .before .before .before .enum-told5 .given .1))) refl (c .before .before .bare5 .ensures))
+    request-bare ModeEnd (enum-told5 .given .1) (command-of .ensures) (request-code .ensures) refl refl (c .before .before .bare5 .ensures)
 
 pub make-spec : {M : Type 1} → statement M
 make-spec =

@@ -52,7 +52,9 @@ returns-2 c =
     let good-n = c10 .before .before .before .before .good-n in
     let args = c10 .before .before .before .before .before .before .args in
     let pre = c10 .before .before .before .before .before .before .pre in
-    let put = start-parameters (args .bank) (args .n) _ refl refl refl (put-number4 .ensures) (put-number42 .ensures) (start-address .ensures) (end-address .ensures) in
+    let put =
+    start-parameters (args .bank) (args .n) _ refl refl refl (put-number4 .ensures) (put-number42 .ensures) (start-address .ensures)
+    (end-address .ensures) in
     request-control (WriteStart _ _) (sym (good-n .ensures) ∙ not-false _ (if1 .left)) (pre) put (c .before .before .control .ensures)
 
 pub write-start-spec : {M : Type 1} → statement M
