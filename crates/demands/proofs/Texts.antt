@@ -1,139 +1,98 @@
 -- The reader of hex text is as asked, and one that invents the line is shut out.
 -- Assumes nothing.
-use mathlib.Core.Path.{_≡_, refl, sym, ap, _∙_}
-use mathlib.Core.Logic.{_⊎_, inl, inr}
-use mathlib.Core.Bool.{Bool, true, false, false≢true}
+use mathlib.Core.Path.{_≡_, refl, sym, _∙_}
+use mathlib.Core.Bool.{true}
 use mathlib.Core.List.{List, [], _∷_}
-use Prim.Native.Nat.{ℕ, zero, suc, _*_}
+use Prim.Native.Nat.{ℕ, _*_}
 use native.Mathlib.Omega.{arith}
 use lib.ListN.{length, replicate, length-replicate}
-use borrow.Author.Tests.{eq-eqb, ne-eqb}
+use Rattle.buffer.proofs.Bools.{no-way}
 use Rattle.layout.specs.declared.Bank.{Bank}
 use Rattle.layout.specs.declared.Bank.the-variants.{Zero}
 use Rattle.layout.specs.Layout.{sectorSize, goodN, startOf}
+use Rattle.layout.specs.Said.{fault}
 use Rattle.lines.specs.Line.{lines}
-use Rattle.hex.specs.declared.fault.Kind.the-variants.{H6}
 use Rattle.hex.specs.declared.fault.Refusal.{Refusal}
-use Rattle.hex.specs.declared.read.Answer.the-variants.{BadN, BadLength, Accepted}
-use Rattle.hex.specs.declared.read.Outcome.{Outcome}
-use Rattle.hex.specs.declared.read.Outcome.the-variants.{Stopped, Through}
-use Rattle.hex.specs.declared.record.Found.{Found}
-use Rattle.hex.specs.declared.record.Found.the-variants.{Fault, Data, Upper, End, Other}
+use Rattle.hex.specs.declared.read.Answer.{Answer}
+use Rattle.hex.specs.declared.read.Answer.the-variants.{BadN, BadLength, Refused, Accepted}
 use Rattle.digits.specs.Digit.{valueOf, isDigit}
 use Rattle.hex.specs.Spell.{byteOf, digitBytes}
-use Rattle.hex.specs.Meaning.{stateAt, saysAt, Faulted, at-line, past-the-last}
-use Rattle.hex.specs.Read.{atStart, readingOf, linesRead, textRead}
+use Rattle.hex.specs.Meaning.{FirstBroken}
+use Rattle.hex.specs.Read.{readLines, answerSaid, readSays, textRead}
 use Rattle.hex.specs.Record.{digitsIn, digitsWhole, recordOf, total, dataAt, typed, foundOf}
-use Rattle.hex.proofs.Meaning.{read-length, accepted-lined, accepted-sound, accepted-over, accepted-data, accepted-rest, refused-lined}
-use Rattle.demands.specs.Texts.{Reader, Refuses, MeetsHex, InventsLine}
-
-either : (size : ℕ) (o : Outcome) (image : List ℕ) → (readingOf size o image .answer ≡ Accepted) ⊎ Refuses (readingOf size o image .answer)
-either size (Stopped r) image = inr (record { why = r; refused = refl })
-either size Through image = inl refl
-
-read-either : (text : List ℕ) (bank : Bank) (n : ℕ) (image : List ℕ) → goodN n ≡ true → length image ≡ sectorSize * n
-    → (textRead text bank n image .answer ≡ Accepted) ⊎ Refuses (textRead text bank n image .answer)
-unfolding textRead
-read-either text bank n image g e = rw (g, eq-eqb (length image) (sectorSize * n) e) (either (sectorSize * n) (linesRead text bank n .outcome) (linesRead text bank n .image))
-
-read-short : (text : List ℕ) (bank : Bank) (n : ℕ) (image : List ℕ) → goodN n ≡ true → (length image ≡ sectorSize * n → ⊥)
-    → textRead text bank n image ≡ record { answer = BadLength; image = image }
-unfolding textRead
-read-short text bank n image g e = rw (g, ne-eqb (length image) (sectorSize * n) e)
-
-read-bad : (text : List ℕ) (bank : Bank) (n : ℕ) (image : List ℕ) → goodN n ≡ false → textRead text bank n image ≡ record { answer = BadN; image = image }
-unfolding textRead
-read-bad text bank n image g = rw g
+use Rattle.hex.proofs.Meaning.{answer-said, says-3, says-2, unread, kept-accepted, broken-refused, accepted-kept, refused-broken, read-length}
+use Rattle.demands.specs.Texts.{Reader, MeetsHex, InventsLine, relined, inventor}
 
 pub texts-meet : MeetsHex textRead
-texts-meet =
+texts-meet text bank n image =
+    let said = answer-said text bank n image in
     record {
-      bad-n = read-bad;
-      bad-length = read-short;
-      either = read-either;
-      faulted = λ text bank n image r a. refused-lined text bank n image r a .0;
-      erased = λ text bank n image r a. refused-lined text bank n image r a .1;
-      sound = λ text bank n image a. accepted-sound (startOf bank) (sectorSize * n) atStart 1 _ (lines text) (accepted-lined text bank n image a .0);
-      over = λ text bank n image a. accepted-over (startOf bank) (sectorSize * n) atStart 1 _ (lines text) (accepted-lined text bank n image a .0);
-      holds = λ text bank n image a.
-          record {
-            there = λ i start count s j h. accepted-data text bank n image a i start count (s .0) (s .1) j h;
-            elsewhere = λ k h u. accepted-rest text bank n image a k h (λ i start count p q. u i start count (p, q));
-          };
-      size = read-length;
+      bad-n = λ g. said ∙ says-3 text bank n image g;
+      bad-length = λ g w. said ∙ says-2 text bank n image g w;
+      stays = λ m a. unread text bank n image m (sym said ∙ a);
+      keeps = λ g w k. said ∙ kept-accepted text bank n image g w k;
+      kept = λ a. accepted-kept text bank n image (sym said ∙ a) .keeps;
+      leaves = λ a. accepted-kept text bank n image (sym said ∙ a) .leaves;
+      breaks = λ g w k l b. said ∙ broken-refused text bank n image g w b;
+      broken = λ k l a. refused-broken text bank n image k l (sym said ∙ a) .breaks;
+      erased = λ k l a. refused-broken text bank n image k l (sym said ∙ a) .erased;
+      sized = read-length text bank n image;
     }
 
--- ---- shut out: one that names the same line for every text
+-- ---- shut out: one that names the same line for every text that it refuses
 
 -- the end record, and a blank line behind it
 unfoldable two-lines : List ℕ
 two-lines = 0x3A ∷ 48 ∷ 48 ∷ 48 ∷ 48 ∷ 48 ∷ 48 ∷ 48 ∷ 49 ∷ 70 ∷ 70 ∷ 0x0A ∷ 0x0A ∷ []
 
-abbrev says : ℕ → Found
-says i = saysAt (startOf Zero) (sectorSize * 1) atStart (lines two-lines) i
-
-two : length (lines two-lines) ≡ 2
-unfolding two-lines lines
-two = refl
-
-line-1 : says 0 ≡ End
-unfolding two-lines lines stateAt foundOf recordOf digitsWhole digitsIn typed dataAt digitBytes byteOf isDigit valueOf total
-line-1 = refl
-
-line-2 : says 1 ≡ Fault H6
-unfolding two-lines lines stateAt foundOf recordOf digitsWhole digitsIn typed dataAt digitBytes byteOf isDigit valueOf total
-line-2 = refl
-
-abbrev isFault : Found → Bool
-isFault (Fault k) = true
-isFault (Data start n) = false
-isFault (Upper u) = false
-isFault End = false
-isFault Other = false
-
-nothing-read : length (lines []) ≡ 0
-unfolding lines
-nothing-read = refl
-
--- the empty text: one past the last line is line 1
-empty-line : (r : Refusal) → Faulted (startOf Zero) (sectorSize * 1) atStart 1 (lines []) r → r .line ≡ 1
-empty-line r (at-line i h e s w) = absurd (omega (arith, nothing-read))
-empty-line r (past-the-last e k o w) = omega (arith, nothing-read)
-
-not-over : stateAt (startOf Zero) (sectorSize * 1) atStart (lines []) (length (lines [])) .over ≡ false
-unfolding lines stateAt
-not-over = refl
-
--- the other: line 2
-second-line : (r : Refusal) → Faulted (startOf Zero) (sectorSize * 1) atStart 1 (lines two-lines) r → r .line ≡ 2
-second-line r (at-line zero h e s w) = absurd (false≢true (ap isFault (sym line-1 ∙ s)))
-second-line r (at-line (suc zero) h e s w) = omega arith
-second-line r (at-line (suc (suc i)) h e s w) = absurd (omega (arith, two))
-second-line r (past-the-last e k o w) = absurd (w 1 (omega (arith, two)) H6 line-2)
+-- a bank of one sector
+unfoldable image : List ℕ
+image = replicate 512 0
 
 one-good : goodN 1 ≡ true
 unfolding goodN
 one-good = refl
 
+size : length image ≡ sectorSize * 1
+unfolding image
+size = length-replicate {A = ℕ} 512 0
+
+-- the empty text has H6 at line 1, the other at line 2
+empty-line : FirstBroken (startOf Zero) (sectorSize * 1) (lines []) 6 1
+unfolding readSays goodN image readLines lines
+empty-line = refused-broken [] Zero 1 image 6 1 refl .breaks
+
+second-line : FirstBroken (startOf Zero) (sectorSize * 1) (lines two-lines) 6 2
+unfolding two-lines readSays goodN image readLines lines foundOf recordOf digitsWhole digitsIn typed dataAt digitBytes byteOf isDigit valueOf total
+second-line = refused-broken two-lines Zero 1 image 6 2 refl .breaks
+
+-- what is said of a refusal is its line
+record RefusedAt (answer : Answer) (l : ℕ) : Type 0 where
+  why : Refusal
+  refuses : answer ≡ Refused why
+  at : why .line ≡ l
+
+refused-at : (answer : Answer) (k l : ℕ) → answerSaid answer ≡ fault k l → RefusedAt answer l
+refused-at BadN k l e = no-way (cc)
+refused-at BadLength k l e = no-way (cc)
+refused-at (Refused r) k l e = record { why = r; refuses = refl; at = cc }
+refused-at Accepted k l e = no-way (cc)
+
 pub no-inventor : (read : Reader) → InventsLine read → MeetsHex read → ⊥
-no-inventor read invents meets = by (meets .either [] Zero 1 image good size) (meets .either two-lines Zero 1 image good size)
-  where
-    image : List ℕ
-    image = replicate 512 0
+no-inventor read invents meets =
+    let first = refused-at _ 6 1 (meets [] Zero 1 image .breaks one-good size 6 1 empty-line) in
+    let second = refused-at _ 6 2 (meets two-lines Zero 1 image .breaks one-good size 6 2 second-line) in
+    let same = invents [] two-lines Zero 1 image (first .why) (second .why) (first .refuses) (second .refuses) in
+    omega (arith, first .at, second .at)
 
-    size : length image ≡ sectorSize * 1
-    size = length-replicate {A = ℕ} 512 0
+-- one of that kind
+names-line : (l : ℕ) (answer : Answer) (r : Refusal) → relined l answer ≡ Refused r → r .line ≡ l
+names-line l BadN r e = no-way (cc)
+names-line l BadLength r e = no-way (cc)
+names-line l (Refused x) r e = let f : record { kind = x .kind; line = l } ≡ r = cc in rw (sym f)
+names-line l Accepted r e = no-way (cc)
 
-    good : goodN 1 ≡ true
-    good = one-good
-
-    by : (read [] Zero 1 image .answer ≡ Accepted) ⊎ Refuses (read [] Zero 1 image .answer)
-        → (read two-lines Zero 1 image .answer ≡ Accepted) ⊎ Refuses (read two-lines Zero 1 image .answer) → ⊥
-    by (inl a) s = absurd (false≢true (sym not-over ∙ meets .over [] Zero 1 image a))
-    by (inr f) (inl a) = meets .sound two-lines Zero 1 image a 1 (omega (arith, two)) H6 line-2
-    by (inr f) (inr s) =
-        let one = empty-line (f .why) (meets .faulted [] Zero 1 image (f .why) (f .refused)) in
-        let twice = second-line (s .why) (meets .faulted two-lines Zero 1 image (s .why) (s .refused)) in
-        let a = invents .always [] Zero 1 image (f .why) (f .refused) in
-        let b = invents .always two-lines Zero 1 image (s .why) (s .refused) in
-        absurd (omega arith)
+pub invents-line : (names : Bank → ℕ → List ℕ → ℕ) → InventsLine (inventor names)
+invents-line names text other bank n image r s e f =
+    names-line (names bank n image) (textRead text bank n image .answer) r e
+    ∙ sym (names-line (names bank n image) (textRead other bank n image .answer) s f)

@@ -3,22 +3,18 @@
 -- reader reads, never number 6, and loses nothing of it: what it read, written out again, is the answer.
 -- Assumes nothing.
 use mathlib.Core.Path.{_≡_}
-use mathlib.Core.Logic.{_⊎_}
 use mathlib.Core.Bool.{true}
-use mathlib.Core.List.{List, [], _∷_}
-use Prim.Native.Nat.{ℕ, _+_, _-_, _*_, _^_, _≤_, _<_}
-use lib.ListN.{length, getD}
+use mathlib.Core.List.{List, _∷_}
+use Prim.Native.Nat.{ℕ, _*_, _^_, _<_}
+use lib.ListN.{length}
 use Rattle.buffer.specs.Number.{byteAt}
 use Rattle.layout.specs.declared.Bank.{Bank}
 use Rattle.layout.specs.Layout.{sectorSize, otherOf, startOf}
 use Rattle.layout.specs.Pair.{bankIn}
 use Rattle.lines.specs.Line.{lines}
 use Rattle.hex.specs.declared.read.Answer.the-variants.{Accepted}
-use Rattle.hex.specs.declared.record.Found.the-variants.{Data}
-use Rattle.hex.specs.Spell.{lineBytes}
-use Rattle.hex.specs.Meaning.{saysAt}
-use Rattle.hex.specs.Read.{atStart, textRead}
-use Rattle.hex.specs.Record.{recordData}
+use Rattle.hex.specs.Meaning.{Leaves}
+use Rattle.hex.specs.Read.{textRead}
 use Rattle.response.specs.Response.{responseOf}
 use Rattle.client.specs.Perform.{fitOf}
 use Rattle.demands.specs.Board.{Board, Call, Input, Datagram, said, Machine, after}
@@ -26,20 +22,6 @@ use Rattle.demands.specs.Demand2.{Ready, Delivery}
 use Rattle.demands.specs.Responses.{ReadBack}
 
 -- ---- the text's bytes at their addresses
-
--- line i says that so many bytes go to the addresses from `start` on
-abbrev pub Says : List ℕ → Bank → ℕ → ℕ → ℕ → ℕ → Type 0
-Says text bank n i start count = (i < length (lines text)) × (saysAt (startOf bank) (sectorSize * n) atStart (lines text) i ≡ Data start count)
-
--- and these are the bytes that its digits spell
-abbrev pub spelt : List ℕ → ℕ → ℕ → List ℕ
-spelt text i count = recordData count (lineBytes (getD (lines text) i []))
-
-pub record Holds (text : List ℕ) (bank : Bank) (n : ℕ) (bytes : List ℕ) : Type 0 where
-  pub there : (i start count : ℕ) → Says text bank n i start count → (j : ℕ) → j < count → getD bytes (start - startOf bank + j) 0 ≡ getD (spelt text i count) j 0
-  pub elsewhere : (a : ℕ) → a < sectorSize * n
-      → ((i start count : ℕ) → Says text bank n i start count → (startOf bank + a < start) ⊎ (start + count ≤ startOf bank + a))
-      → getD bytes a 0 ≡ 0xFF
 
 abbrev pub MeetsText : Machine → Type 0
 MeetsText m =
@@ -50,7 +32,7 @@ MeetsText m =
     textRead text target n before .answer ≡ Accepted → fitOf (b .client .fixed) image ≡ true
     → (start : Call) (ps : List ℕ) (is : List Input) (end : Call) → Delivery b image start ps is end
     → (let last : Board = m (after m b (Datagram start ∷ is)) (Datagram end) .board in
-    Holds text target n (bankIn target (last .pair))))
+    Leaves (startOf target) (sectorSize * n) (lines text) (length (lines text)) (bankIn target (last .pair))))
 
 -- ---- answers, read
 

@@ -1,52 +1,59 @@
 -- What is asked of a reader of hex text, whatever it is (01, 'Hex text'; 'What comes back when it is no', "then the H faults").
 -- Assumes nothing.
 use mathlib.Core.Path.{_≡_}
-use mathlib.Core.Logic.{_⊎_}
 use mathlib.Core.Bool.{true, false}
 use mathlib.Core.List.{List}
 use Prim.Native.Nat.{ℕ, _*_}
 use lib.ListN.{length, replicate}
 use Rattle.layout.specs.declared.Bank.{Bank}
 use Rattle.layout.specs.Layout.{sectorSize, goodN, startOf}
+use Rattle.layout.specs.Said.{number, fault, accepted}
 use Rattle.lines.specs.Line.{lines}
 use Rattle.hex.specs.declared.fault.Refusal.{Refusal}
 use Rattle.hex.specs.declared.read.Answer.{Answer}
 use Rattle.hex.specs.declared.read.Answer.the-variants.{BadN, BadLength, Refused, Accepted}
-use Rattle.hex.specs.Meaning.{stateAt, Faultless, Faulted}
-use Rattle.hex.specs.Read.{Reading, atStart}
-use Rattle.demands.specs.EndToEnd.{Holds}
+use Rattle.hex.specs.Meaning.{KeepsAll, FirstBroken, Leaves}
+use Rattle.hex.specs.Read.{Reading, answerSaid, textRead}
 
 -- text, bank, N, image
 abbrev pub Reader : Type 0
 Reader = List ℕ → Bank → ℕ → List ℕ → Reading
 
-pub record Refuses (answer : Answer) : Type 0 where
-  pub why : Refusal
-  pub refused : answer ≡ Refused why
-
-pub record MeetsHex (read : Reader) : Type 0 where
+-- what comes of a text is said in 01's numbers, and leaves an image
+pub record ReadRight (text : List ℕ) (bank : Bank) (n : ℕ) (image : List ℕ) (r : Reading) : Type 0 where
   -- 3, then 2, and the image stays
-  pub bad-n : (text : List ℕ) (bank : Bank) (n : ℕ) (image : List ℕ) → goodN n ≡ false → read text bank n image ≡ record { answer = BadN; image = image }
-  pub bad-length : (text : List ℕ) (bank : Bank) (n : ℕ) (image : List ℕ) → goodN n ≡ true → (length image ≡ sectorSize * n → ⊥)
-      → read text bank n image ≡ record { answer = BadLength; image = image }
-  -- else the text is accepted or refused
-  pub either : (text : List ℕ) (bank : Bank) (n : ℕ) (image : List ℕ) → goodN n ≡ true → length image ≡ sectorSize * n
-      → (read text bank n image .answer ≡ Accepted) ⊎ Refuses (read text bank n image .answer)
-  -- the first line with a fault is told, "counted from 1", and the image is all 0xFF
-  pub faulted : (text : List ℕ) (bank : Bank) (n : ℕ) (image : List ℕ) (r : Refusal) → read text bank n image .answer ≡ Refused r
-      → Faulted (startOf bank) (sectorSize * n) atStart 1 (lines text) r
-  pub erased : (text : List ℕ) (bank : Bank) (n : ℕ) (image : List ℕ) (r : Refusal) → read text bank n image .answer ≡ Refused r
-      → read text bank n image .image ≡ replicate (length image) 0xFF
-  -- an accepted text has no fault and an end record; its bytes are there, and 0xFF elsewhere
-  pub sound : (text : List ℕ) (bank : Bank) (n : ℕ) (image : List ℕ) → read text bank n image .answer ≡ Accepted
-      → Faultless (startOf bank) (sectorSize * n) atStart (lines text) (length (lines text))
-  pub over : (text : List ℕ) (bank : Bank) (n : ℕ) (image : List ℕ) → read text bank n image .answer ≡ Accepted
-      → stateAt (startOf bank) (sectorSize * n) atStart (lines text) (length (lines text)) .over ≡ true
-  pub holds : (text : List ℕ) (bank : Bank) (n : ℕ) (image : List ℕ) → read text bank n image .answer ≡ Accepted → Holds text bank n (read text bank n image .image)
+  pub bad-n : goodN n ≡ false → answerSaid (r .answer) ≡ number 3
+  pub bad-length : goodN n ≡ true → (length image ≡ sectorSize * n → ⊥) → answerSaid (r .answer) ≡ number 2
+  pub stays : (m : ℕ) → answerSaid (r .answer) ≡ number m → r .image ≡ image
+  -- a text that keeps every rule is accepted, and no other; its bytes are there, and 0xFF elsewhere
+  pub keeps : goodN n ≡ true → length image ≡ sectorSize * n → KeepsAll (startOf bank) (sectorSize * n) (lines text)
+      → answerSaid (r .answer) ≡ accepted
+  pub kept : answerSaid (r .answer) ≡ accepted → KeepsAll (startOf bank) (sectorSize * n) (lines text)
+  pub leaves : answerSaid (r .answer) ≡ accepted → Leaves (startOf bank) (sectorSize * n) (lines text) (length (lines text)) (r .image)
+  -- any other is refused by its first broken rule at its first line that breaks one, and for that alone; the image is all 0xFF
+  pub breaks : goodN n ≡ true → length image ≡ sectorSize * n → (k l : ℕ) → FirstBroken (startOf bank) (sectorSize * n) (lines text) k l
+      → answerSaid (r .answer) ≡ fault k l
+  pub broken : (k l : ℕ) → answerSaid (r .answer) ≡ fault k l → FirstBroken (startOf bank) (sectorSize * n) (lines text) k l
+  pub erased : (k l : ℕ) → answerSaid (r .answer) ≡ fault k l → r .image ≡ replicate (length image) 0xFF
   -- the image keeps its length
-  pub size : (text : List ℕ) (bank : Bank) (n : ℕ) (image : List ℕ) → length (read text bank n image .image) ≡ length image
+  pub sized : length (r .image) ≡ length image
 
--- one that invents the line: whatever the text, it names the same
-pub record InventsLine (read : Reader) : Type 0 where
-  pub line : ℕ
-  pub always : (text : List ℕ) (bank : Bank) (n : ℕ) (image : List ℕ) (r : Refusal) → read text bank n image .answer ≡ Refused r → r .line ≡ line
+abbrev pub MeetsHex : Reader → Type 0
+MeetsHex read = (text : List ℕ) (bank : Bank) (n : ℕ) (image : List ℕ) → ReadRight text bank n image (read text bank n image)
+
+-- one that invents the line: of any two texts that it refuses for the same bank, N and image it names the same
+abbrev pub InventsLine : Reader → Type 0
+InventsLine read =
+    (text other : List ℕ) (bank : Bank) (n : ℕ) (image : List ℕ) (r s : Refusal)
+    → read text bank n image .answer ≡ Refused r → read other bank n image .answer ≡ Refused s → r .line ≡ s .line
+
+-- one of that kind: it answers as the definition does, and the line that it names comes from bank, N and image alone
+abbrev pub relined : ℕ → Answer → Answer
+relined l BadN = BadN
+relined l BadLength = BadLength
+relined l (Refused r) = Refused (record { kind = r .kind; line = l })
+relined l Accepted = Accepted
+
+abbrev pub inventor : (Bank → ℕ → List ℕ → ℕ) → Reader
+inventor names text bank n image =
+    record { answer = relined (names bank n image) (textRead text bank n image .answer); image = textRead text bank n image .image }

@@ -6,7 +6,7 @@ use mathlib.Core.Bool.{Bool, true, false, _&&_}
 use Prim.Native.Nat.{ℕ, _+_, _*_, _/_, _%_, _<_, _≤_}
 use native.Mathlib.Omega.{arith}
 use lib.Dec.{eqb, leb}
-use lib.ListN.{length, getD, take, drop, length-take, length-drop}
+use lib.ListN.{length, take, length-take, length-drop}
 use lib.Seq.{sets}
 use borrow.Author.Tests.{eq-eqb, ne-eqb, eqb-true, eqb-false, leb-true}
 use Rattle.buffer.proofs.Bools.{and-left, and-right, not-so, split, no-way}
@@ -18,9 +18,9 @@ use Rattle.hex.specs.declared.record.State.{State}
 use Rattle.hex.specs.declared.record.Found.{Found}
 use Rattle.hex.specs.declared.record.Found.the-variants.{Fault, Data, Upper, End, Other}
 use Rattle.hex.specs.Spell.{lineBytes}
-use Rattle.hex.specs.Record.{Spelled, Whole, Broken, recordCount, recordAddress, recordType, recordData, recordOf, total, inBank, dataAt, typed, says, foundOf}
-use Rattle.hex.specs.Meaning.{spells, lineCount, IsRecord}
-use Rattle.hex.specs.Places.{sumOf, Summed, Looked}
+use Rattle.hex.specs.Record.{Spelled, Whole, Broken, recordCount, recordAddress, recordType, recordUpper, recordData, recordOf, total, inBank, dataAt, typed, says, foundOf}
+use Rattle.hex.specs.Meaning.{IsRecord}
+use Rattle.hex.specs.Places.{Summed, Looked}
 use Rattle.hex.proofs.Records.{whole-record, record-whole, record-half, record-length, byte-is, byte-small, sum-some, sum-record, front-is, front-data}
 
 -- BY THE STATE, THE RECORD AND ITS SUM
@@ -56,11 +56,16 @@ module _ (base size : ℕ) (s : State) (line : List ℕ) where
 not-both : (a b c d : ℕ) → (a ≡ b → c ≡ d → ⊥) → (eqb a b && eqb c d) ≡ false
 not-both a b c d h = not-so _ (λ e. h (eqb-true a b (and-left (eqb a b) (eqb c d) e)) (eqb-true c d (and-right (eqb a b) (eqb c d) e)))
 
--- a record's type, case by case
-module _ (base size upper last : ℕ) (r : List ℕ) (counted : recordCount r + 5 ≤ length r) {a : ℕ} (read : a ≡ numberAt 2 r 1) where
-  ea : a ≡ recordAddress r
-  ea = read ∙ number-two r 1 (omega arith)
+-- the fields of two bytes, as they are read
+module _ (r : List ℕ) (counted : recordCount r + 5 ≤ length r) where
+  pub address-read : {a : ℕ} → a ≡ numberAt 2 r 1 → a ≡ recordAddress r
+  address-read e = e ∙ number-two r 1 (omega arith)
 
+  pub upper-read : {u : ℕ} → recordCount r ≡ 2 → u ≡ numberAt 2 r 4 → u ≡ recordUpper r
+  upper-read f e = e ∙ number-two r 4 (omega arith)
+
+-- a record's type, case by case
+module _ (base size upper last : ℕ) (r : List ℕ) {a : ℕ} (ea : a ≡ recordAddress r) where
   pub typed-data : recordType r ≡ 0 → typed base size upper last r ≡ dataAt base size last (upper * 65536 + a) (recordCount r)
   unfolding typed
   typed-data z = simp (eq-eqb (recordType r) 0 z, ea)
@@ -81,7 +86,7 @@ module _ (base size upper last : ℕ) (r : List ℕ) (counted : recordCount r + 
             eq-eqb (recordCount r) 0 f,
           )
 
-      pub typed-upper : {u : ℕ} → u ≡ numberAt 2 r 4 → recordType r ≡ 4 → recordCount r ≡ 2 → typed base size upper last r ≡ Upper u
+      pub typed-upper : {u : ℕ} → u ≡ recordUpper r → recordType r ≡ 4 → recordCount r ≡ 2 → typed base size upper last r ≡ Upper u
       unfolding typed
       typed-upper high e f =
           simp (
@@ -90,7 +95,7 @@ module _ (base size upper last : ℕ) (r : List ℕ) (counted : recordCount r + 
             not-both (recordType r) 1 (recordCount r) 0 (λ x y. omega arith),
             eq-eqb (recordType r) 4 e,
             eq-eqb (recordCount r) 2 f,
-            high ∙ number-two r 4 (omega arith),
+            high,
           )
 
       pub typed-other : recordType r ≡ 5 → recordCount r ≡ 4 → typed base size upper last r ≡ Other
@@ -118,7 +123,7 @@ module _ (base size upper last : ℕ) (r : List ℕ) (counted : recordCount r + 
             not-both (recordType r) 5 (recordCount r) 4 z,
           )
 
-in-bank : (base size start n : ℕ) → inBank base size start n ≡ true → (base ≤ start) × (start + n ≤ base + size)
+pub in-bank : (base size start n : ℕ) → inBank base size start n ≡ true → (base ≤ start) × (start + n ≤ base + size)
 unfolding inBank
 in-bank base size start n e =
     let low = and-left (leb base start) (leb (start + n) (base + size)) e in
@@ -137,7 +142,7 @@ module _ (P : Found → Type 0) (faulty : (k : Kind) → P (Fault k)) (other : P
       (λ y. faulty H4))
 
   typed-by :
-      (upper : ℕ) (r : List ℕ) → P End → P (Upper (getD r 4 0 * 256 + getD r 5 0))
+      (upper : ℕ) (r : List ℕ) → P End → P (Upper (recordUpper r))
       → ((start : ℕ) → base ≤ start → start + recordCount r ≤ base + size → last ≤ start → P (Data start (recordCount r)))
       → P (typed base size upper last r)
   unfolding typed

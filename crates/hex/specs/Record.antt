@@ -34,6 +34,10 @@ recordAddress r = getD r 1 0 * 256 + getD r 2 0
 abbrev pub recordType : List ℕ → ℕ
 recordType r = getD r 3 0
 
+-- the upper half that the data of a type 04 record are
+abbrev pub recordUpper : List ℕ → ℕ
+recordUpper r = getD r 4 0 * 256 + getD r 5 0
+
 abbrev pub recordData : ℕ → List ℕ → List ℕ
 recordData n r = take n (drop 4 r)
 
@@ -74,7 +78,7 @@ typed base size upper last r =
     cond (eqb (recordType r) 0) (dataAt base size last (upper * 65536 + recordAddress r) (recordCount r))
     (cond (eqb (recordAddress r) 0)
     (cond (eqb (recordType r) 1 && eqb (recordCount r) 0) End
-    (cond (eqb (recordType r) 4 && eqb (recordCount r) 2) (Upper (getD r 4 0 * 256 + getD r 5 0))
+    (cond (eqb (recordType r) 4 && eqb (recordCount r) 2) (Upper (recordUpper r))
     (cond (eqb (recordType r) 5 && eqb (recordCount r) 4) Other (Fault H3))))
     (Fault H3))
 

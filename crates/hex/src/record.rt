@@ -88,24 +88,24 @@ fn record_sum(line: &[u8], bytes: &mut [u8]) -> usize
     sum
 }
 
-// `n` data bytes from `start` on: inside the bank, and not below the end of earlier data.
-fn data_at(base: usize, size: usize, last: usize, start: usize, n: usize) -> Found
-    requires { ⌜ (base + size < 8589934592) × (start + n < 8589934592) ⌝ }
-    ensures { λ r. ⌜ r ≡ dataAt base size last start n ⌝ }
+// `count` data bytes from `start` on: inside the bank, and not below the end of earlier data.
+fn data_at(base: usize, size: usize, last: usize, start: usize, count: usize) -> Found
+    requires { ⌜ (base + size < 8589934592) × (start + count < 8589934592) ⌝ }
+    ensures { λ r. ⌜ r ≡ dataAt base size last start count ⌝ }
 {
-    if n == 0 {
+    if count == 0 {
         return Found::Other;
     }
     if start < base {
         return Found::Fault(Kind::H4);
     }
-    if base + size < start + n {
+    if base + size < start + count {
         return Found::Fault(Kind::H4);
     }
     if start < last {
         return Found::Fault(Kind::H5);
     }
-    Found::Data { start, n }
+    Found::Data { start, n: count }
 }
 
 // What a record of these bytes says.

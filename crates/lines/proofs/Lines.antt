@@ -22,11 +22,15 @@ lf-here t i h = rw (drop-cons t i 0 h)
 pub lf-past : (t : List ℕ) (i : ℕ) → length t ≤ i → lfNext (drop i t) ≡ false
 lf-past t i h = rw (drop-of-length-le t {i = i} h)
 
-pub end-here : (t : List ℕ) (i : ℕ) → i < length t → endLen (drop i t) ≡ cond (eqb (getD t i 0) 0x0A) 1 (cond (eqb (getD t i 0) 0x0D && lfNext (drop (i + 1) t)) 2 0)
+pub end-here :
+    (t : List ℕ) (i : ℕ) → i < length t
+    → endLen (drop i t) ≡ cond (eqb (getD t i 0) 0x0A) 1 (cond (eqb (getD t i 0) 0x0D && lfNext (drop (i + 1) t)) 2 0)
 unfolding endLen
 end-here t i h = rw (add-one, drop-cons t i 0 h)
 
-pub line-stops : (t : List ℕ) (i : ℕ) → i < length t → (endLen (drop i t) ≡ 0 → ⊥) → (lineLen (drop i t) ≡ 0) × (lineAll (drop i t) ≡ endLen (drop i t))
+pub line-stops :
+    (t : List ℕ) (i : ℕ) → i < length t → (endLen (drop i t) ≡ 0 → ⊥)
+    → (lineLen (drop i t) ≡ 0) × (lineAll (drop i t) ≡ endLen (drop i t))
 unfolding lineLen lineAll
 line-stops t i h n = rw (drop-cons t i 0 h) (simp (ne-eqb _ _ (rw (drop-cons t i 0 h) at n)) (refl, refl))
 
@@ -109,7 +113,9 @@ lines-first c [] = first-cases c [] _ _ refl refl (first-none c)
 lines-first c (d ∷ t) = first-cases c (d ∷ t) _ _ refl refl (rw (lines-first d t))
 
 -- the lines of what is left of a text from `at` on
-lines-at : (t : List ℕ) (at : ℕ) → at < length t → lines (drop at t) ≡ take (lineLen (drop at t)) (drop at t) ∷ lines (drop (lineAll (drop at t)) (drop at t))
+lines-at :
+    (t : List ℕ) (at : ℕ) → at < length t
+    → lines (drop at t) ≡ take (lineLen (drop at t)) (drop at t) ∷ lines (drop (lineAll (drop at t)) (drop at t))
 lines-at t at h = rw (drop-cons t at 0 h) (lines-first (getD t at 0) (drop (suc at) t))
 
 pub lines-none : (t : List ℕ) (at : ℕ) → length t ≤ at → lines (drop at t) ≡ []

@@ -1,11 +1,16 @@
 -- `hex_c::hex_read` meets its contract: by the reader's answer.
 -- Assumes nothing.
-use mathlib.Core.Path.{sym, ap, _∙_}
-use Rattle.layout.specs.Said.{code}
+use mathlib.Core.Path.{_≡_, sym, ap, _∙_}
+use Rattle.layout.specs.Said.{Said, code}
+use Rattle.hex.specs.declared.read.Answer.{Answer}
 use Rattle.hex.specs.Read.{answerSaid}
 use borrow.Author.Needs.{needs}
 use Rattle.hex_c.proofs.hex_read.Statement.{statement}
 use Rattle.hex_c.proofs.hex_read.Tie as tie
+
+-- an answer that is known, told in C's numbers
+told : {r a : Answer} {s : Said} → r ≡ a → answerSaid r ≡ s → code (answerSaid a) ≡ code s
+told e f = ap code (ap answerSaid (sym e) ∙ f)
 
 read-requires : tie.Need-read-requires
 read-requires c κs = search needs
@@ -30,32 +35,32 @@ same-length c = search needs
 
 returns : tie.Need-returns
 returns c =
-    let e = (c .before .before .before .before .read .ensures) in
-    record { told = ap code (ap answerSaid (sym (c .enum-told .given .1)) ∙ e .said); image = e .image }
+    let e = c .before .before .before .before .read .ensures in
+    record { told = told (c .enum-told .given .1) (e .said); image = e .image }
 
 same-length-2 : tie.Need-same-length-2
 same-length-2 c = search needs
 
 returns-2 : tie.Need-returns-2
 returns-2 c =
-    let e = (c .before .before .before .before .read .ensures) in
-    record { told = ap code (ap answerSaid (sym (c .enum-told2 .given .1)) ∙ e .said); image = e .image }
+    let e = c .before .before .before .before .read .ensures in
+    record { told = told (c .enum-told2 .given .1) (e .said); image = e .image }
 
 same-length-3 : tie.Need-same-length-3
 same-length-3 c = search needs
 
 returns-3 : tie.Need-returns-3
 returns-3 c =
-    let e = (c .before .before .before .before .before .before .read .ensures) in
-    record { told = (c .code-of .ensures) ∙ ap code (ap answerSaid (sym (c .before .before .answer .given .1)) ∙ e .said); image = e .image }
+    let e = c .before .before .before .before .before .before .read .ensures in
+    record { told = (c .code-of .ensures) ∙ told (c .before .before .answer .given .1) (e .said); image = e .image }
 
 same-length-4 : tie.Need-same-length-4
 same-length-4 c = search needs
 
 returns-4 : tie.Need-returns-4
 returns-4 c =
-    let e = (c .before .before .before .before .read .ensures) in
-    record { told = ap code (ap answerSaid (sym (c .enum-told3 .given .1)) ∙ e .said); image = e .image }
+    let e = c .before .before .before .before .read .ensures in
+    record { told = told (c .enum-told3 .given .1) (e .said); image = e .image }
 
 pub hex-read-spec : {M : Type 1} → statement M
 hex-read-spec =

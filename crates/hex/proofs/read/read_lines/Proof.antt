@@ -88,11 +88,16 @@ same-length-2 c = search needs
 
 returns-2 : tie.Need-returns-2 Inv-loop μ-loop
 returns-2 c =
-    let a = (c .before .before .before .before .before .before .before .before .before .before .before .before .before .before .before .args) in
-    let l = (c .before .before .before .before .before .before .before .before .before .before .before .before .loop) in
+    let c5 = c .before .before .before .before .before in
+    let c9 = c5 .before .before .before .before in
+    let c11 = c9 .before .before in
+    let c12 = c11 .before in
+    let c15 = c12 .before .before .before in
+    let a = c15 .args in
+    let l = c12 .loop in
     let v = l .inv in
-    let k = (c .before .before .before .before .before .take-line .ensures) in
-    let m = ahead-line (a .text .now) (l .at) _ (sym (c .before .before .before .before .before .before .before .before .before .before .before .ahead-of .ensures) ∙ (c .before .before .before .before .before .before .before .before .before .found .given .1)) in
+    let k = c5 .take-line .ensures in
+    let m = ahead-line (a .text .now) (l .at) _ (sym (c11 .ahead-of .ensures) ∙ (c9 .found .given .1)) in
     let here = lines-here (a .text .now) (l .at) _ _ (m .0) (m .1) in
     let e = rw (v .2) at (sym (k .is) ∙ (c .before .step .given .1)) in
     read-stop (a .base) (length (a .image .now)) (l .state) (l .line) (l .image) here _ e (v .4) (rw (v .2) at (k .image))
