@@ -1,5 +1,6 @@
 pub mod Banks
 pub mod Board
+pub mod Contracts
 pub mod Counting
 pub mod Demand1
 pub mod Demand2
