@@ -39,7 +39,8 @@ module _ (b : Board) (call : Call) {r : Stepped} where
         buffer = sym (p .said) k;
       }
 
-  take-outcome : {after answered : List ℕ} → length (bankIn (b .client .fixed .running) (lentOf (call .lent) (b .pair))) ≡ bankSize (b .client .fixed .n)
+  take-outcome : {after answered : List ℕ}
+      → length (bankIn (b .client .fixed .running) (lentOf (call .lent) (b .pair))) ≡ bankSize (b .client .fixed .n)
       → TakeAllows b call r after answered
       → stepMachine b (Datagram call) ≡ callOutcome b call (takeBack r after answered)
   take-outcome e p =

@@ -13,6 +13,7 @@ pub mod FirstOnly
 pub mod Fresh
 pub mod Latest
 pub mod Lending
+pub mod New
 pub mod Packets
 pub mod Reading
 pub mod Requests

@@ -9,6 +9,7 @@ pub mod Determined
 pub mod EndToEnd
 pub mod Examples
 pub mod Fresh
+pub mod New
 pub mod Packets
 pub mod Requests
 pub mod Responses
