@@ -28,7 +28,8 @@ use Rattle.demands.specs.Demand3.{AlikeBytes, same as same-bytes, either
 use Rattle.demands.proofs.Bytes.{written-begin, written-end, written-stored}
 use Rattle.demands.proofs.Lending.{front-alike, lent-in}
 use Rattle.demands.proofs.Sessions.{Shows, said-is, lent-shows, step-shows, step-closes}
-use Rattle.demands.proofs.Steps.{machine-stays, lengths-kept, run-stays, run-running}
+use Rattle.demands.proofs.Demand1.{demand1}
+use Rattle.demands.proofs.Steps.{machine-stays, lengths-kept, run-stays}
 
 -- ---- two answers that match
 
@@ -216,8 +217,8 @@ demand3 a b p is =
     let u = run-twins n is a b (allBlank n) refl t in
     record {
       alike = run-alike is a b (allBlank n) t;
-      first-kept = run-running is a;
-      second-kept = run-running is b;
+      first-kept = demand1 .kept a is;
+      second-kept = demand1 .kept b is;
       ended = λ i e.
           let f = sym (twins-step _ _ _ i u .end-alike) ∙ e in
           let na : after stepMachine a is .client .fixed .n ≡ n = ap (λ (f : Fixed). f .n) (run-stays is a) in

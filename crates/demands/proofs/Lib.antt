@@ -2,6 +2,7 @@ pub mod Acknowledging
 pub mod Asking
 pub mod Banks
 pub mod Bytes
+pub mod Contracts
 pub mod Counting
 pub mod Demand1
 pub mod Demand2
@@ -12,6 +13,7 @@ pub mod FirstOnly
 pub mod Fresh
 pub mod Latest
 pub mod Lending
+pub mod New
 pub mod Packets
 pub mod Reading
 pub mod Requests

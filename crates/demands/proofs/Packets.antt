@@ -22,7 +22,7 @@ use Rattle.sender.specs.Made.{room, bufferAfter}
 use Rattle.sender.specs.Packet.{packetCount, packetSector, footerOf, packetFrame, imageGood, packetMade}
 use Rattle.sender.proofs.Image.{packet-read, packet-data}
 use Rattle.sender.proofs.Packets.{Sent, sent-in, sector-length}
-use Rattle.demands.specs.Packets.{Made·Out, Maker, Packet, MeetsPackets, packetMaker, InventsNumber}
+use Rattle.demands.specs.Packets.{Made·Out, Maker, Packet, MeetsPackets, packetMaker, InventsNumber, firstMaker}
 use Rattle.demands.proofs.Witness.{image, image-size, two-packets, two-good, sectors-are}
 
 module _ (img : List ℕ) (n p : ℕ) (before : List ℕ) (g : goodN n ≡ true) (l : (imageGood img n && leb room (length before)) ≡ true) where
@@ -73,7 +73,10 @@ packets-meet =
       packet = λ img n p before g l h. is-packet img n p before g l h;
     }
 
--- ---- shut out: one that does not look at the number that is asked for
+-- ---- shut out: one that makes the same packet for each number
+
+pub one-inventor : InventsNumber firstMaker
+one-inventor img n p q before h k = rw (lt-ltb p (packetCount img n) h, lt-ltb q (packetCount img n) k)
 
 frame-size : (s t : ℕ) → Frame s ≡ Frame t → s ≡ t
 frame-size s t e = ap sizeOf e
@@ -97,7 +100,7 @@ no-inventor s invents meets =
     and-both (imageGood image 2) (leb room (length before)) (eq-eqb (length image) 1024 image-size) (le-leb 519 (length before) (omega (arith, length-replicate {A = ℕ} 519 0))) in
     let zero = meets .packet image 2 0 before two-good l (omega (arith, two-packets)) in
     let one = meets .packet image 2 1 before two-good l (omega (arith, two-packets)) in
-    let same = invents image 2 0 1 before in
+    let same = invents image 2 0 1 before (omega (arith, two-packets)) (omega (arith, two-packets)) in
     let size : zero .size ≡ one .size = frame-size _ _ (sym (zero .made) ∙ ap (λ (o : Made·Out). o .answer) same ∙ one .made) in
     let e : packetSector image 2 0 ≡ packetSector image 2 1 =
     ap sectorIn (sym (zero .reads) ∙ ap₂ (λ (k : ℕ) (o : Made·Out). readOf (take k (o .buffer))) size same ∙ one .reads) in

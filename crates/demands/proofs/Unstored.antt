@@ -1,33 +1,35 @@
--- What demand 3 shuts out, from the demand alone: a machine that answers as the client does and stores nothing.
+-- What demand 3 shuts out, from the demand alone: every machine that stores nothing and says that it does. One of them answers as the client does.
 -- Assumes nothing.
-use mathlib.Core.Path.{_≡_, refl, sym, ap, _∙_}
+use mathlib.Core.Path.{_≡_, refl, sym, ap, ap₂, _∙_}
 use mathlib.Core.Bool.{Bool, true, false}
 use mathlib.Core.List.{List, [], _∷_}
 use Prim.Native.Nat.{ℕ, _≤_}
 use native.Mathlib.Omega.{arith}
-use lib.ListN.{length, getD, take, replicate, length-replicate}
+use lib.ListN.{length, getD, take, replicate, length-replicate, getD-replicate}
+use lib.Seq.{getD-take}
 use Rattle.frame.specs.Frame.{framed, controlFrame}
 use Rattle.frame.specs.declared.read.Read.the-variants.{Control}
 use Rattle.layout.specs.declared.Bank.{Bank}
 use Rattle.layout.specs.declared.Bank.the-variants.{Zero, One}
-use Rattle.layout.specs.Layout.{goodN, otherOf}
-use Rattle.layout.specs.Pair.{banks, bankIn}
+use Rattle.layout.specs.Layout.{goodN, bankSize, otherOf}
+use Rattle.layout.specs.Pair.{Banks, banks, bankIn}
 use Rattle.sender.specs.declared.request.Request.the-variants.{WriteStart, WriteEnd}
 use Rattle.sender.specs.Request.{requestFrame}
 use Rattle.exchange.specs.declared.state.State.the-variants as state
+use Rattle.decision.specs.declared.plan.Fixed.{Fixed}
 use Rattle.client.specs.Notice.{noNotice}
 use Rattle.client.specs.Perform.{fitOf}
 use Rattle.client.specs.Host.{fixedOf}
 use Rattle.client.specs.Record.{closedClient, inState, starting, begun}
 use Rattle.calls.proofs.Courses.{not-write}
-use Rattle.demands.specs.Board.{Board, board, Call, Input, Datagram, Outcome, said, after, stepMachine}
+use Rattle.demands.specs.Board.{Board, board, Call, Input, Datagram, Outcome, said, Machine, after, targetBank, sectorsIn, stepMachine}
 use Rattle.demands.specs.Demand1.{changed, sweptTarget}
 use Rattle.demands.specs.Demand2.{Lends, Ready}
-use Rattle.demands.specs.Demand3.{imageOf, Meets3}
-use Rattle.demands.specs.Session.{isEnd, allBlank, exchanged}
-use Rattle.demands.specs.ShutOut.{unstored, storesNothing}
+use Rattle.demands.specs.Demand3.{Meets3}
+use Rattle.demands.specs.Session.{isBegin, isEnd, allBlank}
+use Rattle.demands.specs.ShutOut.{StoresNothing, unstored, storesNothing}
 use Rattle.demands.proofs.Asking.{request-read}
-use Rattle.demands.proofs.Demand2.{heard, no-mark, said-back, control-short, begins-blank, begun-is, begun-said}
+use Rattle.demands.proofs.Demand2.{heard, no-mark, said-back, control-short, begun-is, begun-said}
 use Rattle.demands.proofs.Rows.{Heard, write-end, write-end-unsound}
 
 -- one sector, and zeros in both banks
@@ -92,20 +94,40 @@ end-said = by (fitOf (in-session .client .fixed) (sweptTarget in-session ends-sm
         ap (λ (o : Outcome). isEnd (said o)) (write-end-unsound in-session ends-small end-heard refl (request-read WriteEnd) (no-mark 1) t)
         ∙ ap isEnd (said-back ends-small (controlFrame 0x75 (0x1E ∷ [])) (control-short 0x75 0x1E) room)
 
--- whichever of two alike banks
-alike-banks : (x : Bank) (l : List ℕ) → bankIn (otherOf x) (banks l l) ≡ l
-alike-banks Zero l = refl
-alike-banks One l = refl
-
-pub no-store : Meets3 storesNothing → ⊥
+session-next : storesNothing zeros (Datagram begins-small) .board ≡ in-session
 unfolding zeros
-no-store meets =
-    let i : Input = Datagram begins-small in
-    let next : after storesNothing zeros (i ∷ []) ≡ in-session = ap (λ (o : Outcome). unstored zeros o .board) session-begun in
-    let e : isEnd (said (storesNothing (after storesNothing zeros (i ∷ [])) (Datagram ends-small))) ≡ true =
-    ap (λ (b : Board). isEnd (said (stepMachine b (Datagram ends-small)))) next ∙ end-said in
-    let d = meets zeros zeros (record { client = refl; lengths = λ x. refl; resting = λ s. not-write state.Control refl s }) (i ∷ []) .ended (Datagram ends-small) e in
-    let shown-blank : imageOf storesNothing zeros (i ∷ []) ≡ allBlank 1 =
-    ap (exchanged 1 (allBlank 1) (begins-small .datagram)) begun-said-small ∙ begins-blank 1 (allBlank 1) (begins-small .datagram) in
-    let kept : take 512 (replicate 512 0) ≡ allBlank 1 = sym (ap (take 512) (alike-banks (stepMachine (after storesNothing zeros (i ∷ [])) (Datagram ends-small) .board .client .fixed .running) (replicate 512 0))) ∙ d .first ∙ shown-blank in
-    absurd (omega (arith, ap (λ (l : List ℕ). getD l 0 0) kept))
+session-next = ap (λ (o : Outcome). unstored zeros o .board) session-begun
+
+-- it is one of them
+pub one-keeper : StoresNothing storesNothing
+unfolding zeros controlFrame framed
+one-keeper =
+    record {
+      never = λ b i. refl;
+      at = zeros;
+      resting = λ s. not-write state.Control refl s;
+      place = 0;
+      low = omega arith;
+      byte = λ e. absurd (omega (arith, e));
+      start = begins-small;
+      end = ends-small;
+      begins = ap isBegin begun-said-small;
+      ends = ap (λ (b : Board). isEnd (said (stepMachine b (Datagram ends-small)))) session-next ∙ end-said;
+    }
+
+pub no-store : (m : Machine) → StoresNothing m → Meets3 m → ⊥
+no-store m s meets =
+    let n : ℕ = s .at .client .fixed .n in
+    let is : List Input = Datagram (s .start) ∷ [] in
+    let last : Board = m (after m (s .at) is) (Datagram (s .end)) .board in
+    let same = meets (s .at) (s .at) (record { client = refl; lengths = λ x. refl; resting = s .resting }) in
+    let image : sectorsIn n last ≡ allBlank n = same is .ended (Datagram (s .end)) (s .ends) .first ∙ rw (s .begins) in
+    let pair : last .pair ≡ s .at .pair = s .never _ _ ∙ s .never _ _ in
+    let stays = same (Datagram (s .start) ∷ Datagram (s .end) ∷ []) .first-kept .client in
+    let target : targetBank last ≡ targetBank (s .at) =
+    ap₂ (λ (f : Fixed) (p : Banks). bankIn (otherOf (f .running)) p) stays pair in
+    s .byte
+    (sym (getD-take (bankSize n) (targetBank (s .at)) (s .place) 0xFF (s .low))
+    ∙ ap (λ (l : List ℕ). getD (take (bankSize n) l) (s .place) 0xFF) (sym target)
+    ∙ ap (λ (l : List ℕ). getD l (s .place) 0xFF) image
+    ∙ getD-replicate (bankSize n) (s .place) 0xFF 0xFF (s .low))

@@ -1,6 +1,6 @@
 -- Demand 3. What a board held before cannot be told from its answers, and does not come back: two boards that differ in what their banks
 -- hold are put to the same inputs, whatever these are. They answer alike, byte for byte, but that one may say 06 and the other 1D (the sector
--- already was so), with the checksum to match. Their notices and records are the same, and the bank that runs keeps its bytes. When a write
+-- already was so), with the checksum to match. Their notices and records are the same; which bank runs, and its bytes, stay. When a write
 -- session ends with 06 or 1E, both target banks are what the session showed: each sector as last accepted, 0xFF elsewhere.
 -- Assumes nothing.
 use mathlib.Core.Path.{_≡_}
@@ -15,7 +15,8 @@ use Rattle.layout.specs.Pair.{bankIn}
 use Rattle.exchange.specs.declared.state.State.the-variants as state
 use Rattle.exchange.specs.Answer.{writtenBytes}
 use Rattle.client.specs.Perform.{Accepted}
-use Rattle.demands.specs.Board.{Board, Input, Outcome, said, Machine, after, outcomes, runningBank, sectorsIn}
+use Rattle.demands.specs.Board.{Board, Input, Outcome, said, Machine, after, outcomes, sectorsIn}
+use Rattle.demands.specs.Demand1.{Kept}
 use Rattle.demands.specs.Session.{isEnd, allBlank, shown}
 
 -- two buffers: the same, or each with a write response at its front that differs from the other in 06 or 1D and in the checksum
@@ -48,8 +49,8 @@ pub record Ended (m : Machine) (a b : Board) (is : List Input) (i : Input) : Typ
 
 pub record Same (m : Machine) (a b : Board) (is : List Input) : Type 0 where
   pub alike : AllAlike (outcomes m a is) (outcomes m b is)
-  pub first-kept : runningBank (after m a is) ≡ runningBank a
-  pub second-kept : runningBank (after m b is) ≡ runningBank b
+  pub first-kept : Kept a (after m a is)
+  pub second-kept : Kept b (after m b is)
   pub ended : (i : Input) → isEnd (said (m (after m a is) i)) ≡ true → Ended m a b is i
 
 -- the premises: the same record ("two boards"), banks of the same lengths, no session under way. Nothing is asked of N or of what the banks hold

@@ -1,5 +1,6 @@
 pub mod Banks
 pub mod Board
+pub mod Contracts
 pub mod Counting
 pub mod Demand1
 pub mod Demand2
@@ -8,6 +9,7 @@ pub mod Determined
 pub mod EndToEnd
 pub mod Examples
 pub mod Fresh
+pub mod New
 pub mod Packets
 pub mod Requests
 pub mod Responses

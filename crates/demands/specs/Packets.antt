@@ -2,10 +2,10 @@
 -- "Sender: 3, 2, 5"). A packet is judged by what its bytes say when they are read as a frame.
 -- Assumes nothing.
 use mathlib.Core.Path.{_≡_}
-use mathlib.Core.Bool.{true, false, _&&_}
+use mathlib.Core.Bool.{true, false, _&&_, cond}
 use mathlib.Core.List.{List}
 use Prim.Native.Nat.{ℕ, _≤_, _<_}
-use lib.Dec.{leb}
+use lib.Dec.{leb, ltb}
 use lib.ListN.{length, take, drop}
 use Rattle.frame.specs.Read.{readOf, dataIn}
 use Rattle.frame.specs.declared.read.Read.the-variants.{Write}
@@ -49,6 +49,11 @@ pub record MeetsPackets (s : Maker) : Type 0 where
 abbrev pub packetMaker : Maker
 packetMaker image n p before = out (packetMade image n p (length before)) (bufferAfter (packetMade image n p (length before)) before (packetFrame image n p))
 
--- one that invents the packet number: it does not look at the one that is asked for
+-- one that invents the packet number: whichever packet of an image is asked for, it makes the same
 abbrev pub InventsNumber : Maker → Type 0
-InventsNumber s = (image : List ℕ) (n p q : ℕ) (before : List ℕ) → s image n p before ≡ s image n q before
+InventsNumber s =
+    (image : List ℕ) (n p q : ℕ) (before : List ℕ) → p < packetCount image n → q < packetCount image n → s image n p before ≡ s image n q before
+
+-- one of them: it makes packet 0
+abbrev pub firstMaker : Maker
+firstMaker image n p before = packetMaker image n (cond (ltb p (packetCount image n)) 0 p) before

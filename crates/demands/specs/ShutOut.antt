@@ -1,40 +1,94 @@
 -- Machines that a demand shuts out (01, 'How much each function must say', "Show that these are shut out").
 -- Assumes nothing.
 use mathlib.Core.Path.{_≡_}
-use mathlib.Core.Bool.{Bool, true, false, _&&_, _||_, cond}
+use mathlib.Core.Bool.{Bool, true, false, not, _&&_, _||_, cond}
 use mathlib.Core.List.{List, [], _∷_}
-use Prim.Native.Nat.{ℕ}
+use Prim.Native.Nat.{ℕ, _<_}
+use lib.Dec.{eqb}
+use lib.ListN.{length, getD}
 use Rattle.buffer.specs.Number.{byteAt}
+use Rattle.frame.specs.Frame.{frameError}
 use Rattle.frame.specs.Read.{readOf}
 use Rattle.frame.specs.declared.read.Footer.{Footer}
 use Rattle.frame.specs.declared.read.Read.the-variants.{Write}
 use Rattle.sender.specs.declared.request.Request.the-variants.{WriteEnd}
 use Rattle.sender.specs.Request.{requestFrame}
-use Rattle.layout.specs.Layout.{otherOf}
+use Rattle.layout.specs.Layout.{goodN, bankSize, otherOf}
 use Rattle.layout.specs.Pair.{bankIn}
-use Rattle.demands.specs.Board.{Board, board, Call, Input, Initiate, Terminate, Datagram, Outcome, said, Machine, after, stepMachine}
-use Rattle.demands.specs.Demand1.{isPacket}
-use Rattle.demands.specs.Session.{isBegin, isStored}
+use Rattle.exchange.specs.declared.state.State.the-variants as state
+use Rattle.exchange.specs.State.{isClosed}
+use Rattle.decision.specs.Plan.{lentGood}
+use Rattle.client.specs.declared.record.Client.{Client}
+use Rattle.demands.specs.Board.{
+  Board,
+  board,
+  Call,
+  Input,
+  Initiate,
+  Terminate,
+  Datagram,
+  Outcome,
+  said,
+  Machine,
+  after,
+  targetBank,
+  lentOf,
+  lentTarget,
+  stepMachine,
+}
+use Rattle.demands.specs.Demand1.{isPacket, refused, answered}
+use Rattle.demands.specs.Session.{isBegin, isStored, isEnd}
+
+-- a response with 06: a control response has its result behind the code, a write response its response result behind sector and length
+abbrev pub says06 : List ℕ → Bool
+says06 answer =
+    (eqb (byteAt answer 0) 0x01 && eqb (byteAt answer 3) 0x06) || (eqb (byteAt answer 0) 0x02 && eqb (byteAt answer 5) 0x06)
 
 -- one that refuses everything: no answer of it carries 06
 abbrev pub RefusesAll : Machine → Type 0
-RefusesAll m = (b : Board) (call : Call) → byteAt (said (m b (Datagram call))) 3 ≡ 0x06 → ⊥
+RefusesAll m = (b : Board) (call : Call) → says06 (said (m b (Datagram call))) ≡ true → ⊥
 
--- one with a single fixed answer
+-- one with a single fixed answer: where it says anything, it says that; it may refuse with a number, rightly or not
 pub record Fixed (m : Machine) : Type 0 where
   pub answer : List ℕ
-  pub always : (b : Board) (call : Call) → said (m b (Datagram call)) ≡ answer
+  pub always : (b : Board) (call : Call) → (said (m b (Datagram call)) ≡ [] → ⊥) → said (m b (Datagram call)) ≡ answer
+
+-- one of both: it refuses as the client does, 3, 2, 1, and takes all else for a frame fault
+abbrev pub faultsOnly : Machine
+faultsOnly b Initiate = stepMachine b Initiate
+faultsOnly b Terminate = stepMachine b Terminate
+faultsOnly b (Datagram call) =
+    let c : Client = b .client in
+    cond (not (goodN (c .fixed .n))) (refused b (call .buffer) 3)
+    (cond (not (eqb (length (bankIn (c .fixed .running) (lentOf (call .lent) (b .pair)))) (bankSize (c .fixed .n)))) (refused b (call .buffer) 2)
+    (cond (not (lentGood (c .fixed .n) (length (lentTarget b call)) (length (call .marks)) (length (call .address)) (length (call .buffer))))
+    (refused b (call .buffer) 2)
+    (cond (isClosed (c .state)) (refused b (call .buffer) 1) (answered b call frameError))))
 
 -- one that never changes a bank
 abbrev pub NeverStores : Machine → Type 0
 NeverStores m = (b : Board) (i : Input) → m b i .board .pair ≡ b .pair
+
+-- one that stores nothing and says that it does: on one board with no session under way, and a byte other than 0xFF in its target, a session
+-- begins with 06 and ends at once, with 06 or 1E
+pub record StoresNothing (m : Machine) : Type 0 where
+  pub never : NeverStores m
+  pub at : Board
+  pub resting : at .client .state ≡ state.Write → ⊥
+  pub place : ℕ
+  pub low : place < bankSize (at .client .fixed .n)
+  pub byte : getD (targetBank at) place 0xFF ≡ 0xFF → ⊥
+  pub start : Call
+  pub end : Call
+  pub begins : isBegin (said (m at (Datagram start))) ≡ true
+  pub ends : isEnd (said (m (m at (Datagram start) .board) (Datagram end))) ≡ true
 
 -- the same outcome, but the banks stay
 abbrev pub unstored : Board → Outcome → Outcome
 unstored b o =
     record { board = board (o .board .client) (b .pair); number = o .number; told = o .told; buffer = o .buffer; notice = o .notice }
 
--- one that answers as the client does and stores nothing
+-- one of them: it answers as the client does
 abbrev pub storesNothing : Machine
 storesNothing b i = unstored b (stepMachine b i)
 
