@@ -11,10 +11,11 @@ use borrow.Author.Tests.{eq-eqb, ne-eqb}
 use Rattle.buffer.specs.Number.{byteAt}
 use Rattle.buffer.proofs.Bools.{split}
 use Rattle.buffer.proofs.Parts.{part-length}
+use Rattle.frame.specs.Meaning.{ControlIn, WriteIn}
 use Rattle.frame.specs.Read.{partFrom, parametersIn, dataIn, readOf}
 use Rattle.frame.specs.declared.read.Footer.{Footer}
 use Rattle.frame.specs.declared.read.Read.the-variants.{Control, Write}
-use Rattle.frame.proofs.Told.{ControlIn, WriteIn, control-told, write-told}
+use Rattle.frame.proofs.Told.{control-told, write-told}
 
 -- ---- each way out
 
