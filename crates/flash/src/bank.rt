@@ -33,7 +33,8 @@ pub fn store(bank: &mut [u8], k: usize, store: Store)
     crate::sector::make(&mut bank[from..from + SECTOR], store);
 }
 
-// Word `i` of the bytes to its place in sector `k`. A blank one is there already: the sector was erased.
+// Word `i` of the bytes to its place in sector `k`. A blank one is there already: the sector was erased. It is read from the rest of the
+// bytes, and not from its four alone, so that the compiler takes all four at once.
 fn put_word(bank: &mut [u8], k: usize, bytes: &[u8], i: usize)
     requires { ⌜ i * wordBytes + wordBytes ≤ length (now bytes) ⌝ }
     ensures { λ _. ⌜ Leaves (wordStore k (now (bytes .entry)) i) (now (bank .entry)) (now (bank .exit)) ⌝ }
@@ -105,7 +106,7 @@ fn sweep_one(bank: &mut [u8], k: usize, received: bool)
     store(bank, k, Store::Erase);
 }
 
-// How many of the first `n` sectors a bank of so many bytes has.
+// How many of the first `n` sectors end within so many bytes.
 fn had(bytes: usize, n: usize) -> usize
     ensures { λ r. ⌜ r ≡ min n (bytes / sectorSize) ⌝ }
 {
