@@ -16,7 +16,7 @@ stopOf s = s .offset + s .length
 unfoldable pub fitsAt : ℕ → ℕ → Stretch → Bool
 fitsAt whole at s = leb 1 (s .length) && (leb at (s .offset) && leb (stopOf s) whole)
 
--- each at or after the end of "what precedes it", the first at or after `at`, and ends within the first `whole` bytes
+-- none starts before "what precedes it" ends, the first not before `at`, and each ends within the first `whole` bytes
 unfoldable pub laidOut : ℕ → ℕ → List Stretch → Bool
 laidOut whole at [] = true
 laidOut whole at (s ∷ ss) = fitsAt whole at s && laidOut whole (stopOf s) ss

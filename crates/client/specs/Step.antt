@@ -58,7 +58,7 @@ pub record Carried : Type 0 where
   pub target : List ℕ
   pub buffer : List ℕ
 
--- the answer at the front of the buffer; "the rest keeps its bytes"
+-- the answer goes to the front; "the rest keeps its bytes"
 abbrev pub saidOf : Done → Notice → List ℕ → Carried
 saidOf d notice buffer =
     record {

@@ -9,7 +9,7 @@ ghost use Prim.Native.Nat.{_≤_};
 ghost use Rattle.layout.specs.Layout.{mostSectors};
 ghost use Rattle.client.specs.Record.{standingOf, noneReceived, closedClient, initiated, opened, left, begun, marked, ended, starting};
 
-// How the latest write session since Start OTA Mode ended.
+// How the latest write session ended; a mode start forgets it.
 pub enum Latest {
     Nothing,
     Good,

@@ -29,7 +29,7 @@ isBegin answer = isResponse 0x70 0x06 answer
 abbrev pub isEnd : List ℕ → Bool
 isEnd answer = isResponse 0x75 0x06 answer || isResponse 0x75 0x1E answer
 
--- the packet's sector becomes "the M data bytes followed by 0xFF"
+-- a packet leaves its data in its sector, "followed by 0xFF"
 abbrev pub packetIn : List ℕ → List ℕ → Read → List ℕ
 packetIn image datagram Fault = image
 packetIn image datagram (Control code n) = image

@@ -92,7 +92,7 @@ unstored b o =
 abbrev pub storesNothing : Machine
 storesNothing b i = unstored b (stepMachine b i)
 
--- ---- one that handles the first sector packet and only acknowledges the rest
+-- ---- one that stores the first packet and "only acknowledges the rest"
 
 -- the same call with another datagram
 abbrev pub bringing : List ℕ → Call → Call

@@ -41,6 +41,6 @@ fitsSector m = leb m sectorSize && eqb (m % wordBytes) 0
 unfoldable pub writtenOf : List ℕ → List ℕ → List ℕ
 writtenOf sector bytes = cond (fitsSector (length bytes)) (paddedOf bytes) sector
 
--- "all 512 bytes already were what they should become"
+-- "already were what they should become"
 unfoldable pub alreadyOf : List ℕ → List ℕ → Bool
 alreadyOf sector bytes = fitsSector (length bytes) && sameOf sector (paddedOf bytes)

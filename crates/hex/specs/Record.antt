@@ -82,7 +82,7 @@ typed base size upper last r =
     (cond (eqb (recordType r) 5 && eqb (recordCount r) 4) Other (Fault H3))))
     (Fault H3))
 
--- "the record's bytes don't add to 0 modulo 256"
+-- H2: "add to 0 modulo 256"
 abbrev pub says : ℕ → ℕ → State → Spelled → Found
 says base size s (Whole r) = cond (eqb (total r % 256) 0) (typed base size (s .upper) (s .last) r) (Fault H2)
 says base size s (Broken place) = Fault H1

@@ -77,7 +77,7 @@ storedOf result = eqb result 0x06 || eqb result 0x1D
 unfoldable pub crcFits : ℕ → ℕ → ℕ → Bool
 crcFits response write crc = eqb crc 0 || (storedOf response && storedOf write)
 
--- "M = 6, response result, write result, CRC-32 (4)"
+-- a write response: both results, and the CRC-32 behind them
 unfoldable pub writeOf : ℕ → List ℕ → Response
 writeOf sector bytes =
     let response : ℕ = byteAt bytes 0 in

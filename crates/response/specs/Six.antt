@@ -41,7 +41,7 @@ resultWrong d Fault = false
 resultWrong d (Control code n) = not (mayCarry (eqb code errorCode) (byteAt (parametersIn d) 0))
 resultWrong d (Write sector m footer) = not (mayCarry false (byteAt (dataIn d) 0) && mayCarry false (byteAt (dataIn d) 1))
 
--- "the length is wrong for the code and result"
+-- "wrong for the code and result"
 abbrev pub addedBy : Coded → ℕ → ℕ
 addedBy Unknown result = 0
 addedBy (Is command) result = addedOf command result

@@ -34,7 +34,7 @@ fn say_request(why: &[u8], request: Request) {
 pub(crate) fn begin(target: Bank, n: usize) {
     say_request(b"# Start OTA Mode\n", Request::ModeStart);
     say_request(b"# bank information\n", Request::BankInfo);
-    say_request(b"# version\n", Request::Version);
+    say_request(b"# version\n", Request::VersionInfo);
     say_request(
         b"# Start OTA Write\n",
         Request::WriteStart { bank: target, n },
