@@ -1,3 +1,4 @@
+pub mod Again
 pub mod Beside
 pub mod Courses
 pub mod Keeping

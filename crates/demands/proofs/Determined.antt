@@ -1,10 +1,8 @@
 -- Every public function's contract leaves one outcome.
 -- Assumes nothing.
-use mathlib.Core.Path.{_≡_, sym, _∙_}
-use Rattle.demands.specs.Determined.{Once, Determined}
-
-once : {A : Type 0} (f : A) → Once (λ (x : A). x ≡ f)
-once f x y p q = p ∙ sym q
+use mathlib.Core.Path.{sym, _∙_}
+use Rattle.outcomes.proofs.Equations.{once}
+use Rattle.demands.specs.Determined.{Determined}
 
 pub determined : Determined
 determined =

@@ -1,11 +1,12 @@
 -- Every public function's contract leaves one outcome: any two that it allows are the same (01, 'How much each function must say', "any two
--- outcomes allowed by it are proved equal"). One line for each relation that a public function's contract cites.
+-- outcomes allowed by it are proved equal"). One line for each relation that a public function's contract cites; those of
+-- `exports` alone stand in its own Determined.antt.
 -- Assumes nothing.
-use mathlib.Core.Path.{_≡_}
 use mathlib.Core.Bool.{Bool}
 use mathlib.Core.List.{List}
 use Prim.Native.Nat.{ℕ}
 use denote.Ref.{RefT}
+use Rattle.outcomes.specs.Once.{Once, Twice, Thrice, Fourfold}
 use Rattle.frame.specs.declared.read.Footer.{Footer}
 use Rattle.layout.specs.declared.Bank.{Bank}
 use Rattle.lines.specs.declared.line.LineReader.{LineReader}
@@ -53,20 +54,6 @@ use Rattle.client.specs.Host.{Told·Is, New·Is, Initiate·Is, Terminate·Is}
 use Rattle.client.specs.Step.{Take·Is, Step·Is}
 use Rattle.script.specs.Text.{First·Is, Rest·Is, EndsInBlank·Is}
 use Rattle.script.specs.Line.{Before·Is, Held·Is}
-
--- what a function gives is determined, whether it is one thing or several: a result, and each lent list
-abbrev pub Once : {A : Type 0} → (A → Type 0) → Type 0
-Once {A} R = (x y : A) → R x → R y → x ≡ y
-
-abbrev pub Twice : {A B : Type 0} → (A → B → Type 0) → Type 0
-Twice {A} {B} R = (x y : A) (u v : B) → R x u → R y v → (x ≡ y) × (u ≡ v)
-
-abbrev pub Thrice : {A B C : Type 0} → (A → B → C → Type 0) → Type 0
-Thrice {A} {B} {C} R = (x y : A) (u v : B) (s t : C) → R x u s → R y v t → (x ≡ y) × ((u ≡ v) × (s ≡ t))
-
-abbrev pub Fourfold : {A B C D : Type 0} → (A → B → C → D → Type 0) → Type 0
-Fourfold {A} {B} {C} {D} R =
-    (x y : A) (u v : B) (s t : C) (p q : D) → R x u s p → R y v t q → (x ≡ y) × ((u ≡ v) × ((s ≡ t) × (p ≡ q)))
 
 pub record Determined : Type 0 where
   -- lent bytes

@@ -1,0 +1,62 @@
+-- `exports::slots::take_slot` meets its contract: the part of the slots behind the length is the datagram.
+-- Assumes nothing.
+use Rattle.exports.proofs.Taking.{slot-stepped}
+use borrow.Author.Needs.{needs}
+use Rattle.exports.proofs.slots.take_slot.Statement.{statement}
+use Rattle.exports.proofs.slots.take_slot.Tie as tie
+
+mul-from : tie.Need-mul-from
+mul-from c = search needs
+
+add-from : tie.Need-add-from
+add-from c = search needs
+
+size-at-requires : tie.Need-size-at-requires
+size-at-requires c κs = search needs
+
+add-to : tie.Need-add-to
+add-to c = search needs
+
+sub-step : tie.Need-sub-step
+sub-step c = search needs
+
+part-step-start : tie.Need-part-step-start
+part-step-start c = search needs
+
+part-step-end : tie.Need-part-step-end
+part-step-end c = search needs
+
+step-requires : tie.Need-step-requires
+step-requires c κs = search needs
+
+same-length : tie.Need-same-length
+same-length c = search needs
+
+same-length-2 : tie.Need-same-length-2
+same-length-2 c = search needs
+
+same-length-3 : tie.Need-same-length-3
+same-length-3 c = search needs
+
+returns : tie.Need-returns
+returns c =
+    let s = (c .before .before .before .before .before .before .step) in
+    let z = (c .before .before .before .before .before .before .before .before .before .before .before .size-at) in
+    slot-stepped _ _ (z .result) (z .ensures) (s .ensures)
+
+pub take-slot-spec : {M : Type 1} → statement M
+take-slot-spec =
+    tie.close
+    (tie.spec
+    mul-from
+    add-from
+    size-at-requires
+    add-to
+    sub-step
+    part-step-start
+    part-step-end
+    step-requires
+    same-length
+    same-length-2
+    same-length-3
+    returns)

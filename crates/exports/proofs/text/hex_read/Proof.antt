@@ -1,0 +1,49 @@
+-- `exports::text::hex_read` meets its contract: without room nothing is done, and with it the reader's answer is told.
+-- Assumes nothing.
+use Rattle.exports.proofs.Telling.{not-told, both-told}
+use borrow.Author.Needs.{needs}
+use Rattle.exports.proofs.text.hex_read.Statement.{statement}
+use Rattle.exports.proofs.text.hex_read.Tie as tie
+
+returns : tie.Need-returns
+returns c = not-told (c .if1 .taken)
+
+read-requires : tie.Need-read-requires
+read-requires c κs = search needs
+
+number-of-requires : tie.Need-number-of-requires
+number-of-requires c κs = search needs
+
+slice-write-told : tie.Need-slice-write-told
+slice-write-told c = search needs
+
+line-of-requires : tie.Need-line-of-requires
+line-of-requires c κs = search needs
+
+slice-write-told-2 : tie.Need-slice-write-told-2
+slice-write-told-2 c = search needs
+
+same-length : tie.Need-same-length
+same-length c = search needs
+
+same-length-2 : tie.Need-same-length-2
+same-length-2 c = search needs
+
+returns-2 : tie.Need-returns-2
+returns-2 c =
+    both-told (c .before .before .before .before .before .before .if1 .left) (c .before .before .before .before .read .ensures)
+    (c .before .number-of .ensures) (c .line-of .ensures)
+
+pub hex-read-spec : {M : Type 1} → statement M
+hex-read-spec =
+    tie.close
+    (tie.spec
+    returns
+    read-requires
+    number-of-requires
+    slice-write-told
+    line-of-requires
+    slice-write-told-2
+    same-length
+    same-length-2
+    returns-2)

@@ -1,0 +1,17 @@
+-- What C is told leaves one outcome: any two that a contract allows are the same (01, 'How much each function must say'). One line for each
+-- relation of this crate.
+-- Assumes nothing.
+use mathlib.Core.List.{List}
+use Prim.Native.Nat.{ℕ}
+use Rattle.outcomes.specs.Once.{Once, Twice, Thrice, Fourfold}
+use Rattle.exports.specs.Check.{CheckNumber·Is}
+use Rattle.exports.specs.Text.{ReadNumbers·Is}
+use Rattle.exports.specs.Packet.{PacketNumber·Is}
+use Rattle.exports.specs.Slots.{TakeSlots·Is}
+
+pub record Determined : Type 0 where
+  pub check-number : (bank : List ℕ) → Once (CheckNumber·Is bank)
+  pub read-numbers : (text : List ℕ) (n : ℕ) (image told : List ℕ) → Thrice (ReadNumbers·Is text n image told)
+  pub packet-number : (image : List ℕ) (n p : ℕ) (before : List ℕ) → Twice (PacketNumber·Is image n p before)
+  pub take-slots : (n : ℕ) (slots bank0 bank1 marks address buffer : List ℕ)
+      → Fourfold (TakeSlots·Is n slots bank0 bank1 marks address buffer)

@@ -1,0 +1,5 @@
+pub mod Check
+pub mod Determined
+pub mod Packet
+pub mod Slots
+pub mod Text

@@ -1,0 +1,97 @@
+-- A new client takes the datagrams of slots, one after another, for a caller in C (01, 'The client, step by step').
+-- Assumes nothing.
+use Prim.Native.Nat.{ℕ, zero, suc, _+_, _*_, _/_}
+use mathlib.Core.Path.{_≡_}
+use mathlib.Core.Bool.{Bool, true, _&&_, cond}
+use mathlib.Core.List.{List, [], _∷_, _++_, foldl}
+use lib.Dec.{leb}
+use lib.ListN.{length, take, drop}
+use Rattle.buffer.specs.Number.{numberAt}
+use Rattle.buffer.specs.Place.{frontOf}
+use Rattle.layout.specs.declared.Bank.the-variants.{Zero}
+use Rattle.layout.specs.Pair.{Banks, banks}
+use Rattle.exchange.specs.declared.answer.Answer.{Answer}
+use Rattle.exchange.specs.declared.answer.Answer.the-variants.{Refused, FrameError, Error, Response, BankIs, VersionIs, Written}
+use Rattle.exchange.specs.Answer.{answerBytes, refusalNumber}
+use Rattle.client.specs.declared.record.Client.{Client}
+use Rattle.client.specs.Host.{newOf, initiateOf}
+use Rattle.client.specs.Step.{Carried}
+use Rattle.calls.specs.Call.{Call, Kept, kept, afterSteps, camesOf}
+
+-- ---- slots of 521 bytes: a datagram's length in two, then room for 519; bytes behind the last whole slot are not looked at
+
+abbrev pub slotCount : List ℕ → ℕ
+slotCount slots = length slots / 521
+
+-- the length that slot k says, and its datagram
+abbrev pub sizeAt : List ℕ → ℕ → ℕ
+sizeAt slots k = numberAt 2 slots (k * 521)
+
+abbrev pub datagramAt : List ℕ → ℕ → List ℕ
+datagramAt slots k = take (sizeAt slots k) (drop (k * 521 + 2) slots)
+
+-- whether none of the first k slots says more than it has room for
+unfoldable pub slotsGood : List ℕ → ℕ → Bool
+slotsGood slots zero = true
+slotsGood slots (suc k) = slotsGood slots k && leb (sizeAt slots k) 519
+
+-- the calls of the first k slots, each with these marks, this address and this buffer
+unfoldable pub callsOf : List ℕ → List ℕ → List ℕ → List ℕ → ℕ → List Call
+callsOf slots marks address buffer zero = []
+callsOf slots marks address buffer (suc k) =
+    callsOf slots marks address buffer k
+    ++ (record { datagram = datagramAt slots k; address = address; marks = marks; buffer = buffer } ∷ [])
+
+-- ---- what is left of calls
+
+-- how long an answer is, or the paper's number where there is none
+abbrev pub givenOf : Answer → ℕ → ℕ
+givenOf (Refused why) told = refusalNumber why
+givenOf FrameError told = told
+givenOf (Error result) told = told
+givenOf (Response command result) told = told
+givenOf (BankIs bank) told = told
+givenOf (VersionIs major minor revision) told = told
+givenOf (Written sector result write crc) told = told
+
+-- what is given of the last answer, client and banks, and the buffer
+pub record Run : Type 0 where
+  pub given : ℕ
+  pub kept-at-last : Kept
+  pub buffer : List ℕ
+
+abbrev pub ran : ℕ → Kept → List ℕ → Run
+ran given k buffer = record { given = given; kept-at-last = k; buffer = buffer }
+
+abbrev pub lastGiven : ℕ → Carried → ℕ
+lastGiven before r = givenOf (r .answer) (r .told)
+
+-- one buffer is lent again and again: "An answer fills the front", and then the next one does
+abbrev pub saidNext : List ℕ → Carried → List ℕ
+saidNext buffer r = frontOf buffer (answerBytes (r .answer))
+
+unfoldable pub runOf : List ℕ → Kept → List Call → Run
+runOf buffer k calls =
+    ran (foldl lastGiven 0 (camesOf k calls)) (afterSteps k calls) (foldl saidNext buffer (camesOf k calls))
+
+-- ---- all slots
+
+-- a client of bank 0 that was initiated
+abbrev pub fresh : ℕ → Client
+fresh n = initiateOf (newOf n Zero 0 0 0 .client) .client
+
+abbrev pub atFirst : ℕ → List ℕ → List ℕ → Kept
+atFirst n bank0 bank1 = kept (fresh n) (banks bank0 bank1)
+
+-- 2, and nothing changes, where a slot says more than it has room for
+unfoldable pub slotsTaken : ℕ → List ℕ → List ℕ → List ℕ → List ℕ → List ℕ → List ℕ → Run
+slotsTaken n slots bank0 bank1 marks address buffer =
+    cond (slotsGood slots (slotCount slots))
+    (runOf buffer (atFirst n bank0 bank1) (callsOf slots marks address buffer (slotCount slots)))
+    (ran 2 (atFirst n bank0 bank1) buffer)
+
+pub record TakeSlots·Is (n : ℕ) (slots bank0 bank1 marks address buffer : List ℕ) (r : ℕ) (zero one said : List ℕ) : Type 0 where
+  pub given : r ≡ slotsTaken n slots bank0 bank1 marks address buffer .given
+  pub bank-zero : zero ≡ slotsTaken n slots bank0 bank1 marks address buffer .kept-at-last .pair .zero
+  pub bank-one : one ≡ slotsTaken n slots bank0 bank1 marks address buffer .kept-at-last .pair .one
+  pub buffer-left : said ≡ slotsTaken n slots bank0 bank1 marks address buffer .buffer

@@ -1,0 +1,33 @@
+-- What is told to C of a hex text for bank 0: a number, and the line (01, 'Hex text').
+-- Assumes nothing.
+use Prim.Native.Nat.{ℕ}
+use mathlib.Core.Path.{_≡_}
+use mathlib.Core.Bool.{Bool, cond}
+use mathlib.Core.List.{List, [], _∷_}
+use lib.Dec.{leb}
+use lib.ListN.{length}
+use Rattle.buffer.specs.Place.{frontOf}
+use Rattle.layout.specs.declared.Bank.the-variants.{Zero}
+use Rattle.layout.specs.Said.{Said, number, result, value, fault, accepted, code}
+use Rattle.hex.specs.Read.{readSays, textRead}
+
+-- "The first faulty line", and 0 where no line is at fault
+abbrev pub lineSaid : Said → ℕ
+lineSaid (number n) = 0
+lineSaid (result n) = 0
+lineSaid (value n) = 0
+lineSaid (fault k line) = line
+lineSaid accepted = 0
+
+-- the number and the line
+abbrev pub numbersOf : Said → List ℕ
+numbersOf said = code said ∷ lineSaid said ∷ []
+
+-- whether there is room for both; if not, the text is not read
+abbrev pub roomFor : List ℕ → Bool
+roomFor told = leb 2 (length told)
+
+pub record ReadNumbers·Is (text : List ℕ) (n : ℕ) (image told : List ℕ) (r : ℕ) (image′ told′ : List ℕ) : Type 0 where
+  pub number-is : r ≡ cond (roomFor told) (code (readSays text Zero n image)) 2
+  pub image-is : image′ ≡ cond (roomFor told) (textRead text Zero n image .image) image
+  pub told-is : told′ ≡ frontOf told (numbersOf (readSays text Zero n image))

@@ -1,0 +1,7 @@
+// What C calls, a module for each crate below, which export nothing themselves.
+pub mod check;
+pub mod checksum;
+pub mod crc32;
+pub mod packet;
+pub mod slots;
+pub mod text;

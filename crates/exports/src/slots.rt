@@ -1,0 +1,127 @@
+// A client. Its record cannot pass through C, since it holds enums: a new client of bank 0 takes the datagrams of slots, one after another.
+use client::record::Client;
+use client::step::Stepped;
+use exchange::answer::Answer;
+use layout::Bank;
+ghost use mathlib.Core.Path.{_≡_};
+ghost use mathlib.Core.Bool.{true};
+ghost use Prim.Native.Nat.{_+_, _*_, _≤_};
+ghost use lib.ListN.{length};
+ghost use Rattle.client.specs.Step.{Step·Is};
+ghost use Rattle.exports.specs.Slots.{sizeAt, datagramAt, slotsGood, givenOf, fresh, TakeSlots·Is};
+
+// A slot has a datagram's length in two bytes, high byte first, and room for the longest request.
+const SLOT: usize = 521;
+
+// The longest request.
+const ROOM: usize = 519;
+
+// The length that slot k says.
+fn size_at(slots: &[u8], k: usize) -> usize
+    requires { ⌜ (k + 1) * 521 ≤ length (now slots) ⌝ }
+    ensures { λ r. ⌜ r ≡ sizeAt (now (slots .entry)) k ⌝ }
+{
+    buffer::number::number2(slots, k * SLOT) as usize
+}
+
+// Whether no slot says more than it has room for.
+fn slots_good(slots: &[u8], count: usize) -> bool
+    requires { ⌜ count * 521 ≤ length (now slots) ⌝ }
+    ensures { λ r. ⌜ r ≡ slotsGood (now (slots .entry)) count ⌝ }
+{
+    let mut k = 0;
+    while k < count {
+        if ROOM < size_at(slots, k) {
+            return false;
+        }
+        k += 1;
+    }
+    true
+}
+
+// How long an answer is, or the paper's number where there is none.
+fn given(answer: Answer, length: usize) -> usize
+    ensures { λ r. ⌜ r ≡ givenOf answer «length» ⌝ }
+{
+    match answer {
+        Answer::Refused(why) => exchange::answer::refusal_number(why) as usize,
+        Answer::FrameError => length,
+        Answer::Error { result: _ } => length,
+        Answer::Response {
+            command: _,
+            result: _,
+        } => length,
+        Answer::BankIs(_) => length,
+        Answer::VersionIs {
+            major: _,
+            minor: _,
+            revision: _,
+        } => length,
+        Answer::Written {
+            sector: _,
+            result: _,
+            write: _,
+            crc: _,
+        } => length,
+    }
+}
+
+// A client of bank 0, initiated.
+fn fresh(n: usize) -> Client
+    ensures { λ r. ⌜ r ≡ fresh n ⌝ }
+{
+    let made = Client::new(n, Bank::Zero, 0, 0, 0);
+    let closed = made.client;
+    let started = closed.initiate();
+    started.client
+}
+
+// The datagram of slot k.
+fn take_slot(
+    client: Client,
+    slots: &[u8],
+    k: usize,
+    bank0: &mut [u8],
+    bank1: &mut [u8],
+    marks: &[u8],
+    address: &[u8],
+    buffer: &mut [u8],
+) -> Stepped
+    requires { ⌜ (k + 1) * 521 ≤ length (now slots) ⌝ }
+    requires { ⌜ sizeAt (now slots) k ≤ 519 ⌝ }
+    ensures { λ r. ⌜ Step·Is client (now (bank0 .entry)) (now (bank1 .entry)) (now (marks .entry)) (now (address .entry)) (now (buffer .entry)) (datagramAt (now (slots .entry)) k) r (now (bank0 .exit)) (now (bank1 .exit)) (now (buffer .exit)) ⌝ }
+{
+    let from = k * SLOT + 2;
+    let to = from + size_at(slots, k);
+    client.step(bank0, bank1, marks, address, buffer, &slots[from..to])
+}
+
+// The last answer's length or number comes back, and 0 without a slot. All slots are looked at before the first is handled.
+#[no_mangle]
+pub extern "C" fn client_take(
+    n: usize,
+    slots: &[u8],
+    bank0: &mut [u8],
+    bank1: &mut [u8],
+    marks: &[u8],
+    address: &[u8],
+    buffer: &mut [u8],
+) -> usize
+    ensures { λ r. ⌜ TakeSlots·Is n (now (slots .entry)) (now (bank0 .entry)) (now (bank1 .entry)) (now (marks .entry)) (now (address .entry)) (now (buffer .entry)) r (now (bank0 .exit)) (now (bank1 .exit)) (now (buffer .exit)) ⌝ }
+{
+    let count = slots.len() / SLOT;
+    if !slots_good(slots, count) {
+        return 2;
+    }
+    let mut client = fresh(n);
+    let mut told = 0;
+    let mut k = 0;
+    while k < count {
+        let stepped = take_slot(client, slots, k, bank0, bank1, marks, address, buffer);
+        client = stepped.client;
+        let answer = stepped.answer;
+        told = given(answer, stepped.length);
+        k += 1;
+    }
+    told
+}

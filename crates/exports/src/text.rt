@@ -1,0 +1,47 @@
+// The hex reader, for bank 0: what it says as numbers.
+use hex::read::Answer;
+use layout::Bank;
+ghost use mathlib.Core.Path.{_≡_};
+ghost use Rattle.layout.specs.Said.{code};
+ghost use Rattle.hex.specs.Read.{answerSaid};
+ghost use Rattle.exports.specs.Text.{lineSaid, ReadNumbers·Is};
+
+fn number_of(answer: Answer) -> usize
+    ensures { λ r. ⌜ r ≡ code (answerSaid answer) ⌝ }
+{
+    match answer {
+        Answer::BadN => 3,
+        Answer::BadLength => 2,
+        Answer::Refused(refusal) => {
+            let kind = refusal.kind;
+            10 + hex::fault::kind_number(kind) as usize
+        }
+        Answer::Accepted => 0,
+    }
+}
+
+fn line_of(answer: Answer) -> usize
+    ensures { λ r. ⌜ r ≡ lineSaid (answerSaid answer) ⌝ }
+{
+    match answer {
+        Answer::BadN => 0,
+        Answer::BadLength => 0,
+        Answer::Refused(refusal) => refusal.line,
+        Answer::Accepted => 0,
+    }
+}
+
+// The number comes back; it and the line go to the front of `told`, without room for which nothing is done.
+#[no_mangle]
+pub extern "C" fn hex_read(text: &[u8], n: usize, image: &mut [u8], told: &mut [usize]) -> usize
+    ensures { λ r. ⌜ ReadNumbers·Is (now (text .entry)) n (now (image .entry)) (now (told .entry)) r (now (image .exit)) (now (told .exit)) ⌝ }
+{
+    if told.len() < 2 {
+        return 2;
+    }
+    let answer = hex::read::read(text, Bank::Zero, n, image);
+    let number = number_of(answer);
+    told[0] = number;
+    told[1] = line_of(answer);
+    number
+}

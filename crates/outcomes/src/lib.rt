@@ -1,0 +1,1 @@
+// One outcome and no other: definitions and a law, and no code.
