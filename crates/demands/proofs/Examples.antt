@@ -1,6 +1,6 @@
 -- The worked examples hold.
 -- Assumes nothing.
-use mathlib.Core.Path.{_≡_, refl, sym, ap, subst, _∙_}
+use mathlib.Core.Path.{_≡_, refl, sym, ap, ap₂, subst, _∙_}
 use mathlib.Core.Bool.{Bool, true, false, false≢true}
 use mathlib.Core.List.{List, [], _∷_, _++_}
 use Prim.Native.Nat.{ℕ, _-_, _*_, _≤_, _<_}
@@ -119,12 +119,16 @@ example-1 b call c s d =
     ∙ said-back call (controlFrame 0x71 (0x06 ∷ [])) (control-short 0x71 0x06) (c .lends .room)
     ∙ started-bytes
 
-example-3 : (b : Board) (call : Call) → Calls b call → live (b .client .state) ≡ true → call .datagram ≡ 0x01 ∷ 0x01 ∷ 0x60 ∷ 0x9F ∷ 0x03 ∷ []
+example-3-any : (b : Board) (call : Call) (m : ℕ) → Calls b call → live (b .client .state) ≡ true → readOf (call .datagram) ≡ Control 0x60 m
     → said (stepMachine b (Datagram call)) ≡ 0x01 ∷ 0x02 ∷ 0xE0 ∷ 0x05 ∷ 0x19 ∷ 0x03 ∷ []
-example-3 b call c s d =
-    ap said (no-request b call (calling b call c (not-true (isClosed (b .client .state)) s)) 0x60 0 (ap readOf d ∙ reads-3) refl)
+example-3-any b call m c s r =
+    ap said (no-request b call (calling b call c (not-true (isClosed (b .client .state)) s)) 0x60 m r refl)
     ∙ said-back call (controlFrame 0xE0 (0x05 ∷ [])) (control-short 0xE0 0x05) (c .lends .room)
     ∙ answer-3
+
+example-3 : (b : Board) (call : Call) → Calls b call → live (b .client .state) ≡ true → call .datagram ≡ 0x01 ∷ 0x01 ∷ 0x60 ∷ 0x9F ∷ 0x03 ∷ []
+    → said (stepMachine b (Datagram call)) ≡ 0x01 ∷ 0x02 ∷ 0xE0 ∷ 0x05 ∷ 0x19 ∷ 0x03 ∷ []
+example-3 b call c s d = example-3-any b call 0 c s (ap readOf d ∙ reads-3)
 
 example-6 : (b : Board) (call : Call) → Calls b call → live (b .client .state) ≡ true → call .datagram ≡ []
     → said (stepMachine b (Datagram call)) ≡ 0x01 ∷ 0x02 ∷ 0xE0 ∷ 0x07 ∷ 0x17 ∷ 0x03 ∷ []
@@ -206,10 +210,6 @@ wrong-stored : (sector : ℕ) → isStored (writeFrame sector (writtenBytes 0x05
 unfolding writeFrame framed bytesOf
 wrong-stored sector = refl
 
-write-result : (sector w crc : ℕ) → byteAt (writeFrame sector (writtenBytes 0x06 w crc) End) 6 ≡ w
-unfolding writeFrame framed bytesOf
-write-result sector w crc = refl
-
 module _ (b : Board) (call again : Call) (sector m : ℕ) (p : Brings b call sector m) (stored : isStored (said (stepMachine b (Datagram call))) ≡ true)
     (repeats : again .datagram ≡ call .datagram) (l : Lends (b .client .fixed .n) again) where
   -- what was accepted has good values
@@ -281,11 +281,12 @@ module _ (b : Board) (call again : Call) (sector m : ℕ) (p : Brings b call sec
   omitted true same e = refl
   omitted false same e = rw e
 
-  example-9 : byteAt (said (stepMachine next (Datagram again))) 6 ≡ 0x1D
+  example-9 : said (stepMachine next (Datagram again)) ≡ writeFrame sector (writtenBytes 0x06 0x1D (crcOf (paddedOf data-bytes))) End
   example-9 =
-      ap (λ (s : List ℕ). byteAt s 6) (stored-said next again sector m brings-again (ap (λ (f : Fixed). valuesGood (f .n) sector m) fixed-next ∙ values))
-      ∙ write-result sector _ _
-      ∙ omitted (blankOf (dataIn (again .datagram))) (sameOf (sectorOf (lentTarget next again) sector) (paddedOf (dataIn (again .datagram)))) already
+      stored-said next again sector m brings-again (ap (λ (f : Fixed). valuesGood (f .n) sector m) fixed-next ∙ values)
+      ∙ ap₂ (λ (w : ℕ) (d : List ℕ). writeFrame sector (writtenBytes 0x06 w (crcOf (paddedOf (dataIn d)))) End)
+      (omitted (blankOf (dataIn (again .datagram))) (sameOf (sectorOf (lentTarget next again) sector) (paddedOf (dataIn (again .datagram)))) already)
+      repeats
 
 -- 10
 module _ (bank : Bank) (n : ℕ) (image : List ℕ) (g : goodN n ≡ true) (e : length image ≡ sectorSize * n) where
@@ -303,6 +304,7 @@ examples =
     (also example-1
     (also sum-2
     (also example-3
+    (also example-3-any
     (also request-4
     (also request-5
     (also example-6
@@ -317,4 +319,4 @@ examples =
     (also example-10
     (also example-10-end
     (also sum-11
-    none)))))))))))))))))
+    none))))))))))))))))))

@@ -23,6 +23,7 @@ pub mod Sessions
 pub mod ShutOut
 pub mod Steps
 pub mod Text
+pub mod TextWitness
 pub mod Texts
 pub mod Unstored
 pub mod Witness

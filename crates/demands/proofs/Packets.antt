@@ -16,9 +16,10 @@ use Rattle.frame.specs.declared.read.Read.{Read}
 use Rattle.frame.specs.declared.read.Read.the-variants.{Fault, Control, Write}
 use Rattle.frame.proofs.Writing.{length-write}
 use Rattle.layout.specs.Layout.{goodN, sectorOf}
+use Rattle.layout.specs.Said.{Said, value}
 use Rattle.sender.specs.declared.made.Made.{Made}
-use Rattle.sender.specs.declared.made.Made.the-variants.{BadN, BadLength, PastLast, Frame}
-use Rattle.sender.specs.Made.{room, bufferAfter}
+use Rattle.sender.specs.declared.made.Made.the-variants.{Frame}
+use Rattle.sender.specs.Made.{room, madeSaid, bufferAfter}
 use Rattle.sender.specs.Packet.{packetCount, packetSector, footerOf, packetFrame, imageGood, packetMade}
 use Rattle.sender.proofs.Image.{packet-read, packet-data}
 use Rattle.sender.proofs.Packets.{Sent, sent-in, sector-length}
@@ -57,7 +58,7 @@ module _ (img : List ℕ) (n p : ℕ) (before : List ℕ) (g : goodN n ≡ true)
         let room-is = roomy in
         record {
           size = length (packetFrame img n p);
-          made = made-is;
+          made = ap madeSaid made-is;
           reads = ap readOf front-is ∙ sym (packet-read img n p g sized h);
           bytes = ap dataIn front-is ∙ packet-data img n p;
           rest = ap (drop (length (packetFrame img n p))) buffer-is ∙ front-drop before (packetFrame img n p) (omega (arith, frame-long));
@@ -67,9 +68,10 @@ pub packets-meet : MeetsPackets packetMaker
 unfolding packetMade
 packets-meet =
     record {
-      bad-n = λ img n p before g. rw g;
-      bad-length = λ img n p before g l. rw (g, l);
-      past = λ img n p before g l h. rw (g, l, le-ltb p (packetCount img n) h);
+      bad-n = λ img n p before g. record { says = rw g; stays = rw g };
+      bad-length = λ img n p before g l. record { says = rw (g, l); stays = rw (g, l) };
+      past = λ img n p before g l h.
+          let e = le-ltb p (packetCount img n) h in record { says = rw (g, l, e); stays = rw (g, l, e) };
       packet = λ img n p before g l h. is-packet img n p before g l h;
     }
 
@@ -78,14 +80,8 @@ packets-meet =
 pub one-inventor : InventsNumber firstMaker
 one-inventor img n p q before h k = rw (lt-ltb p (packetCount img n) h, lt-ltb q (packetCount img n) k)
 
-frame-size : (s t : ℕ) → Frame s ≡ Frame t → s ≡ t
-frame-size s t e = ap sizeOf e
-  where
-    sizeOf : Made → ℕ
-    sizeOf BadN = 0
-    sizeOf BadLength = 0
-    sizeOf PastLast = 0
-    sizeOf (Frame k) = k
+same-size : {said : Said} {s t : ℕ} → said ≡ value s → said ≡ value t → s ≡ t
+same-size p q = cc
 
 sectorIn : Read → ℕ
 sectorIn Fault = 0
@@ -101,7 +97,7 @@ no-inventor s invents meets =
     let zero = meets .packet image 2 0 before two-good l (omega (arith, two-packets)) in
     let one = meets .packet image 2 1 before two-good l (omega (arith, two-packets)) in
     let same = invents image 2 0 1 before (omega (arith, two-packets)) (omega (arith, two-packets)) in
-    let size : zero .size ≡ one .size = frame-size _ _ (sym (zero .made) ∙ ap (λ (o : Made·Out). o .answer) same ∙ one .made) in
+    let size : zero .size ≡ one .size = same-size (zero .made) (ap (λ (o : Made·Out). madeSaid (o .answer)) same ∙ one .made) in
     let e : packetSector image 2 0 ≡ packetSector image 2 1 =
     ap sectorIn (sym (zero .reads) ∙ ap₂ (λ (k : ℕ) (o : Made·Out). readOf (take k (o .buffer))) size same ∙ one .reads) in
     absurd (omega (arith, e, sectors-are .0, sectors-are .1))

@@ -18,7 +18,7 @@ use Rattle.sender.specs.declared.made.Made.{Made}
 use Rattle.sender.specs.declared.made.Made.the-variants.{Frame}
 use Rattle.sender.specs.declared.request.Request.{Request}
 use Rattle.sender.specs.declared.request.Request.the-variants.{ModeStart, BankInfo, VersionInfo, WriteStart, WriteEnd, ModeEnd}
-use Rattle.sender.specs.Made.{room, roomFor, bufferAfter}
+use Rattle.sender.specs.Made.{room, madeSaid, roomFor, bufferAfter}
 use Rattle.sender.specs.Request.{commandOf, asksFor, requestFrame, givenGood, requestMade}
 use Rattle.demands.specs.Requests.{Asked, MeetsRequests, requestMaker}
 
@@ -48,7 +48,7 @@ module _ (request : Request) (before : List ℕ) (g : givenGood request ≡ true
       let s = short request in
       let fits : length (requestFrame request) ≤ length before = omega arith in
       record {
-        made = made-is;
+        made = ap madeSaid made-is;
         front = ap (take (length (requestFrame request))) buffer-is ∙ front-take before (requestFrame request) fits;
         rest = ap (drop (length (requestFrame request))) buffer-is ∙ front-drop before (requestFrame request) fits;
       }
@@ -57,7 +57,8 @@ pub requests-meet : MeetsRequests requestMaker
 unfolding requestMade roomFor
 requests-meet =
     record {
-      bad-n = λ bank n before g. rw g;
-      bad-length = λ request before g h. rw (g, lt-leb room (length before) h);
+      bad-n = λ bank n before g. record { says = rw g; stays = rw g };
+      bad-length = λ request before g h.
+          let l = lt-leb room (length before) h in record { says = rw (g, l); stays = rw (g, l) };
       request = λ request before g h. is-asked request before g h;
     }

@@ -8,8 +8,9 @@ use Prim.Native.Nat.{ℕ, suc, _*_}
 use lib.ListN.{length}
 use Rattle.flash.specs.Bank.{blankSector}
 use Rattle.layout.specs.Layout.{sectorSize, goodN, sectorOf}
+use Rattle.layout.specs.Said.{number, value}
 use Rattle.sender.specs.declared.packet.Tally.{Tally}
-use Rattle.sender.specs.declared.packet.Tally.the-variants.{BadN, BadLength, Packets}
+use Rattle.sender.specs.Packet.{tallySaid}
 
 -- image, N
 abbrev pub Counter : Type 0
@@ -24,11 +25,11 @@ pub data Used (image : List ℕ) : ℕ → ℕ → Type 0 where
 -- they are counted
 pub record Counted (image : List ℕ) (n : ℕ) (answer : Tally) : Type 0 where
   pub count : ℕ
-  pub counts : answer ≡ Packets count
+  pub counts : tallySaid answer ≡ value count
   pub used : Used image n count
 
 -- 3, 2, and then the number of packets
 pub record MeetsCounter (s : Counter) : Type 0 where
-  pub bad-n : (image : List ℕ) (n : ℕ) → goodN n ≡ false → s image n ≡ BadN
-  pub bad-length : (image : List ℕ) (n : ℕ) → goodN n ≡ true → (length image ≡ sectorSize * n → ⊥) → s image n ≡ BadLength
+  pub bad-n : (image : List ℕ) (n : ℕ) → goodN n ≡ false → tallySaid (s image n) ≡ number 3
+  pub bad-length : (image : List ℕ) (n : ℕ) → goodN n ≡ true → (length image ≡ sectorSize * n → ⊥) → tallySaid (s image n) ≡ number 2
   pub counted : (image : List ℕ) (n : ℕ) → goodN n ≡ true → length image ≡ sectorSize * n → Counted image n (s image n)

@@ -7,11 +7,13 @@ use Prim.Native.Nat.{ℕ, _+_, _*_, _%_, _≤_}
 use lib.Dec.{eqb, leb}
 use lib.ListN.{length, replicate}
 use Rattle.buffer.specs.Number.{byteAt}
+use Rattle.crc.specs.Crc.{crcOf}
 use Rattle.frame.specs.Frame.{writeFrame}
-use Rattle.frame.specs.Read.{readOf}
+use Rattle.frame.specs.Read.{readOf, dataIn}
 use Rattle.frame.specs.declared.read.Footer.{Footer}
 use Rattle.frame.specs.declared.read.Footer.the-variants.{End}
-use Rattle.frame.specs.declared.read.Read.the-variants.{Write}
+use Rattle.frame.specs.declared.read.Read.the-variants.{Control, Write}
+use Rattle.flash.specs.Sector.{paddedOf}
 use Rattle.layout.specs.declared.Bank.{Bank}
 use Rattle.layout.specs.declared.Bank.the-variants.{One}
 use Rattle.layout.specs.Layout.{sectorSize, goodN, bankSize}
@@ -38,11 +40,13 @@ pub data Row : Type 0 where
   Sums : ℕ → List ℕ → ℕ → Row
   -- in such a state this datagram has this answer
   Answers : (State → Bool) → List ℕ → List ℕ → Row
+  -- in such a state a control frame with this code has this answer, whatever parameters it has
+  Codes : (State → Bool) → ℕ → List ℕ → Row
   -- with so many sectors a packet for this sector is taken, or refused 05, whatever good number of bytes it has
   Sector : ℕ → ℕ → Bool → Row
   -- a packet with so many bytes is taken, or refused 05, whatever sector of the bank it is for
   Length : ℕ → Bool → Row
-  -- a packet that was accepted, sent once more at once, is answered 1D
+  -- a packet that was accepted, sent once more at once, is answered 06 and 1D, with the CRC of the sector
   Again : Row
   -- this text has this answer
   Reads : List ℕ → Answer → Row
@@ -74,6 +78,9 @@ Holds (Sends request bytes) = requestFrame request ≡ bytes
 Holds (Sums sector bytes sum) = (footer : Footer) → byteAt (writeFrame sector bytes footer) (5 + length bytes) ≡ sum
 Holds (Answers states datagram answer) =
     (b : Board) (call : Call) → Calls b call → states (b .client .state) ≡ true → call .datagram ≡ datagram → said (stepMachine b (Datagram call)) ≡ answer
+Holds (Codes states code answer) =
+    (b : Board) (call : Call) (m : ℕ) → Calls b call → states (b .client .state) ≡ true → readOf (call .datagram) ≡ Control code m
+    → said (stepMachine b (Datagram call)) ≡ answer
 Holds (Sector n sector good) =
     (b : Board) (call : Call) (m : ℕ) → b .client .fixed .n ≡ n → goodLength m ≡ true → Brings b call sector m → Verdict good b call sector
 Holds (Length m good) =
@@ -81,7 +88,8 @@ Holds (Length m good) =
 Holds Again =
     (b : Board) (call again : Call) (sector m : ℕ) → Brings b call sector m → isStored (said (stepMachine b (Datagram call))) ≡ true
     → again .datagram ≡ call .datagram → Lends (b .client .fixed .n) again
-    → byteAt (said (stepMachine (stepMachine b (Datagram call) .board) (Datagram again))) 6 ≡ 0x1D
+    → said (stepMachine (stepMachine b (Datagram call) .board) (Datagram again))
+    ≡ writeFrame sector (writtenBytes 0x06 0x1D (crcOf (paddedOf (dataIn (call .datagram))))) End
 Holds (Reads text answer) = (bank : Bank) (n : ℕ) (image : List ℕ) → goodN n ≡ true → length image ≡ sectorSize * n → textRead text bank n image .answer ≡ answer
 
 pub data AllHold : List Row → Type 0 where
@@ -106,6 +114,7 @@ rows =
     ∷ Sums 1 (0xFF ∷ 0x80 ∷ 0x40 ∷ 0x22 ∷ []) 0x1A
     -- 3
     ∷ Answers live (0x01 ∷ 0x01 ∷ 0x60 ∷ 0x9F ∷ 0x03 ∷ []) (0x01 ∷ 0x02 ∷ 0xE0 ∷ 0x05 ∷ 0x19 ∷ 0x03 ∷ [])
+    ∷ Codes live 0x60 (0x01 ∷ 0x02 ∷ 0xE0 ∷ 0x05 ∷ 0x19 ∷ 0x03 ∷ [])
     -- 4
     ∷ Sends (WriteStart One 491) (0x01 ∷ 0x09 ∷ 0x40 ∷ 0x14 ∷ 0x00 ∷ 0x0A ∷ 0x00 ∷ 0x14 ∷ 0x03 ∷ 0xDF ∷ 0xFF ∷ 0xA4 ∷ 0x03 ∷ [])
     -- 5

@@ -10,9 +10,9 @@ use lib.ListN.{length, take, drop}
 use Rattle.frame.specs.Read.{readOf, dataIn}
 use Rattle.frame.specs.declared.read.Read.the-variants.{Write}
 use Rattle.layout.specs.Layout.{sectorSize, goodN, sectorOf}
+use Rattle.layout.specs.Said.{number, value}
 use Rattle.sender.specs.declared.made.Made.{Made}
-use Rattle.sender.specs.declared.made.Made.the-variants.{BadN, BadLength, PastLast, Frame}
-use Rattle.sender.specs.Made.{room, bufferAfter}
+use Rattle.sender.specs.Made.{room, madeSaid, bufferAfter}
 use Rattle.sender.specs.Packet.{packetCount, packetSector, footerOf, packetFrame, imageGood, packetMade}
 
 -- what a maker gives back, and the buffer then
@@ -23,6 +23,11 @@ pub record Made·Out : Type 0 where
 abbrev pub out : Made → List ℕ → Made·Out
 out answer buffer = record { answer = answer; buffer = buffer }
 
+-- refused by this number, and the buffer keeps its bytes
+pub record RefusedBy (k : ℕ) (before : List ℕ) (o : Made·Out) : Type 0 where
+  pub says : madeSaid (o .answer) ≡ number k
+  pub stays : o .buffer ≡ before
+
 -- image, N, packet number, buffer
 abbrev pub Maker : Type 0
 Maker = List ℕ → ℕ → ℕ → List ℕ → Made·Out
@@ -30,18 +35,18 @@ Maker = List ℕ → ℕ → ℕ → List ℕ → Made·Out
 -- a packet as it should be: `length` bytes at the front that read as the sector with this number, with its 512 bytes and its footer; the rest stays
 pub record Packet (image : List ℕ) (n p : ℕ) (before : List ℕ) (o : Made·Out) : Type 0 where
   pub size : ℕ
-  pub made : o .answer ≡ Frame size
+  pub made : madeSaid (o .answer) ≡ value size
   pub reads : readOf (take size (o .buffer)) ≡ Write (packetSector image n p) sectorSize (footerOf (packetCount image n) p)
   pub bytes : dataIn (take size (o .buffer)) ≡ sectorOf image (packetSector image n p)
   pub rest : drop size (o .buffer) ≡ drop size before
 
 -- 3, 2, 5, and then the packet
 pub record MeetsPackets (s : Maker) : Type 0 where
-  pub bad-n : (image : List ℕ) (n p : ℕ) (before : List ℕ) → goodN n ≡ false → s image n p before ≡ out BadN before
+  pub bad-n : (image : List ℕ) (n p : ℕ) (before : List ℕ) → goodN n ≡ false → RefusedBy 3 before (s image n p before)
   pub bad-length : (image : List ℕ) (n p : ℕ) (before : List ℕ) → goodN n ≡ true → (imageGood image n && leb room (length before)) ≡ false
-      → s image n p before ≡ out BadLength before
+      → RefusedBy 2 before (s image n p before)
   pub past : (image : List ℕ) (n p : ℕ) (before : List ℕ) → goodN n ≡ true → (imageGood image n && leb room (length before)) ≡ true
-      → packetCount image n ≤ p → s image n p before ≡ out PastLast before
+      → packetCount image n ≤ p → RefusedBy 5 before (s image n p before)
   pub packet : (image : List ℕ) (n p : ℕ) (before : List ℕ) → goodN n ≡ true → (imageGood image n && leb room (length before)) ≡ true
       → p < packetCount image n → Packet image n p before (s image n p before)
 

@@ -8,12 +8,12 @@ use Prim.Native.Nat.{ℕ, _≤_, _<_}
 use lib.ListN.{length, take, drop}
 use Rattle.layout.specs.declared.Bank.{Bank}
 use Rattle.layout.specs.Layout.{goodN}
-use Rattle.sender.specs.declared.made.Made.the-variants.{BadN, BadLength, Frame}
+use Rattle.layout.specs.Said.{value}
 use Rattle.sender.specs.declared.request.Request.{Request}
 use Rattle.sender.specs.declared.request.Request.the-variants.{WriteStart}
-use Rattle.sender.specs.Made.{room, bufferAfter}
+use Rattle.sender.specs.Made.{room, madeSaid, bufferAfter}
 use Rattle.sender.specs.Request.{requestFrame, givenGood, requestMade}
-use Rattle.demands.specs.Packets.{Made·Out, out}
+use Rattle.demands.specs.Packets.{Made·Out, out, RefusedBy}
 
 -- request, buffer
 abbrev pub Asker : Type 0
@@ -21,14 +21,14 @@ Asker = Request → List ℕ → Made·Out
 
 -- a request as it should be: its frame at the front, and the rest stays
 pub record Asked (request : Request) (before : List ℕ) (o : Made·Out) : Type 0 where
-  pub made : o .answer ≡ Frame (length (requestFrame request))
+  pub made : madeSaid (o .answer) ≡ value (length (requestFrame request))
   pub front : take (length (requestFrame request)) (o .buffer) ≡ requestFrame request
   pub rest : drop (length (requestFrame request)) (o .buffer) ≡ drop (length (requestFrame request)) before
 
 -- 3 where a write start is given a bad N, then 2 where there is no room, and then the request
 pub record MeetsRequests (s : Asker) : Type 0 where
-  pub bad-n : (bank : Bank) (n : ℕ) (before : List ℕ) → goodN n ≡ false → s (WriteStart bank n) before ≡ out BadN before
-  pub bad-length : (request : Request) (before : List ℕ) → givenGood request ≡ true → length before < room → s request before ≡ out BadLength before
+  pub bad-n : (bank : Bank) (n : ℕ) (before : List ℕ) → goodN n ≡ false → RefusedBy 3 before (s (WriteStart bank n) before)
+  pub bad-length : (request : Request) (before : List ℕ) → givenGood request ≡ true → length before < room → RefusedBy 2 before (s request before)
   pub request : (request : Request) (before : List ℕ) → givenGood request ≡ true → room ≤ length before → Asked request before (s request before)
 
 -- the maker of the contracts
