@@ -14,7 +14,8 @@ put-front-requires : tie.Need-put-front-requires
 put-front-requires c κs = search needs
 
 returns : tie.Need-returns
-returns c = ap (noticeWith (c .before .before .before .before .args .kind) (c .before .before .before .before .args .result)) ((c .before .put-front .ensures) ∙ front-whole _ (c .before .before .before .before .args .address .now) (c .before .before .before .before .pre))
+returns c = ap (noticeWith (c .before .before .before .before .args .kind) (c .before .before .before .before .args .result))
+    ((c .before .put-front .ensures) ∙ front-whole _ (c .before .before .before .before .args .address .now) (c .before .before .before .before .pre))
 
 pub notice-with-spec : {M : Type 1} → statement M
 notice-with-spec = tie.close (tie.spec slice-aggregate-put-front put-front-requires returns)

@@ -38,7 +38,8 @@ loop-holds c = (search needs, refl, refl, refl, none-taken _ _ _ _ _)
 take-slot-requires : tie.Need-take-slot-requires Inv-loop μ-loop
 take-slot-requires c κs =
     let a = (c .before .before .before .before .before .before .before .before .before .before .before .before .before .before .args) in
-    let good = sym (c .before .before .before .before .before .before .before .slots-good .ensures) ∙ not-false _ (c .before .before .before .before .before .before .if1 .left) in
+    let good = sym (c .before .before .before .before .before .before .before .slots-good .ensures) ∙ not-false _
+    (c .before .before .before .before .before .before .if1 .left) in
     (search needs, each-good (a .slots .now) _ (c .before .before .before .before .loop .k) good (search needs))
 
 given-requires : tie.Need-given-requires Inv-loop μ-loop
@@ -46,7 +47,8 @@ given-requires c κs = search needs
 
 add-k : tie.Need-add-k Inv-loop μ-loop
 add-k c =
-    let start = (c .before .before .before .before .before .before .before .before .before .before .before .before .before .before .before .before .before .before .before .before .before .before .before) in
+    let start =
+    (c .before .before .before .before .before .before .before .before .before .before .before .before .before .before .before .before .before .before .before .before .before .before .before) in
     let more = (c .before .before .before .before .before .before .before .before .before .before .before .before .loop-test .taken) in
     omega arith
 

@@ -27,17 +27,28 @@ lf-at-requires c κs = search needs
 returns-2 : tie.Need-returns-2
 returns-2 c =
     let a = (c .before .before .before .before .before .before .before .args) in
-    sym (end-here (a .text .now) (a .i) (c .before .before .before .before .before .before .before .pre) ∙ simp (ne-eqb _ 10 (c .before .before .before .before .if1 .left), eq-eqb _ 13 (c .before .before .if2 .taken), sym (c .before .lf-at .ensures) ∙ (c .if3 .taken)))
+    sym (end-here (a .text .now) (a .i) (c .before .before .before .before .before .before .before .pre) ∙ simp (
+      ne-eqb _ 10 (c .before .before .before .before .if1 .left),
+      eq-eqb _ 13 (c .before .before .if2 .taken),
+      sym
+          (c .before .lf-at .ensures) ∙ (c .if3 .taken),
+    ))
 
 returns-3 : tie.Need-returns-3
 returns-3 c =
     let a = (c .before .before .before .before .before .before .before .args) in
-    sym (end-here (a .text .now) (a .i) (c .before .before .before .before .before .before .before .pre) ∙ simp (ne-eqb _ 10 (c .before .before .before .before .if1 .left), eq-eqb _ 13 (c .before .before .if2 .taken), sym (c .before .lf-at .ensures) ∙ (c .if3 .left)))
+    sym (end-here (a .text .now) (a .i) (c .before .before .before .before .before .before .before .pre) ∙ simp (
+      ne-eqb _ 10 (c .before .before .before .before .if1 .left),
+      eq-eqb _ 13 (c .before .before .if2 .taken),
+      sym
+          (c .before .lf-at .ensures) ∙ (c .if3 .left),
+    ))
 
 returns-4 : tie.Need-returns-4
 returns-4 c =
     let a = (c .before .before .before .before .before .args) in
-    sym (end-here (a .text .now) (a .i) (c .before .before .before .before .before .pre) ∙ simp (ne-eqb _ 10 (c .before .before .if1 .left), ne-eqb _ 13 (c .if2 .left)))
+    sym (end-here (a .text .now) (a .i) (c .before .before .before .before .before .pre) ∙ simp
+    (ne-eqb _ 10 (c .before .before .if1 .left), ne-eqb _ 13 (c .if2 .left)))
 
 pub end-at-spec : {M : Type 1} → statement M
 end-at-spec =

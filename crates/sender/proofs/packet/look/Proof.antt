@@ -30,22 +30,65 @@ blank-requires : tie.Need-blank-requires
 blank-requires c κs = search needs
 
 returns : tie.Need-returns
-returns c = seen-blank (c .before .before .before .before .before .args .image .now) (c .before .before .before .before .before .args .p) (c .before .before .before .before .before .args .k) (c .before .before .before .before .before .args .seen) (c .before .before .before .before .before .pre .1 .1) (sym (looked-at (c .before .before .before .before .before .args .image .now) (c .before .before .before .before .before .args .k) (c .before .before .before .sector-offset .result) (c .before .blank .result) (c .before .before .before .before .before .pre .0) (c .before .before .before .sector-offset .ensures) (c .before .blank .ensures)) ∙ (c .if1 .taken))
+returns c = seen-blank (c .before .before .before .before .before .args .image .now) (c .before .before .before .before .before .args .p)
+    (c .before .before .before .before .before .args .k) (c .before .before .before .before .before .args .seen)
+    (c .before .before .before .before .before .pre .1 .1)
+    (sym (looked-at (c .before .before .before .before .before .args .image .now) (c .before .before .before .before .before .args .k)
+    (c .before .before .before .sector-offset .result) (c .before .blank .result) (c .before .before .before .before .before .pre .0)
+    (c .before .before .before .sector-offset .ensures) (c .before .blank .ensures)) ∙ (c .if1 .taken))
 
 add-t13 : tie.Need-add-t13
-add-t13 c = omega (arith, sent-few (c .before .before .before .before .before .before .before .before .args .image .now) (c .before .before .before .before .before .before .before .before .args .k), seen-count (c .before .before .before .before .before .before .before .before .args .image .now) (c .before .before .before .before .before .before .before .before .args .p) (c .before .before .before .before .before .before .before .before .args .k) _ (c .before .before .before .before .before .before .before .before .pre .1 .1))
+add-t13 c = omega (
+  arith,
+  sent-few (c .before .before .before .before .before .before .before .before .args .image .now)
+      (c .before .before .before .before .before .before .before .before .args .k),
+  seen-count
+      (c .before .before .before .before .before .before .before .before .args .image .now)
+      (c .before .before .before .before .before .before .before .before .args .p)
+      (c .before .before .before .before .before .before .before .before .args .k) _
+      (c .before .before .before .before .before .before .before .before .pre .1 .1),
+)
 
 add-t14 : tie.Need-add-t14
 add-t14 c = search needs
 
 returns-2 : tie.Need-returns-2
-returns-2 c = seen-here (c .before .before .before .before .before .before .before .before .args .image .now) (c .before .before .before .before .before .before .before .before .args .p) (c .before .before .before .before .before .before .before .before .args .k) (c .before .before .before .before .before .before .before .before .args .seen) (c .before .before .before .before .before .before .before .before .pre .1 .1) (sym (looked-at (c .before .before .before .before .before .before .before .before .args .image .now) (c .before .before .before .before .before .before .before .before .args .k) (c .before .before .before .before .before .before .sector-offset .result) (c .before .before .before .before .blank .result) (c .before .before .before .before .before .before .before .before .pre .0) (c .before .before .before .before .before .before .sector-offset .ensures) (c .before .before .before .before .blank .ensures)) ∙ (c .before .before .before .if1 .left)) (c .before .if2 .taken)
+returns-2 c = seen-here (c .before .before .before .before .before .before .before .before .args .image .now)
+    (c .before .before .before .before .before .before .before .before .args .p)
+    (c .before .before .before .before .before .before .before .before .args .k)
+    (c .before .before .before .before .before .before .before .before .args .seen)
+    (c .before .before .before .before .before .before .before .before .pre .1 .1)
+    (sym (looked-at (c .before .before .before .before .before .before .before .before .args .image .now)
+    (c .before .before .before .before .before .before .before .before .args .k)
+    (c .before .before .before .before .before .before .sector-offset .result) (c .before .before .before .before .blank .result)
+    (c .before .before .before .before .before .before .before .before .pre .0)
+    (c .before .before .before .before .before .before .sector-offset .ensures) (c .before .before .before .before .blank .ensures)) ∙
+    (c .before .before .before .if1 .left)) (c .before .if2 .taken)
 
 add-t7 : tie.Need-add-t7
-add-t7 c = omega (arith, sent-few (c .before .before .before .before .before .before .before .before .args .image .now) (c .before .before .before .before .before .before .before .before .args .k), seen-count (c .before .before .before .before .before .before .before .before .args .image .now) (c .before .before .before .before .before .before .before .before .args .p) (c .before .before .before .before .before .before .before .before .args .k) _ (c .before .before .before .before .before .before .before .before .pre .1 .1))
+add-t7 c = omega (
+  arith,
+  sent-few (c .before .before .before .before .before .before .before .before .args .image .now)
+      (c .before .before .before .before .before .before .before .before .args .k),
+  seen-count
+      (c .before .before .before .before .before .before .before .before .args .image .now)
+      (c .before .before .before .before .before .before .before .before .args .p)
+      (c .before .before .before .before .before .before .before .before .args .k) _
+      (c .before .before .before .before .before .before .before .before .pre .1 .1),
+)
 
 returns-3 : tie.Need-returns-3
-returns-3 c = seen-other (c .before .before .before .before .before .before .before .before .args .image .now) (c .before .before .before .before .before .before .before .before .args .p) (c .before .before .before .before .before .before .before .before .args .k) (c .before .before .before .before .before .before .before .before .args .seen) (c .before .before .before .before .before .before .before .before .pre .1 .1) (sym (looked-at (c .before .before .before .before .before .before .before .before .args .image .now) (c .before .before .before .before .before .before .before .before .args .k) (c .before .before .before .before .before .before .sector-offset .result) (c .before .before .before .before .blank .result) (c .before .before .before .before .before .before .before .before .pre .0) (c .before .before .before .before .before .before .sector-offset .ensures) (c .before .before .before .before .blank .ensures)) ∙ (c .before .before .before .if1 .left)) (c .before .if2 .left)
+returns-3 c = seen-other (c .before .before .before .before .before .before .before .before .args .image .now)
+    (c .before .before .before .before .before .before .before .before .args .p)
+    (c .before .before .before .before .before .before .before .before .args .k)
+    (c .before .before .before .before .before .before .before .before .args .seen)
+    (c .before .before .before .before .before .before .before .before .pre .1 .1)
+    (sym (looked-at (c .before .before .before .before .before .before .before .before .args .image .now)
+    (c .before .before .before .before .before .before .before .before .args .k)
+    (c .before .before .before .before .before .before .sector-offset .result) (c .before .before .before .before .blank .result)
+    (c .before .before .before .before .before .before .before .before .pre .0)
+    (c .before .before .before .before .before .before .sector-offset .ensures) (c .before .before .before .before .blank .ensures)) ∙
+    (c .before .before .before .if1 .left)) (c .before .if2 .left)
 
 pub look-spec : {M : Type 1} → statement M
 look-spec =

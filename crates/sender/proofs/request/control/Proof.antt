@@ -19,7 +19,8 @@ same-length : tie.Need-same-length
 same-length c = search needs
 
 returns-2 : tie.Need-returns-2
-returns-2 c = control-made _ _ _ _ (c .before .before .before .before .before .before .before .pre) (omega arith) (c .before .before .put-control .ensures)
+returns-2 c = control-made _ _ _ _ (c .before .before .before .before .before .before .before .pre) (omega arith)
+    (c .before .before .put-control .ensures)
 
 pub control-spec : {M : Type 1} → statement M
 control-spec = tie.close (tie.spec returns put-control-requires add-t9 same-length returns-2)

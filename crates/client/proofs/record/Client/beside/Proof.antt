@@ -27,7 +27,10 @@ same-length-2 c = search needs
 
 -- src/step.rt:110:13
 returns : tie.Need-returns
-returns c = let a = (c .before .before .before .before .before .before .before .before .before .before .before .before .before .before .before .args) in beside-bad (a .self) (a .target .now) (a .marks .now) (a .address .now) (a .buffer .now) (a .datagram .now) _ _ _ (a .running) (sym (c .before .before .before .before .before .before .before .before .before .good-n .ensures) ∙ not-true _ (c .before .before .before .before .before .before .before .before .if1 .taken)) (c .before .before .before .before .carry .ensures)
+returns c = let a = (c .before .before .before .before .before .before .before .before .before .before .before .before .before .before .before .args) in
+    beside-bad (a .self) (a .target .now) (a .marks .now) (a .address .now) (a .buffer .now) (a .datagram .now) _ _ _ (a .running)
+    (sym (c .before .before .before .before .before .before .before .before .before .good-n .ensures) ∙ not-true _
+    (c .before .before .before .before .before .before .before .before .if1 .taken)) (c .before .before .before .before .carry .ensures)
 
 -- src/step.rt:112:23
 bank-size-requires : tie.Need-bank-size-requires
@@ -52,7 +55,10 @@ same-length-4 c = search needs
 -- src/step.rt:114:13
 returns-2 : tie.Need-returns-2
 returns-2 c = let a = (c .before .before .before .before .before .before .before .before .before .before .before .before .before .before .before .before .before .args) in
-    beside-wrong (a .self) (a .target .now) (a .marks .now) (a .address .now) (a .buffer .now) (a .datagram .now) _ _ _ (a .running) (sym (c .before .before .before .before .before .before .before .before .before .before .before .good-n .ensures) ∙ not-false _ (c .before .before .before .before .before .before .before .before .before .before .if1 .left)) _ (c .before .before .before .before .before .before .before .before .before .bank-size .ensures)
+    beside-wrong (a .self) (a .target .now) (a .marks .now) (a .address .now) (a .buffer .now) (a .datagram .now) _ _ _ (a .running)
+    (sym (c .before .before .before .before .before .before .before .before .before .before .before .good-n .ensures) ∙ not-false _
+    (c .before .before .before .before .before .before .before .before .before .before .if1 .left)) _
+    (c .before .before .before .before .before .before .before .before .before .bank-size .ensures)
     (c .before .before .before .before .before .before .before .before .if2 .taken) (c .before .before .before .before .carry2 .ensures)
 
 -- src/step.rt:116:9
@@ -70,7 +76,10 @@ same-length-6 c = search needs
 -- src/step.rt:96:5
 returns-3 : tie.Need-returns-3
 returns-3 c = let a = (c .before .before .before .before .before .before .before .before .before .before .before .before .before .before .before .before .args) in
-    beside-right (a .self) (a .target .now) (a .marks .now) (a .address .now) (a .buffer .now) (a .datagram .now) _ _ _ (a .running) (sym (c .before .before .before .before .before .before .before .before .before .before .good-n .ensures) ∙ not-false _ (c .before .before .before .before .before .before .before .before .before .if1 .left)) _ (c .before .before .before .before .before .before .before .before .bank-size .ensures)
+    beside-right (a .self) (a .target .now) (a .marks .now) (a .address .now) (a .buffer .now) (a .datagram .now) _ _ _ (a .running)
+    (sym (c .before .before .before .before .before .before .before .before .before .before .good-n .ensures) ∙ not-false _
+    (c .before .before .before .before .before .before .before .before .before .if1 .left)) _
+    (c .before .before .before .before .before .before .before .before .bank-size .ensures)
     (c .before .before .before .before .before .before .before .if2 .left) (c .before .before .before .before .take .ensures)
 
 pub beside-spec : {M : Type 1} → statement M

@@ -22,7 +22,9 @@ responds-requires c κs = search needs
 
 returns : tie.Need-returns
 returns c = let a = (c .before .before .before .before .before .before .before .before .args) in
-    checked-good (a .self) (a .target .now) _ (c .before .before .before .before .before .fit .ensures) _ _ (c .before .before .before .before .if1 .taken) _ _ (c .before .before .other .ensures) (c .before .before .before .ended .ensures) (c .before .starting .ensures) (c .responds .ensures)
+    checked-good (a .self) (a .target .now) _ (c .before .before .before .before .before .fit .ensures) _ _
+    (c .before .before .before .before .if1 .taken) _ _ (c .before .before .other .ensures) (c .before .before .before .ended .ensures)
+    (c .before .starting .ensures) (c .responds .ensures)
 
 ended-requires-2 : tie.Need-ended-requires-2
 ended-requires-2 c κs = search needs
@@ -31,7 +33,9 @@ responds-requires-2 : tie.Need-responds-requires-2
 responds-requires-2 c κs = search needs
 
 returns-2 : tie.Need-returns-2
-returns-2 c = let a = (c .before .before .before .before .before .before .args) in checked-bad (a .self) (a .target .now) _ (c .before .before .before .fit .ensures) _ _ (c .before .before .if1 .left) (c .before .ended2 .ensures) (c .responds2 .ensures)
+returns-2 c = let a = (c .before .before .before .before .before .before .args) in
+    checked-bad (a .self) (a .target .now) _ (c .before .before .before .fit .ensures) _ _ (c .before .before .if1 .left)
+    (c .before .ended2 .ensures) (c .responds2 .ensures)
 
 pub checked-spec : {M : Type 1} → statement M
 checked-spec =

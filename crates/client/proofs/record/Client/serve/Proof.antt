@@ -41,7 +41,8 @@ enum-known-plan-2 : tie.Need-enum-known-plan-2
 enum-known-plan-2 c = search needs
 
 store-requires : tie.Need-store-requires
-store-requires c κs = let p = rw (c .before .before .plan2 .given .1) at (c .before .before .before .before .before .before .pre) in ((p .first, p .last), p .inside)
+store-requires c κs = let p = rw (c .before .before .plan2 .given .1) at (c .before .before .before .before .before .before .pre) in
+    ((p .first, p .last), p .inside)
 
 enum-told-4 : tie.Need-enum-told-4
 enum-told-4 c = search needs

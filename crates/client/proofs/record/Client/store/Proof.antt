@@ -25,7 +25,9 @@ same-length c = search needs
 
 returns : tie.Need-returns
 returns c = let a = (c .before .before .before .before .before .before .before .before .before .before .before .args) in
-    store-is (a .self) _ (a .target .now) _ (a .bytes .now) (a .sector) _ _ _ _ (c .before .before .before .before .before .before .before .write-at .ensures) (c .before .before .before .before .blank .ensures) (c .before .before .before .store-result .ensures) (c .before .sector-crc .ensures)
+    store-is (a .self) _ (a .target .now) _ (a .bytes .now) (a .sector) _ _ _ _
+    (c .before .before .before .before .before .before .before .write-at .ensures) (c .before .before .before .before .blank .ensures)
+    (c .before .before .before .store-result .ensures) (c .before .sector-crc .ensures)
     (c .marked .ensures)
 
 pub store-spec : {M : Type 1} → statement M

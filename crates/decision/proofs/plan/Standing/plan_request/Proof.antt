@@ -14,7 +14,8 @@ declined-requires c κs = search needs
 
 -- src/plan.rt:189:13
 returns : tie.Need-returns
-returns c = let a = (c .before .before .before .before .args) in request-unfit (a .self) (a .request) (a .marks .now) _ (c .before .before .fits-state .ensures) _ (c .declined .ensures) (c .before .if1 .taken)
+returns c = let a = (c .before .before .before .before .args) in
+    request-unfit (a .self) (a .request) (a .marks .now) _ (c .before .before .fits-state .ensures) _ (c .declined .ensures) (c .before .if1 .taken)
 
 -- src/plan.rt:193:17
 enum-known-request : tie.Need-enum-known-request
@@ -36,13 +37,15 @@ plan-packet-requires c κs = search needs
 returns-2 : tie.Need-returns-2
 unfolding planGood
 returns-2 c = let a = (c .before .before .before .before .before .before .before .args) in
-    request-fit (a .self) (a .request) (a .marks .now) _ (c .before .before .before .before .before .fits-state .ensures) _ (c .before .before .before .before .if1 .left) (rw (c .before .before .request .given .1) (c .plan-control .ensures))
+    request-fit (a .self) (a .request) (a .marks .now) _ (c .before .before .before .before .before .fits-state .ensures) _
+    (c .before .before .before .before .if1 .left) (rw (c .before .before .request .given .1) (c .plan-control .ensures))
 
 -- src/plan.rt:183:5
 returns-3 : tie.Need-returns-3
 unfolding planGood
 returns-3 c = let a = (c .before .before .before .before .before .before .before .args) in
-    request-fit (a .self) (a .request) (a .marks .now) _ (c .before .before .before .before .before .fits-state .ensures) _ (c .before .before .before .before .if1 .left) (rw (c .before .before .request2 .given .1) (c .plan-packet .ensures))
+    request-fit (a .self) (a .request) (a .marks .now) _ (c .before .before .before .before .before .fits-state .ensures) _
+    (c .before .before .before .before .if1 .left) (rw (c .before .before .request2 .given .1) (c .plan-packet .ensures))
 
 pub plan-request-spec : {M : Type 1} → statement M
 plan-request-spec =
