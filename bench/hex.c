@@ -8,7 +8,7 @@
 #include "now.h"
 #include "plain.h"
 
-size_t hex_read(const uint8_t *text, size_t length, size_t n, uint8_t *image, size_t size);
+size_t hex_read(const uint8_t *text, size_t length, size_t n, uint8_t *image, size_t size, size_t *told, size_t room);
 
 enum { N = 491, SIZE = N * 512, START = 0x10000A00, LENGTH = 707121 };
 
@@ -41,13 +41,14 @@ static void write_out(size_t size) {
     record(1, 0, 0, 0);
 }
 
-typedef size_t reader(const uint8_t *, size_t, size_t, uint8_t *, size_t);
+typedef size_t reader(const uint8_t *, size_t, size_t, uint8_t *, size_t, size_t *, size_t);
 
 static double timed(reader *by, uint8_t *into) {
+    size_t told[2] = {1, 1};
     double start = now();
-    size_t said = by((const uint8_t *)text, length, N, into, SIZE);
+    size_t said = by((const uint8_t *)text, length, N, into, SIZE, told, 2);
     double took = now() - start;
-    if (said != 0 || memcmp(into, bytes, SIZE)) {
+    if (said != 0 || told[0] != 0 || told[1] != 0 || memcmp(into, bytes, SIZE)) {
         printf("hex: refused by %zu, or another image\n", said);
         exit(1);
     }

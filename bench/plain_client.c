@@ -167,9 +167,9 @@ static size_t frame_error(uint8_t *buffer) {
 
 static size_t step(struct client *c, uint8_t *bank0, size_t size0, uint8_t *bank1, size_t size1, const uint8_t *marks, size_t mark_count,
                    size_t address_length, uint8_t *buffer, size_t room, const uint8_t *d, size_t length) {
-    if (c->n < 1 || c->n > MOST) return 0;
-    if (size0 != c->n * SECTOR || size1 != c->n * SECTOR || mark_count != c->n || address_length != ADDRESS || room < BUFFER) return 0;
-    if (c->state == CLOSED) return 0;
+    if (c->n < 1 || c->n > MOST) return 3;
+    if (size0 != c->n * SECTOR || size1 != c->n * SECTOR || mark_count != c->n || address_length != ADDRESS || room < BUFFER) return 2;
+    if (c->state == CLOSED) return 1;
     uint8_t *target = c->running ? bank0 : bank1;
     if (length >= 5 && d[0] == 0x01) {
         if (d[1] < 1 || length != d[1] + 4u || d[length - 2] != checksum(d + 1, length - 3) || d[length - 1] != 0x03)
@@ -191,9 +191,11 @@ size_t plain_take(crc_of *crc, size_t n, const uint8_t *slots, size_t length, ui
     struct client c = {.n = n, .state = n >= 1 && n <= MOST ? IDLE : CLOSED, .crc = crc};
     size_t told = 0;
     (void)address;
+    for (size_t k = 0; k < length / SLOT; k++)
+        if (number(slots + k * SLOT, 2) > SLOT - 2) return 2;
     for (size_t k = 0; k < length / SLOT; k++) {
         const uint8_t *slot = slots + k * SLOT;
-        told = step(&c, bank0, size0, bank1, size1, marks, mark_count, address_length, buffer, room, slot + 2, number(slot, 2) % (SLOT - 1));
+        told = step(&c, bank0, size0, bank1, size1, marks, mark_count, address_length, buffer, room, slot + 2, number(slot, 2));
     }
     return told;
 }

@@ -14,10 +14,12 @@ static const uint8_t values[256] = {
 
 static int digit(uint8_t c) { return values[c] - 1; }
 
-static int lines(const uint8_t *text, size_t length, uint8_t *image, size_t size) {
+// The fault of the first faulty line, whose number is left in `line`; 0 if there is none.
+static size_t lines(const uint8_t *text, size_t length, uint8_t *image, size_t size, size_t *line) {
     const uint8_t *p = text, *end = text + length;
     uint64_t upper = 0, last = 0;
     int over = 0;
+    *line = 1;
     while (p < end) {
         const uint8_t *feed = memchr(p, '\n', end - p), *stop = feed ? feed : end;
         const uint8_t *next = feed ? feed + 1 : end;
@@ -63,15 +65,25 @@ static int lines(const uint8_t *text, size_t length, uint8_t *image, size_t size
             return H3;
         }
         p = next;
+        ++*line;
     }
     return over ? 0 : H6;
 }
 
-size_t plain_hex_read(const uint8_t *text, size_t length, size_t n, uint8_t *image, size_t size) {
-    if (n < 1 || n > MOST) return 3;
-    if (size != n * SECTOR) return 2;
-    memset(image, 0xff, size);
-    int fault = lines(text, length, image, size);
-    if (fault) memset(image, 0xff, size);
-    return fault;
+size_t plain_hex_read(const uint8_t *text, size_t length, size_t n, uint8_t *image, size_t size, size_t *told, size_t room) {
+    size_t number = 0, line = 0;
+    if (room < 2) return 2;
+    if (n < 1 || n > MOST) {
+        number = 3;
+    } else if (size != n * SECTOR) {
+        number = 2;
+    } else {
+        memset(image, 0xff, size);
+        number = lines(text, length, image, size, &line);
+        if (number) memset(image, 0xff, size);
+        else line = 0;
+    }
+    told[0] = number;
+    told[1] = line;
+    return number;
 }

@@ -1,42 +1,43 @@
 -- `exports::slots::take_slot` meets its contract: the part of the slots behind the length is the datagram.
 -- Assumes nothing.
 use Rattle.exports.proofs.Taking.{slot-stepped}
+use native.Mathlib.Omega.{arith}
 use borrow.Author.Needs.{needs}
 use Rattle.exports.proofs.slots.take_slot.Statement.{statement}
 use Rattle.exports.proofs.slots.take_slot.Tie as tie
 
 mul-from : tie.Need-mul-from
-mul-from c = search needs
+mul-from c = omega arith
 
 add-from : tie.Need-add-from
-add-from c = search needs
+add-from c = omega arith
 
 size-at-requires : tie.Need-size-at-requires
 size-at-requires c κs = search needs
 
 add-to : tie.Need-add-to
-add-to c = search needs
+add-to c = omega arith
 
 sub-step : tie.Need-sub-step
-sub-step c = search needs
+sub-step c = omega arith
 
 part-step-start : tie.Need-part-step-start
-part-step-start c = search needs
+part-step-start c = omega arith
 
 part-step-end : tie.Need-part-step-end
-part-step-end c = search needs
+part-step-end c = omega arith
 
 step-requires : tie.Need-step-requires
 step-requires c κs = search needs
 
 same-length : tie.Need-same-length
-same-length c = search needs
+same-length c = c .before .before .before .before .before .before .step .kept .1 .0
 
 same-length-2 : tie.Need-same-length-2
-same-length-2 c = search needs
+same-length-2 c = c .before .before .before .before .before .before .step .kept .1 .1 .0
 
 same-length-3 : tie.Need-same-length-3
-same-length-3 c = search needs
+same-length-3 c = c .before .before .before .before .before .before .step .kept .1 .1 .1 .1 .1 .0
 
 returns : tie.Need-returns
 returns c =
