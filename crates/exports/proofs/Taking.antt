@@ -22,7 +22,8 @@ use Rattle.client.specs.Step.{Carried, stepOf, Step·Is}
 use Rattle.calls.specs.Call.{Call, Kept, kept, stepped, keptAfter, afterSteps, camesOf}
 use Rattle.calls.proofs.Again.{steps-more, cames-more, Likewise, step-lent}
 use Rattle.calls.proofs.Beside.{step-said}
-use Rattle.exports.specs.Slots.{slotCount, sizeAt, datagramAt, slotsGood, callsOf, givenOf, Run, ran, lastGiven, saidNext, runOf, fresh, slotsTaken, TakeSlots·Is}
+use Rattle.exports.specs.Slots.{slotCount, sizeAt, datagramAt, slotsGood, callsOf, fresh, slotsTaken, TakeSlots·Is}
+use Rattle.exports.specs.Slots.{givenOf, Run, ran, lastGiven, saidNext, runOf}
 
 -- ---- slots looked at
 
@@ -135,8 +136,8 @@ module _ (n : ℕ) (slots bank0 bank1 marks address buffer : List ℕ) where
   unfolding slotsTaken
   slots-refused e = record { given = rw e; bank-zero = rw e; bank-one = rw e; buffer-left = rw e }
 
-  pub slots-taken : (c : Client) (told : ℕ) (bank0′ bank1′ said : List ℕ) (made : Client) (k : ℕ) → slotsGood slots (slotCount slots) ≡ true
-      → made ≡ fresh n → k ≡ slotCount slots
+  pub slots-taken : (c : Client) (told : ℕ) (bank0′ bank1′ said : List ℕ) (made : Client) (k : ℕ)
+      → slotsGood slots (slotCount slots) ≡ true → made ≡ fresh n → k ≡ slotCount slots
       → ran told (kept c (banks bank0′ bank1′)) said ≡ runAt slots marks address buffer (kept made (banks bank0 bank1)) k
       → TakeSlots·Is n slots bank0 bank1 marks address buffer told bank0′ bank1′ said
   unfolding slotsTaken

@@ -30,7 +30,8 @@ not-told {told = told} h =
     record { number-is = rw no; image-is = rw no; told-is = none-stored told _ _ h }
 
 pub both-told : {text : List ℕ} {n : ℕ} {image told image′ : List ℕ} {answer : Answer} {number line : ℕ}
-    → 2 ≤ length told → Read·Is text Zero n image image′ answer → number ≡ code (answerSaid answer) → line ≡ lineSaid (answerSaid answer)
+    → 2 ≤ length told → Read·Is text Zero n image image′ answer
+    → number ≡ code (answerSaid answer) → line ≡ lineSaid (answerSaid answer)
     → ReadNumbers·Is text n image told number image′ (set (set told 0 number) 1 line)
 both-told {told = told} {number = number} {line = line} h r e f =
     let yes = le-leb 2 (length told) h in

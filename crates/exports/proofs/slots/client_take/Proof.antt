@@ -38,8 +38,8 @@ loop-holds c = (search needs, refl, refl, refl, none-taken _ _ _ _ _)
 take-slot-requires : tie.Need-take-slot-requires Inv-loop μ-loop
 take-slot-requires c κs =
     let a = (c .before .before .before .before .before .before .before .before .before .before .before .before .before .before .args) in
-    let good = sym (c .before .before .before .before .before .before .before .slots-good .ensures) ∙ not-false _
-    (c .before .before .before .before .before .before .if1 .left) in
+    let looked = (c .before .before .before .before .before .before) in
+    let good = sym (looked .before .slots-good .ensures) ∙ not-false _ (looked .if1 .left) in
     (search needs, each-good (a .slots .now) _ (c .before .before .before .before .loop .k) good (search needs))
 
 given-requires : tie.Need-given-requires Inv-loop μ-loop
@@ -47,9 +47,9 @@ given-requires c κs = search needs
 
 add-k : tie.Need-add-k Inv-loop μ-loop
 add-k c =
-    let start =
-    (c .before .before .before .before .before .before .before .before .before .before .before .before .before .before .before .before .before .before .before .before .before .before .before) in
-    let more = (c .before .before .before .before .before .before .before .before .before .before .before .before .loop-test .taken) in
+    let turn = (c .before .before .before .before .before .before .before .before .before .before .before .before) in
+    let start = (turn .before .before .before .before .before .before .before .before .before .before .before) in
+    let more = (turn .loop-test .taken) in
     omega arith
 
 loop-less : tie.Need-loop-less Inv-loop μ-loop
@@ -57,8 +57,9 @@ loop-less c = search needs
 
 loop-again : tie.Need-loop-again Inv-loop μ-loop
 loop-again c =
-    let l = (c .before .before .before .before .before .before .before .before .before .before .before .before .before .loop) in
-    let more = (c .before .before .before .before .before .before .before .before .before .before .before .before .loop-test .taken) in
+    let turn = (c .before .before .before .before .before .before .before .before .before .before .before .before) in
+    let l = (turn .before .loop) in
+    let more = (turn .loop-test .taken) in
     let s = (c .before .before .before .before .before .before .before .before .take-slot) in
     let zero : length (s .last .1 .1 .1 .0) ≡ length (l .bank0) = s .kept .1 .1 .1 .0 in
     let one : length (s .last .1 .1 .1 .1 .0) ≡ length (l .bank1) = s .kept .1 .1 .1 .1 .0 in
