@@ -40,7 +40,7 @@ askedByCode (Is command) n parameters = counted command n parameters
 unfoldable pub askedBy : List ℕ → Read → Asked
 askedBy parameters read.Fault = Fault
 askedBy parameters (read.Control code n) = askedByCode (requestedBy code) n parameters
-askedBy parameters (read.Write sector length footer) = Right (Packet sector length)
+askedBy parameters (read.Write sector m footer) = Right (Packet sector m)
 
 abbrev pub askedOf : List ℕ → Asked
 askedOf datagram = askedBy (parametersIn datagram) (readOf datagram)
@@ -57,7 +57,7 @@ acceptedIn ModeEnd = state.Control
 -- and "Write packet in write state"
 abbrev pub stateFor : Request → State
 stateFor (Control command start end) = acceptedIn command
-stateFor (Packet sector length) = state.Write
+stateFor (Packet sector m) = state.Write
 
 -- whether a request is accepted in a state
 abbrev pub fitsState : State → Request → Bool
@@ -65,8 +65,13 @@ fitsState s request = eqb (stateNumber s) (stateNumber (stateFor request))
 
 -- a result other than 06 "in the command's own response"; of a write packet "the write result repeats it" and the CRC field is 0
 abbrev pub declinedOf : Request → ℕ → Answer
+<<<<<<< ours
 declinedOf (Control command start end) result = Response command result
 declinedOf (Packet sector length) result = Written sector result result 0
+=======
+declinedOf (Control command start end) result = ownResponse command result
+declinedOf (Packet sector m) result = Written sector result result 0
+>>>>>>> theirs
 
 -- the contracts
 abbrev pub Asked·Is : List ℕ → Asked → Type 0
