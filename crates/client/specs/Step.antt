@@ -137,12 +137,12 @@ abbrev pub stepSays : Client → Banks → List ℕ → List ℕ → List ℕ �
 stepSays c pair marks address buffer =
     besideSays c (length (bankIn (c .fixed .running) pair)) (bankIn (otherOf (c .fixed .running)) pair) marks address buffer
 
-pub record Step·Is (c : Client) (bank0 bank1 marks address buffer datagram : List ℕ) (r : Stepped) (zero one answered : List ℕ) : Type 0 where
+pub record Step·Is (c : Client) (bank0 bank1 marks address buffer datagram : List ℕ) (r : Stepped) (left0 left1 answered : List ℕ) : Type 0 where
   pub client : r .client ≡ stepOf c (banks bank0 bank1) marks address buffer datagram .client
   pub answer : r .answer ≡ stepOf c (banks bank0 bank1) marks address buffer datagram .answer
   pub says : answerNumber (r .answer) ≡ stepSays c (banks bank0 bank1) marks address buffer
   pub told : r .length ≡ stepOf c (banks bank0 bank1) marks address buffer datagram .told
   pub notice : r .notice ≡ stepOf c (banks bank0 bank1) marks address buffer datagram .notice
-  pub bank-zero : zero ≡ banksAfter c (banks bank0 bank1) (stepOf c (banks bank0 bank1) marks address buffer datagram) .zero
-  pub bank-one : one ≡ banksAfter c (banks bank0 bank1) (stepOf c (banks bank0 bank1) marks address buffer datagram) .one
+  pub bank-zero : left0 ≡ banksAfter c (banks bank0 bank1) (stepOf c (banks bank0 bank1) marks address buffer datagram) .zero
+  pub bank-one : left1 ≡ banksAfter c (banks bank0 bank1) (stepOf c (banks bank0 bank1) marks address buffer datagram) .one
   pub said : answered ≡ stepOf c (banks bank0 bank1) marks address buffer datagram .buffer

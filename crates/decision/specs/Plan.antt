@@ -43,8 +43,8 @@ parameterFault request = declinedOf request 0x05
 
 -- value faults of a packet: its sector ("0 or above N") and the number of its bytes
 unfoldable pub valuesGood : ℕ → ℕ → ℕ → Bool
-valuesGood n sector length =
-    leb 1 sector && (leb sector n && (leb 1 length && (leb length sectorSize && eqb (length % 4) 0)))
+valuesGood n sector m =
+    leb 1 sector && (leb sector n && (leb 1 m && (leb m sectorSize && eqb (m % 4) 0)))
 
 -- of a write start: "any address pair but the target's"
 unfoldable pub addressesGood : ℕ → Bank → ℕ → ℕ → Bool
@@ -60,10 +60,10 @@ planEnd marks = cond (anyWorn marks) Wear Finish
 
 -- values, then worn: "response result 06 and write result 1C"
 unfoldable pub planPacket : ℕ → List ℕ → ℕ → ℕ → Plan
-planPacket n marks sector length =
-    cond (valuesGood n sector length)
+planPacket n marks sector m =
+    cond (valuesGood n sector m)
     (cond (isWorn (getD marks (sector - 1) 0)) (Keep (Written sector 0x06 0x1C 0)) (Store sector))
-    (Keep (parameterFault (Packet sector length)))
+    (Keep (parameterFault (Packet sector m)))
 
 -- what a command leads to in its state
 unfoldable pub planControl : Fixed → Command → ℕ → ℕ → List ℕ → Plan
@@ -77,7 +77,7 @@ planControl fixed ModeEnd start end marks = Leave
 -- what a request leads to in its state
 unfoldable pub planGood : Fixed → Request → List ℕ → Plan
 planGood fixed (Control command start end) marks = planControl fixed command start end marks
-planGood fixed (Packet sector length) marks = planPacket (fixed .n) marks sector length
+planGood fixed (Packet sector m) marks = planPacket (fixed .n) marks sector m
 
 -- the state test, for control and write frames alike
 unfoldable pub planRequest : Standing → Request → List ℕ → Plan

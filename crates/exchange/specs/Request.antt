@@ -65,13 +65,8 @@ fitsState s request = eqb (stateNumber s) (stateNumber (stateFor request))
 
 -- a result other than 06 "in the command's own response"; of a write packet "the write result repeats it" and the CRC field is 0
 abbrev pub declinedOf : Request → ℕ → Answer
-<<<<<<< ours
 declinedOf (Control command start end) result = Response command result
-declinedOf (Packet sector length) result = Written sector result result 0
-=======
-declinedOf (Control command start end) result = ownResponse command result
 declinedOf (Packet sector m) result = Written sector result result 0
->>>>>>> theirs
 
 -- the contracts
 abbrev pub Asked·Is : List ℕ → Asked → Type 0

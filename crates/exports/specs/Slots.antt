@@ -90,8 +90,8 @@ slotsTaken n slots bank0 bank1 marks address buffer =
     (runOf buffer (atFirst n bank0 bank1) (callsOf slots marks address buffer (slotCount slots)))
     (ran 2 (atFirst n bank0 bank1) buffer)
 
-pub record TakeSlots·Is (n : ℕ) (slots bank0 bank1 marks address buffer : List ℕ) (r : ℕ) (zero one said : List ℕ) : Type 0 where
+pub record TakeSlots·Is (n : ℕ) (slots bank0 bank1 marks address buffer : List ℕ) (r : ℕ) (left0 left1 said : List ℕ) : Type 0 where
   pub given : r ≡ slotsTaken n slots bank0 bank1 marks address buffer .given
-  pub bank-zero : zero ≡ slotsTaken n slots bank0 bank1 marks address buffer .kept-at-last .pair .zero
-  pub bank-one : one ≡ slotsTaken n slots bank0 bank1 marks address buffer .kept-at-last .pair .one
+  pub bank-zero : left0 ≡ slotsTaken n slots bank0 bank1 marks address buffer .kept-at-last .pair .zero
+  pub bank-one : left1 ≡ slotsTaken n slots bank0 bank1 marks address buffer .kept-at-last .pair .one
   pub buffer-left : said ≡ slotsTaken n slots bank0 bank1 marks address buffer .buffer

@@ -32,10 +32,10 @@ goodSize n = cond (goodN n) (bankSize n) 0
 
 -- "a whole number from 1 to 491"
 unfoldable pub wholeLength : ℕ → Bool
-wholeLength length = eqb (length % sectorSize) 0 && goodN (length / sectorSize)
+wholeLength bytes = eqb (bytes % sectorSize) 0 && goodN (bytes / sectorSize)
 
 unfoldable pub sectorsOf : ℕ → Counted
-sectorsOf length = cond (wholeLength length) (Sectors (length / sectorSize)) Refused
+sectorsOf bytes = cond (wholeLength bytes) (Sectors (bytes / sectorSize)) Refused
 
 abbrev pub bankNumber : Bank → ℕ
 bankNumber Zero = 0
@@ -73,7 +73,7 @@ abbrev pub BankSize·Is : ℕ → ℕ → Type 0
 BankSize·Is n r = r ≡ goodSize n
 
 abbrev pub Sectors·Is : ℕ → Counted → Type 0
-Sectors·Is length r = r ≡ sectorsOf length
+Sectors·Is bytes r = r ≡ sectorsOf bytes
 
 abbrev pub BankNumber·Is : Bank → ℕ → Type 0
 BankNumber·Is bank r = r ≡ bankNumber bank
