@@ -1,2 +1,3 @@
 pub mod Fields
 pub mod Lines
+pub mod Spelt

@@ -1,3 +1,4 @@
 pub mod Input
 pub mod Line
+pub mod Spelt
 pub mod Text

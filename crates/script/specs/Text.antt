@@ -1,10 +1,9 @@
--- The fields of a line, and what they say (docs/BOARD.md, docs/REQUESTS.md).
+-- The fields of a line (docs/BOARD.md, docs/REQUESTS.md).
 -- Assumes nothing.
 use mathlib.Core.Path.{_≡_}
 use mathlib.Core.Bool.{Bool, false, cond}
-use mathlib.Core.Logic.{_⊎_}
 use mathlib.Core.List.{List, [], _∷_}
-use Prim.Native.Nat.{ℕ, suc, _-_, _≤_}
+use Prim.Native.Nat.{ℕ, suc, _-_}
 use lib.Dec.{eqb}
 use lib.ListN.{length, take, drop, getD}
 
@@ -21,7 +20,3 @@ Rest·Is text r = r ≡ drop (suc (blankAt text)) text
 
 abbrev pub EndsInBlank·Is : List ℕ → Bool → Type 0
 EndsInBlank·Is text r = r ≡ cond (eqb (length text) 0) false (eqb (getD text (length text - 1) 0) 0x20)
-
--- what a number's field says: 32 bits hold it, or it is what stands for no number, larger than any that a field could say
-abbrev pub Said : ℕ → Type 0
-Said r = (r ≤ 0xFFFFFFFF) ⊎ (r ≡ 18446744073709551615)

@@ -1,5 +1,7 @@
 // How a program was called, and how it tells `./run` what became of the call. docs/RUNNING.md has the convention.
-ghost use Prim.Native.Nat.{_≤_};
+ghost use mathlib.Core.Path.{_≡_};
+ghost use mathlib.Core.Bool.{true};
+ghost use Prim.Native.Nat.{_<_, _≤_};
 ghost use Rattle.io.specs.Counts.{Counts};
 use libc::STDERR_FILENO;
 
@@ -42,13 +44,15 @@ pub fn called_wrongly(usage: &[u8]) {
 
 // The program's own name stands before its words, and what `./run` says to it.
 fn before_words() -> usize
-    ensures { λ r. ⌜ r ≤ 2 ⌝ }
+    ensures { λ r. ⌜ (0 < r) × (r ≤ 2) ⌝ }
 {
     if heard() { 2 } else { 1 }
 }
 
-// Whether it was called with so many words.
-pub fn takes(words: usize, usage: &[u8]) -> bool {
+// Whether it was called with so many words. They are fewer than can be counted, since its name is counted with them.
+pub fn takes(words: usize, usage: &[u8]) -> bool
+    ensures { λ r. ⌜ (r ≡ true → words < 18446744073709551615) ⌝ }
+{
     let all = os::arg_count();
     let before = before_words();
     if all >= before {

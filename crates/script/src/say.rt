@@ -1,6 +1,7 @@
 // What is written to standard output.
 ghost use Prim.Native.Nat.{_<_, _≤_};
 ghost use Rattle.io.specs.Counts.{Counts};
+ghost use Rattle.script.specs.Spelt.{Spell·Is};
 use crate::call;
 use libc::STDOUT_FILENO;
 
@@ -24,21 +25,11 @@ pub fn end() {
     text(b"\n");
 }
 
-// The digit of a number's last place.
-fn digit(number: u8) -> u8 {
-    let value = number % 16;
-    if value < 10 {
-        b'0' + value
-    } else {
-        b'A' + (value - 10)
-    }
-}
-
 const LARGEST_PIECE: usize = 2048;
 
 // The bytes' digits to the front of `into`, and how many they are; none where they have no room.
 fn spell(bytes: &[u8], into: &mut [u8]) -> usize
-    ensures { λ r. ⌜ Counts r (now (into .exit)) ⌝ }
+    ensures { λ r. ⌜ Counts r (now (into .exit)) × Spell·Is (now (bytes .entry)) (now (into .entry)) (now (into .exit)) r ⌝ }
 {
     if bytes.len() > into.len() / 2 {
         return 0;
@@ -46,17 +37,17 @@ fn spell(bytes: &[u8], into: &mut [u8]) -> usize
     let mut i = 0;
     while i < bytes.len() {
         let byte = bytes[i];
-        into[2 * i] = digit(byte / 16);
-        into[2 * i + 1] = digit(byte);
+        into[2 * i] = digits::digit(byte / 16);
+        into[2 * i + 1] = digits::digit(byte);
         i += 1;
     }
     2 * i
 }
 
 fn hex_piece(bytes: &[u8]) {
-    let mut digits = [0u8; 2 * LARGEST_PIECE];
-    let n = spell(bytes, &mut digits);
-    text(&digits[..n]);
+    let mut spelt = [0u8; 2 * LARGEST_PIECE];
+    let n = spell(bytes, &mut spelt);
+    text(&spelt[..n]);
 }
 
 // How much of what is left goes into one piece.

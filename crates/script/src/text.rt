@@ -1,9 +1,15 @@
 // The fields of a line, and what they say. What a field does not say is a number larger than any that it could: whoever asks
 // tests for that anyway.
 ghost use mathlib.Core.Path.{_≡_};
-ghost use Prim.Native.Nat.{_≤_};
+ghost use mathlib.Core.Bool.{true};
+ghost use Prim.Native.Nat.{_+_, _*_, _/_, _<_, _≤_};
+ghost use lib.ListN.{length, getD};
 ghost use Rattle.io.specs.Counts.{Counts};
-ghost use Rattle.script.specs.Text.{blankAt, Said, First·Is, Rest·Is, EndsInBlank·Is};
+ghost use Rattle.buffer.specs.Place.{frontOf};
+ghost use Rattle.digits.specs.Digit.{valueOf};
+ghost use Rattle.script.specs.Text.{blankAt, First·Is, Rest·Is, EndsInBlank·Is};
+ghost use Rattle.script.specs.Spelt.{allDigits, further, numberIn, held, saidIn, Hex·Is, Decimal·Is};
+ghost use Rattle.script.specs.Spelt.{bytesIn, spellsBytes, isDash, Bytes·Is};
 
 // The place of the first blank, or the end.
 fn blank_at(text: &[u8]) -> usize
@@ -50,52 +56,77 @@ pub fn ends_in_blank(text: &[u8]) -> bool
     text[last] == b' '
 }
 
-// A hex digit's value, in either case, and 16 for any other byte.
-fn digit(byte: u8) -> u8
-    ensures { λ r. ⌜ r ≤ 16 ⌝ }
+// Whether each byte is a digit of the base.
+fn all_digits(text: &[u8], base: u8) -> bool
+    ensures { λ r. ⌜ r ≡ allDigits base (now (text .entry)) ⌝ }
 {
-    match byte {
-        b'0'..=b'9' => byte - b'0',
-        b'A'..=b'F' => byte - b'A' + 10,
-        b'a'..=b'f' => byte - b'a' + 10,
-        _ => 16,
+    let mut i = 0;
+    while i < text.len() {
+        if digits::value(text[i]) >= base {
+            return false;
+        }
+        i += 1;
     }
+    true
 }
 
 const LARGEST_VALUE: usize = 0xFFFF_FFFF;
 
-// The number that the digits spell, if it is no larger than 32 bits hold.
-fn value(digits: &[u8], base: usize) -> usize
-    requires { ⌜ base ≤ 16 ⌝ }
-    ensures { λ r. ⌜ Said r ⌝ }
+fn wide(byte: u8) -> usize
+    ensures { λ r. ⌜ (r ≡ byte) × (r < 256) ⌝ }
 {
-    let mut value: usize = 0;
+    byte as usize
+}
+
+// One digit more behind a number.
+fn more(number: usize, base: u8, digit: u8) -> usize
+    requires { ⌜ (number ≤ 0xFFFFFFFF) × (base ≤ 16) ⌝ }
+    ensures { λ r. ⌜ r ≡ further base number digit ⌝ }
+{
+    let unit = wide(base);
+    let worth = wide(digits::value(digit));
+    number * unit + worth
+}
+
+// The number that the digits spell, if it is no larger than 32 bits hold.
+fn value(text: &[u8], base: u8) -> usize
+    requires { ⌜ (0 < base) × (base ≤ 16) ⌝ }
+    ensures { λ r. ⌜ r ≡ held (numberIn base (now (text .entry))) ⌝ }
+{
+    let mut number: usize = 0;
     let mut i = 0;
-    while i < digits.len() {
-        let d = digit(digits[i]) as usize;
-        if d >= base {
+    while i < text.len() {
+        if number > LARGEST_VALUE {
             return usize::MAX;
         }
-        if value > LARGEST_VALUE {
-            return usize::MAX;
-        }
-        value = value * base + d;
+        number = more(number, base, text[i]);
         i += 1;
     }
-    if value > LARGEST_VALUE {
+    if number > LARGEST_VALUE {
         return usize::MAX;
     }
-    value
+    number
+}
+
+// The same where each byte is a digit.
+fn said(text: &[u8], base: u8) -> usize
+    requires { ⌜ (0 < base) × (base ≤ 16) ⌝ }
+    ensures { λ r. ⌜ r ≡ saidIn base (now (text .entry)) ⌝ }
+{
+    if all_digits(text, base) {
+        return value(text, base);
+    }
+    usize::MAX
 }
 
 // A number of exactly so many hex digits.
 pub fn number(text: &[u8], digits: usize) -> usize
-    ensures { λ r. ⌜ Said r ⌝ }
+    ensures { λ r. ⌜ Hex·Is (now (text .entry)) digits r ⌝ }
 {
     if text.len() != digits {
         return usize::MAX;
     }
-    value(text, 16)
+    said(text, 16)
 }
 
 // Of six digits.
@@ -103,7 +134,7 @@ pub const LARGEST_NUMBER: usize = 999_999;
 
 // A decimal number of one to so many digits.
 pub fn decimal(text: &[u8], most: usize) -> usize
-    ensures { λ r. ⌜ Said r ⌝ }
+    ensures { λ r. ⌜ Decimal·Is (now (text .entry)) most r ⌝ }
 {
     if text.len() == 0 {
         return usize::MAX;
@@ -111,43 +142,67 @@ pub fn decimal(text: &[u8], most: usize) -> usize
     if text.len() > most {
         return usize::MAX;
     }
-    value(text, 10)
+    said(text, 10)
 }
 
-fn is_none(text: &[u8]) -> bool {
+fn is_none(text: &[u8]) -> bool
+    ensures { λ r. ⌜ r ≡ isDash (now (text .entry)) ⌝ }
+{
     if text.len() != 1 {
         return false;
     }
     text[0] == b'-'
 }
 
+// Whether `text` spells bytes, and no more than there is room for.
+fn spells(text: &[u8], room: usize) -> bool
+    ensures { λ r. ⌜ r ≡ spellsBytes (now (text .entry)) room ⌝ }
+{
+    if text.len() == 0 {
+        return false;
+    }
+    if text.len() % 2 != 0 {
+        return false;
+    }
+    if text.len() / 2 > room {
+        return false;
+    }
+    all_digits(text, 16)
+}
+
+// The byte that the digits at `at` and behind it spell.
+fn byte_at(text: &[u8], at: usize) -> u8
+    requires { ⌜ (at + 1 < length (now text)) × (allDigits 16 (now text) ≡ true) ⌝ }
+    ensures { λ r. ⌜ r ≡ valueOf (getD (now (text .entry)) at 0) * 16 + valueOf (getD (now (text .entry)) (at + 1) 0) ⌝ }
+{
+    let high = digits::value(text[at]);
+    let low = digits::value(text[at + 1]);
+    high * 16 + low
+}
+
+// What they all spell, to the front of `into`.
+fn put(text: &[u8], into: &mut [u8])
+    requires { ⌜ (length (now text) / 2 ≤ length (now into)) × (allDigits 16 (now text) ≡ true) ⌝ }
+    ensures { λ _. ⌜ now (into .exit) ≡ frontOf (now (into .entry)) (bytesIn (now (text .entry))) ⌝ }
+{
+    let count = text.len() / 2;
+    let mut i = 0;
+    while i < count {
+        into[i] = byte_at(text, 2 * i);
+        i += 1;
+    }
+}
+
 // Puts the bytes that `text` spells to the front of `into` and says how many they are, as `read` does: -1 where it spells none.
-pub fn bytes(text: &[u8], into: &mut [u8]) -> isize {
+pub fn bytes(text: &[u8], into: &mut [u8]) -> isize
+    ensures { λ r. ⌜ Bytes·Is (now (text .entry)) (now (into .entry)) (now (into .exit)) r ⌝ }
+{
+    if spells(text, into.len()) {
+        put(text, into);
+        return (text.len() / 2) as isize;
+    }
     if is_none(text) {
         return 0;
     }
-    if text.len() == 0 {
-        return -1;
-    }
-    if text.len() % 2 != 0 {
-        return -1;
-    }
-    let count = text.len() / 2;
-    if count > into.len() {
-        return -1;
-    }
-    let mut i = 0;
-    while i < count {
-        let high = digit(text[2 * i]);
-        let low = digit(text[2 * i + 1]);
-        if high > 15 {
-            return -1;
-        }
-        if low > 15 {
-            return -1;
-        }
-        into[i] = high * 16 + low;
-        i += 1;
-    }
-    count as isize
+    -1
 }

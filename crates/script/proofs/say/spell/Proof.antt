@@ -1,25 +1,29 @@
--- `script::say::spell` is safe and ends: two digits for each byte passed have room.
+-- `script::say::spell` meets its contract: two digits for each byte passed have room.
 -- Assumes nothing.
-use Prim.Native.Nat.{_≤_, _-_}
-use mathlib.Core.Path.{_≡_, sym}
+use Prim.Native.Nat.{_≤_, _<_, _-_, _*_}
+use mathlib.Core.Path.{_≡_, refl, sym, _∙_}
 use native.Mathlib.Omega.{arith}
-use lib.ListN.{length, length-set}
-use lib.Seq.{length-take-le}
+use lib.ListN.{length, length-set, drop}
+use lib.Seq.{length-take-le, sets}
+use Rattle.script.specs.Spelt.{digitsIn}
+use Rattle.script.proofs.Spelt.{spell-more, spelt-none, spelt-all}
 use borrow.Author.Needs.{needs}
 use Rattle.script.proofs.say.spell.Statement.{statement}
 use Rattle.script.proofs.say.spell.Tie as tie
 
 abbrev Inv-loop : tie.InvT-loop
-Inv-loop bytes into₀ i₀ into i = (i ≤ length bytes) × (length into ≡ length into₀)
+Inv-loop bytes into₀ i₀ into i = (i ≤ length bytes) × (length into ≡ length into₀) × (sets into (2 * i) (digitsIn (drop i bytes)) ≡ sets into₀ 0 (digitsIn bytes))
 
 abbrev μ-loop : tie.MeasureT-loop
 μ-loop bytes into₀ i₀ into i = length bytes - i
 
 returns : tie.Need-returns Inv-loop μ-loop
-returns c = search needs
+returns c =
+    let a = c .before .before .before .args in
+    (search needs, spelt-none (a .bytes .now) (a .into .now) (c .if1 .taken))
 
 loop-holds : tie.Need-loop-holds Inv-loop μ-loop
-loop-holds c = search needs
+loop-holds c = (search needs, refl, refl)
 
 shared-slice-read-byte : tie.Need-shared-slice-read-byte Inv-loop μ-loop
 shared-slice-read-byte c = search needs
@@ -52,7 +56,12 @@ loop-less : tie.Need-loop-less Inv-loop μ-loop
 loop-less c = search needs
 
 loop-again : tie.Need-loop-again Inv-loop μ-loop
-loop-again c = (omega arith, simp (length-set, length-set) (search needs))
+loop-again c =
+    let a = c .before .before .before .before .before .before .before .before .args in
+    let t = a .bytes .now in
+    let l = c .before .before .before .before .loop in
+    let h : l .i < length t = omega arith in
+    (omega arith, simp (length-set, length-set) (search needs), spell-more t (l .into) (l .i) _ _ h (c .before .digit .ensures) (c .digit2 .ensures) ∙ l .inv .2)
 
 mul-result : tie.Need-mul-result Inv-loop μ-loop
 mul-result c = search needs
@@ -61,7 +70,10 @@ same-length : tie.Need-same-length Inv-loop μ-loop
 same-length c = search needs
 
 returns-2 : tie.Need-returns-2 Inv-loop μ-loop
-returns-2 c = (search needs, sym (length-take-le _ _ (search needs)))
+returns-2 c =
+    let a = c .before .before .before .before .before .args in
+    let l = c .before .loop in
+    ((search needs, sym (length-take-le _ _ (search needs))), spelt-all (a .bytes .now) (a .into .now) (l .into) (l .i) (c .before .before .if1 .left) (omega arith) (l .inv .2))
 
 pub spell-spec : {M : Type 1} → statement M
 spell-spec =

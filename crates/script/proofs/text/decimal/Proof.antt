@@ -1,22 +1,25 @@
--- `script::text::decimal` says a number, or what stands for none.
+-- `script::text::decimal` meets its contract.
 -- Assumes nothing.
-use mathlib.Core.Path.{refl}
-use mathlib.Core.Logic.{inr}
+use borrow.Author.Tests.{eq-eqb, ne-eqb, lt-ltb, le-ltb}
+use Rattle.script.specs.Spelt.{decimalIn}
 use borrow.Author.Needs.{needs}
 use Rattle.script.proofs.text.decimal.Statement.{statement}
 use Rattle.script.proofs.text.decimal.Tie as tie
 
 returns : tie.Need-returns
-returns c = inr refl
+unfolding decimalIn
+returns c = rw (eq-eqb _ 0 (c .if1 .taken))
 
 returns-2 : tie.Need-returns-2
-returns-2 c = inr refl
+unfolding decimalIn
+returns-2 c = rw (ne-eqb _ 0 (c .before .if1 .left), lt-ltb _ _ (c .if2 .taken))
 
-value-requires : tie.Need-value-requires
-value-requires c κs = search needs
+said-requires : tie.Need-said-requires
+said-requires c κs = search needs
 
 returns-3 : tie.Need-returns-3
-returns-3 c = search needs
+unfolding decimalIn
+returns-3 c = rw (ne-eqb _ 0 (c .before .before .if1 .left), le-ltb _ _ (c .before .if2 .left)) (c .said .ensures)
 
 pub decimal-spec : {M : Type 1} → statement M
-decimal-spec = tie.close (tie.spec returns returns-2 value-requires returns-3)
+decimal-spec = tie.close (tie.spec returns returns-2 said-requires returns-3)

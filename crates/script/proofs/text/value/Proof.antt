@@ -1,48 +1,38 @@
--- `script::text::value` is safe and ends: what was read so far has room for one digit more.
+-- `script::text::value` meets its contract: what was read so far has room for one digit more.
 -- Assumes nothing.
-use Prim.Native.Nat.{ℕ, _≤_, _-_, _*_}
-use mathlib.Core.Logic.{_⊎_, inl, inr}
-use mathlib.Core.Path.{refl}
-use native.Mathlib.Nat.{mul-le-mul-right}
+use mathlib.Core.Path.{_≡_, refl, ap, _∙_}
+use mathlib.Core.List.{foldl}
+use Prim.Native.Nat.{ℕ, _<_, _≤_, _+_, _-_}
 use native.Mathlib.Omega.{arith}
-use lib.ListN.{length}
+use lib.ListN.{length, drop}
+use Rattle.buffer.proofs.Fold.{fold-more}
+use Rattle.script.specs.Spelt.{further, numberIn}
+use Rattle.script.proofs.Spelt.{number-large, number-small}
 use borrow.Author.Needs.{needs}
 use Rattle.script.proofs.text.value.Statement.{statement}
 use Rattle.script.proofs.text.value.Tie as tie
 
--- Omega takes no product of two names.
-below : (value base : ℕ) → value ≤ 4294967295 → base ≤ 16 → value * base ≤ 68719476720
-below value base v b = omega (arith, mul-le-mul-right base v)
-
 abbrev Inv-loop : tie.InvT-loop
-Inv-loop digits base value₀ i₀ value i = i ≤ length digits
+Inv-loop text base number₀ i₀ number i = (i ≤ length text) × (foldl (further base) number (drop i text) ≡ numberIn base text)
 
 abbrev μ-loop : tie.MeasureT-loop
-μ-loop digits base value₀ i₀ value i = length digits - i
+μ-loop text base number₀ i₀ number i = length text - i
 
 loop-holds : tie.Need-loop-holds Inv-loop μ-loop
-loop-holds c = search needs
-
-shared-slice-read-digit : tie.Need-shared-slice-read-digit Inv-loop μ-loop
-shared-slice-read-digit c = search needs
-
-digit-requires : tie.Need-digit-requires Inv-loop μ-loop
-digit-requires c κs = search needs
-
-cast-d : tie.Need-cast-d Inv-loop μ-loop
-cast-d c = search needs
+unfolding numberIn
+loop-holds c = (search needs, refl)
 
 returns : tie.Need-returns Inv-loop μ-loop
-returns c = inr refl
+returns c =
+    let s = c .before .before .before .before in
+    let l = c .before .before .loop in
+    number-large (s .args .base) (s .args .text .now) (l .number) (l .i) (l .inv .1) (s .pre .0) (c .if1 .taken)
 
-returns-2 : tie.Need-returns-2 Inv-loop μ-loop
-returns-2 c = inr refl
+shared-slice-read-more : tie.Need-shared-slice-read-more Inv-loop μ-loop
+shared-slice-read-more c = search needs
 
-mul-value : tie.Need-mul-value Inv-loop μ-loop
-mul-value c = omega (arith, below (c .before .before .before .before .before .loop .value) (c .before .before .before .before .before .before .before .args .base) (search needs) (c .before .before .before .before .before .before .before .pre))
-
-add-value : tie.Need-add-value Inv-loop μ-loop
-add-value c = omega (arith, below (c .before .before .before .before .before .loop .value) (c .before .before .before .before .before .before .before .args .base) (search needs) (c .before .before .before .before .before .before .before .pre))
+more-requires : tie.Need-more-requires Inv-loop μ-loop
+more-requires c κs = search needs
 
 add-i : tie.Need-add-i Inv-loop μ-loop
 add-i c = search needs
@@ -51,13 +41,25 @@ loop-less : tie.Need-loop-less Inv-loop μ-loop
 loop-less c = search needs
 
 loop-again : tie.Need-loop-again Inv-loop μ-loop
-loop-again c = search needs
+loop-again c =
+    let a = c .before .before .before .before .before .before .args in
+    let t = a .text .now in
+    let l = c .before .before .before .before .loop in
+    let f = further (a .base) in
+    let h : l .i < length t = omega arith in
+    (omega arith, ap (λ (n : ℕ). foldl f n (drop (l .i + 1) t)) (c .more .ensures) ∙ fold-more f t (l .number) (l .i) h ∙ l .inv .1)
+
+returns-2 : tie.Need-returns-2 Inv-loop μ-loop
+returns-2 c =
+    let s = c .before .before .before .before in
+    let l = c .before .before .loop in
+    number-large (s .args .base) (s .args .text .now) (l .number) (l .i) (l .inv .1) (s .pre .0) (c .if2 .taken)
 
 returns-3 : tie.Need-returns-3 Inv-loop μ-loop
-returns-3 c = inr refl
-
-returns-4 : tie.Need-returns-4 Inv-loop μ-loop
-returns-4 c = inl (search needs)
+returns-3 c =
+    let s = c .before .before .before .before in
+    let l = c .before .before .loop in
+    number-small (s .args .base) (s .args .text .now) (l .number) (l .i) (l .inv .1) (omega arith) (c .if2 .left)
 
 pub value-spec : {M : Type 1} → statement M
 value-spec =
@@ -66,15 +68,11 @@ value-spec =
     Inv-loop
     μ-loop
     loop-holds
-    shared-slice-read-digit
-    digit-requires
-    cast-d
     returns
-    returns-2
-    mul-value
-    add-value
+    shared-slice-read-more
+    more-requires
     add-i
     loop-less
     loop-again
-    returns-3
-    returns-4)
+    returns-2
+    returns-3)
