@@ -22,7 +22,23 @@ use Rattle.decision.specs.declared.plan.Fixed.{Fixed}
 use Rattle.calls.proofs.Courses.{Match, same, either, Alike as AlikeSteps}
 use Rattle.calls.proofs.Leading.{Finishing}
 use Rattle.calls.proofs.Beside.{step-alike, step-told, step-said, step-fits}
-use Rattle.demands.specs.Board.{Board, board, Call, Input, Initiate, Terminate, Datagram, said, after, outcomes, sectorsIn, lentOf, lentTarget, called, stepMachine}
+use Rattle.demands.specs.Board.{
+  Board,
+  board,
+  Call,
+  Input,
+  Initiate,
+  Terminate,
+  Datagram,
+  said,
+  after,
+  outcomes,
+  sectorsIn,
+  lentOf,
+  lentTarget,
+  called,
+  stepMachine,
+}
 use Rattle.demands.specs.Session.{isEnd, allBlank, exchanged, noted, shown}
 use Rattle.demands.specs.Demand3.{AlikeBytes, same as same-bytes, either as either-bytes, Alike, AllAlike, none, more, Meets3}
 use Rattle.demands.proofs.Bytes.{written-begin, written-end, written-stored}
@@ -41,7 +57,8 @@ module _ (c : Client) (running : ℕ) (a b marks address buffer datagram : List 
   two = besideOf c running b marks address buffer datagram
 
   -- a write response fills the front; the rest is that of the buffer that was lent
-  written-front : (r : Carried) (sector v crc : ℕ) → r .buffer ≡ frontOf buffer (answerBytes (r .answer)) → length (answerBytes (r .answer)) ≤ length buffer
+  written-front : (r : Carried) (sector v crc : ℕ) → r .buffer ≡ frontOf buffer (answerBytes (r .answer))
+      → length (answerBytes (r .answer)) ≤ length buffer
       → r .answer ≡ Written sector 0x06 v crc → r .buffer ≡ writeFrame sector (writtenBytes 0x06 v crc) End ++ drop 13 buffer
   unfolding answerBytes
   written-front r sector v crc s f e =
@@ -82,7 +99,8 @@ match-number (same e) = ap answerNumber e
 match-number (either sector crc v w p q e f) = ap answerNumber e ∙ sym (ap answerNumber f)
 
 -- the session shows the same, whichever of the two answers came
-match-shown : (n : ℕ) (image datagram : List ℕ) {a b : Answer} → Match a b → exchanged n image datagram (answerBytes a) ≡ exchanged n image datagram (answerBytes b)
+match-shown : (n : ℕ) (image datagram : List ℕ) {a b : Answer} → Match a b
+    → exchanged n image datagram (answerBytes a) ≡ exchanged n image datagram (answerBytes b)
 match-shown n image datagram (same e) = ap (λ (x : Answer). exchanged n image datagram (answerBytes x)) e
 match-shown n image datagram (either sector crc v w p q e f) =
     rw (e, f, written-begin sector 0x06 v crc, written-begin sector 0x06 w crc, written-stored sector v crc p, written-stored sector w crc q)
@@ -114,7 +132,8 @@ module _ (c : Client) (pa pb : Banks) (image : List ℕ) where
   abbrev b : Board
   b = board c pb
 
-  lent-length : (call : Call) → Twins a b image → (x : Bank) → length (bankIn x (lentOf (call .lent) pa)) ≡ length (bankIn x (lentOf (call .lent) pb))
+  lent-length : (call : Call) → Twins a b image → (x : Bank)
+      → length (bankIn x (lentOf (call .lent) pa)) ≡ length (bankIn x (lentOf (call .lent) pb))
   lent-length call t x =
       ap length (lent-in (call .lent) pa x)
       ∙ front-alike (call .lent x) (bankIn x pa) (bankIn x pb) (t .lengths x)
@@ -146,15 +165,26 @@ module _ (c : Client) (pa pb : Banks) (image : List ℕ) where
 
   stepped : Twins a b image → (i : Input) → Stepped a b image i
   stepped t Initiate =
-      record { alike = record { client = refl; number = refl; told = refl; notice = refl; buffer = same-bytes refl }; shown-alike = refl; end-alike = refl }
+      record {
+        alike = record { client = refl; number = refl; told = refl; notice = refl; buffer = same-bytes refl };
+        shown-alike = refl;
+        end-alike = refl;
+      }
   stepped t Terminate =
-      record { alike = record { client = refl; number = refl; told = refl; notice = refl; buffer = same-bytes refl }; shown-alike = refl; end-alike = refl }
+      record {
+        alike = record { client = refl; number = refl; told = refl; notice = refl; buffer = same-bytes refl };
+        shown-alike = refl;
+        end-alike = refl;
+      }
   stepped t (Datagram call) =
       let q = same-runs call t in
       let s = alike-steps call t in
-      let m : Match (called a call .answer) (called b call .answer) = subst (λ (r : Carried). Match (called a call .answer) (r .answer)) q (s .answer) in
-      let long = as-long c (runs call pa) (lentTarget a call) (lentTarget b call) (call .marks) (call .address) (call .buffer) (call .datagram) (s .answer) in
-      let bytes = matched c (runs call pa) (lentTarget a call) (lentTarget b call) (call .marks) (call .address) (call .buffer) (call .datagram) (s .answer) in
+      let m : Match (called a call .answer) (called b call .answer) =
+      subst (λ (r : Carried). Match (called a call .answer) (r .answer)) q (s .answer) in
+      let long =
+      as-long c (runs call pa) (lentTarget a call) (lentTarget b call) (call .marks) (call .address) (call .buffer) (call .datagram) (s .answer) in
+      let bytes =
+      matched c (runs call pa) (lentTarget a call) (lentTarget b call) (call .marks) (call .address) (call .buffer) (call .datagram) (s .answer) in
       record {
         alike = record {
           client = s .client ∙ ap (λ (r : Carried). r .client) q;
@@ -201,7 +231,8 @@ run-twins : (n : ℕ) (is : List Input) (a b : Board) (image : List ℕ) → a .
     → Twins (after stepMachine a is) (after stepMachine b is) (shown n image is (outcomes stepMachine a is))
 run-twins n [] a b image e t = t
 run-twins n (i ∷ is) a b image e t =
-    run-twins n is (stepMachine a i .board) (stepMachine b i .board) (noted n image i (stepMachine a i)) (ap (λ (f : Fixed). f .n) (machine-stays a i) ∙ e)
+    run-twins n is (stepMachine a i .board) (stepMachine b i .board) (noted n image i (stepMachine a i))
+    (ap (λ (f : Fixed). f .n) (machine-stays a i) ∙ e)
     (subst (λ (m : ℕ). Twins (stepMachine a i .board) (stepMachine b i .board) (noted m image i (stepMachine a i))) e (twins-next a b image i t))
 
 pub demand3 : Meets3 stepMachine

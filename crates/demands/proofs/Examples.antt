@@ -27,7 +27,7 @@ use Rattle.flash.proofs.Writes.{FitsAt}
 use Rattle.layout.specs.declared.Bank.{Bank}
 use Rattle.layout.specs.declared.Bank.the-variants.{One}
 use Rattle.layout.specs.Layout.{sectorSize, goodN, bankSize, otherOf, endOf, sectorOf}
-use Rattle.layout.specs.Pair.{bankIn, withBank}
+use Rattle.layout.specs.Pair.{bankIn}
 use Rattle.layout.proofs.Pairs.{bank-there}
 use Rattle.decision.specs.declared.plan.Fixed.{Fixed}
 use Rattle.lines.specs.Line.{lines}
@@ -84,11 +84,13 @@ reads-6 : readOf [] ≡ Fault
 unfolding readOf
 reads-6 = refl
 
-request-4 : controlFrame 0x40 (bytesOf 4 0x14000A00 ++ bytesOf 4 (endOf One 491)) ≡ 0x01 ∷ 0x09 ∷ 0x40 ∷ 0x14 ∷ 0x00 ∷ 0x0A ∷ 0x00 ∷ 0x14 ∷ 0x03 ∷ 0xDF ∷ 0xFF ∷ 0xA4 ∷ 0x03 ∷ []
+request-4 : controlFrame 0x40 (bytesOf 4 0x14000A00 ++ bytesOf 4 (endOf One 491))
+    ≡ 0x01 ∷ 0x09 ∷ 0x40 ∷ 0x14 ∷ 0x00 ∷ 0x0A ∷ 0x00 ∷ 0x14 ∷ 0x03 ∷ 0xDF ∷ 0xFF ∷ 0xA4 ∷ 0x03 ∷ []
 unfolding controlFrame framed bytesOf checksumOf takenAway endOf goodN
 request-4 = refl
 
-request-5 : controlFrame 0x40 (bytesOf 4 0x14000A00 ++ bytesOf 4 (endOf One 32)) ≡ 0x01 ∷ 0x09 ∷ 0x40 ∷ 0x14 ∷ 0x00 ∷ 0x0A ∷ 0x00 ∷ 0x14 ∷ 0x00 ∷ 0x49 ∷ 0xFF ∷ 0x3D ∷ 0x03 ∷ []
+request-5 : controlFrame 0x40 (bytesOf 4 0x14000A00 ++ bytesOf 4 (endOf One 32))
+    ≡ 0x01 ∷ 0x09 ∷ 0x40 ∷ 0x14 ∷ 0x00 ∷ 0x0A ∷ 0x00 ∷ 0x14 ∷ 0x00 ∷ 0x49 ∷ 0xFF ∷ 0x3D ∷ 0x03 ∷ []
 unfolding controlFrame framed bytesOf checksumOf takenAway endOf goodN
 request-5 = refl
 
@@ -161,16 +163,19 @@ module _ (b : Board) (call : Call) (sector m : ℕ) (p : Brings b call sector m)
       let high = values-high (b .client .fixed .n) sector m v in
       packet b call packet-heard sector m (p .footer) (p .writing) (p .reads) v (unworn (omega arith))
 
-  stored-said : valuesGood (b .client .fixed .n) sector m ≡ true → said (stepMachine b (Datagram call)) ≡ writeFrame sector (writtenBytes 0x06 result (crcOf (paddedOf bytes))) End
+  stored-said : valuesGood (b .client .fixed .n) sector m ≡ true
+      → said (stepMachine b (Datagram call)) ≡ writeFrame sector (writtenBytes 0x06 result (crcOf (paddedOf bytes))) End
   stored-said v =
       ap said (stored-is v)
-      ∙ said-back call (writeFrame sector (writtenBytes 0x06 result (crcOf (paddedOf bytes))) End) (written-short sector 0x06 result (crcOf (paddedOf bytes))) (p .calls .lends .room)
+      ∙ said-back call (writeFrame sector (writtenBytes 0x06 result (crcOf (paddedOf bytes))) End)
+      (written-short sector 0x06 result (crcOf (paddedOf bytes))) (p .calls .lends .room)
 
   taken : valuesGood (b .client .fixed .n) sector m ≡ true → Verdict true b call sector
   unfolding answerBytes
   taken v =
       ap isStored (stored-said v)
-      ∙ written-stored sector result (crcOf (paddedOf bytes)) (accepted (blankOf bytes) (sameOf (sectorOf (lentTarget b call) sector) (paddedOf bytes)))
+      ∙ written-stored sector result (crcOf (paddedOf bytes))
+      (accepted (blankOf bytes) (sameOf (sectorOf (lentTarget b call) sector) (paddedOf bytes)))
 
   refused : valuesGood (b .client .fixed .n) sector m ≡ false → Verdict false b call sector
   refused v =
@@ -185,8 +190,10 @@ good-7 m = refl
 example-7 : (b : Board) (call : Call) (m : ℕ) → b .client .fixed .n ≡ 491 → goodLength m ≡ true → Brings b call 491 m → Verdict true b call 491
 example-7 b call m n g p = taken b call 491 m p (ap (λ (x : ℕ). valuesGood x 491 m) n ∙ good-7 m ∙ g)
 
-example-7-above : (b : Board) (call : Call) (m : ℕ) → b .client .fixed .n ≡ 491 → goodLength m ≡ true → Brings b call 492 m → Verdict false b call 492
-example-7-above b call m n g p = refused b call 492 m p (ap (λ (x : ℕ). valuesGood x 492 m) n ∙ sym (values-above 491 492 m (omega arith) (omega arith)))
+example-7-above : (b : Board) (call : Call) (m : ℕ) → b .client .fixed .n ≡ 491 → goodLength m ≡ true
+    → Brings b call 492 m → Verdict false b call 492
+example-7-above b call m n g p =
+    refused b call 492 m p (ap (λ (x : ℕ). valuesGood x 492 m) n ∙ sym (values-above 491 492 m (omega arith) (omega arith)))
 
 example-7-zero : (b : Board) (call : Call) (m : ℕ) → b .client .fixed .n ≡ 491 → goodLength m ≡ true → Brings b call 0 m → Verdict false b call 0
 example-7-zero b call m n g p = refused b call 0 m p (sym (values-zero (b .client .fixed .n) 0 m (omega arith)))
@@ -210,7 +217,8 @@ wrong-stored : (sector : ℕ) → isStored (writeFrame sector (writtenBytes 0x05
 unfolding writeFrame framed bytesOf
 wrong-stored sector = refl
 
-module _ (b : Board) (call again : Call) (sector m : ℕ) (p : Brings b call sector m) (stored : isStored (said (stepMachine b (Datagram call))) ≡ true)
+module _ (b : Board) (call again : Call) (sector m : ℕ) (p : Brings b call sector m)
+    (stored : isStored (said (stepMachine b (Datagram call))) ≡ true)
     (repeats : again .datagram ≡ call .datagram) (l : Lends (b .client .fixed .n) again) where
   -- what was accepted has good values
   values : valuesGood (b .client .fixed .n) sector m ≡ true
@@ -239,7 +247,8 @@ module _ (b : Board) (call again : Call) (sector m : ℕ) (p : Brings b call sec
   fits : FitsAt (lentTarget b call) sector data-bytes
   fits =
       fits-stored (b .client) (lentTarget b call) (call .datagram) sector
-      (storing (b .client) (length (lentTarget b call)) (call .datagram) sector m (p .footer) (p .reads) (p .writing) (p .calls .good) lent-size values)
+      (storing (b .client) (length (lentTarget b call)) (call .datagram) sector m (p .footer) (p .reads) (p .writing) (p .calls .good)
+      lent-size values)
 
   padded-size : length (paddedOf data-bytes) ≡ 512
   padded-size = length-padded data-bytes (fits .short)

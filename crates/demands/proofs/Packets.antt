@@ -93,7 +93,8 @@ unfolding sectorIn
 no-inventor s invents meets =
     let before : List ℕ = replicate 519 0 in
     let l : (imageGood image 2 && leb room (length before)) ≡ true =
-    and-both (imageGood image 2) (leb room (length before)) (eq-eqb (length image) 1024 image-size) (le-leb 519 (length before) (omega (arith, length-replicate {A = ℕ} 519 0))) in
+    and-both (imageGood image 2) (leb room (length before)) (eq-eqb (length image) 1024 image-size)
+    (le-leb 519 (length before) (omega (arith, length-replicate {A = ℕ} 519 0))) in
     let zero = meets .packet image 2 0 before two-good l (omega (arith, two-packets)) in
     let one = meets .packet image 2 1 before two-good l (omega (arith, two-packets)) in
     let same = invents image 2 0 1 before (omega (arith, two-packets)) (omega (arith, two-packets)) in

@@ -78,7 +78,8 @@ pub one-fixed : Fixed faultsOnly
 one-fixed = record { answer = frameError; always = λ b call n. by b call n (only-fault b call) }
   where
     by : (b : Board) (call : Call) → (said (faultsOnly b (Datagram call)) ≡ [] → ⊥)
-        → (said (faultsOnly b (Datagram call)) ≡ []) ⊎ (said (faultsOnly b (Datagram call)) ≡ frameError) → said (faultsOnly b (Datagram call)) ≡ frameError
+        → (said (faultsOnly b (Datagram call)) ≡ []) ⊎ (said (faultsOnly b (Datagram call)) ≡ frameError)
+        → said (faultsOnly b (Datagram call)) ≡ frameError
     by b call n (inl e) = absurd (n e)
     by b call n (inr e) = e
 

@@ -32,8 +32,10 @@ upper-line =
 -- :140A0000040001010000025800000004B63CFBCD4719217BC8
 unfoldable pub table-line : List ℕ
 table-line =
-    0x3A ∷ 0x31 ∷ 0x34 ∷ 0x30 ∷ 0x41 ∷ 0x30 ∷ 0x30 ∷ 0x30 ∷ 0x30 ∷ 0x30 ∷ 0x34 ∷ 0x30 ∷ 0x30 ∷ 0x30 ∷ 0x31 ∷ 0x30 ∷ 0x31 ∷ 0x30 ∷ 0x30 ∷ 0x30 ∷ 0x30 ∷ 0x30 ∷ 0x32 ∷ 0x35 ∷
-    0x38 ∷ 0x30 ∷ 0x30 ∷ 0x30 ∷ 0x30 ∷ 0x30 ∷ 0x30 ∷ 0x30 ∷ 0x34 ∷ 0x42 ∷ 0x36 ∷ 0x33 ∷ 0x43 ∷ 0x46 ∷ 0x42 ∷ 0x43 ∷ 0x44 ∷ 0x34 ∷ 0x37 ∷ 0x31 ∷ 0x39 ∷ 0x32 ∷ 0x31 ∷ 0x37 ∷
+    0x3A ∷ 0x31 ∷ 0x34 ∷ 0x30 ∷ 0x41 ∷ 0x30 ∷ 0x30 ∷ 0x30 ∷ 0x30 ∷ 0x30 ∷ 0x34 ∷ 0x30 ∷ 0x30 ∷ 0x30 ∷ 0x31 ∷ 0x30 ∷ 0x31 ∷ 0x30 ∷ 0x30 ∷ 0x30 ∷
+    0x30 ∷ 0x30 ∷ 0x32 ∷ 0x35 ∷
+    0x38 ∷ 0x30 ∷ 0x30 ∷ 0x30 ∷ 0x30 ∷ 0x30 ∷ 0x30 ∷ 0x30 ∷ 0x34 ∷ 0x42 ∷ 0x36 ∷ 0x33 ∷ 0x43 ∷ 0x46 ∷ 0x42 ∷ 0x43 ∷ 0x44 ∷ 0x34 ∷ 0x37 ∷ 0x31 ∷
+    0x39 ∷ 0x32 ∷ 0x31 ∷ 0x37 ∷
     0x42 ∷ 0x43 ∷ 0x38 ∷ 0x0A ∷ []
 
 -- :040C5800010203048E
@@ -50,14 +52,15 @@ unfoldable pub text : List ℕ
 text = upper-line ++ table-line ++ body-line ++ end-line
 
 text-read : textRead text One 2 (replicate 1024 0) ≡ record { answer = Accepted; image = image }
-unfolding text upper-line table-line body-line end-line image textRead goodN readLines lines foundOf recordOf digitsWhole digitsIn typed dataAt inBank
-    digitBytes byteOf isDigit valueOf total
+unfolding text upper-line table-line body-line end-line image textRead goodN readLines lines foundOf recordOf digitsWhole digitsIn typed dataAt
+    inBank digitBytes byteOf isDigit valueOf total
 text-read = refl
 
 pub text-witness : Holds text One 2
     (bankIn One
     (stepMachine
-    (after stepMachine witness-board (Datagram (calling (requestFrame (WriteStart One 2))) ∷ sending (textRead text One 2 (replicate 1024 0) .image)))
+    (after stepMachine witness-board
+    (Datagram (calling (requestFrame (WriteStart One 2))) ∷ sending (textRead text One 2 (replicate 1024 0) .image)))
     (Datagram (calling (requestFrame WriteEnd))) .board .pair))
 unfolding witness-board
 text-witness =

@@ -66,7 +66,8 @@ zeros-ready = record { good = refl; control = refl; whole = both }
 abbrev in-session : Board
 in-session = board (begun (starting Zero (zeros .client))) (zeros .pair)
 
-session-begun : stepMachine zeros (Datagram begins-small) ≡ changed zeros begins-small (begun (starting Zero (zeros .client))) noNotice (controlFrame 0x70 (0x06 ∷ []))
+session-begun : stepMachine zeros (Datagram begins-small)
+    ≡ changed zeros begins-small (begun (starting Zero (zeros .client))) noNotice (controlFrame 0x70 (0x06 ∷ []))
 unfolding zeros begins-small small-call
 session-begun = begun-is zeros zeros-ready (small-call (requestFrame (WriteStart One 1))) refl (small-lends (requestFrame (WriteStart One 1)))
 
@@ -86,7 +87,8 @@ end-said = by (fitOf (in-session .client .fixed) (sweptTarget in-session ends-sm
     room : 14 ≤ length (ends-small .buffer)
     room = small-lends (requestFrame WriteEnd) .room
 
-    by : (t : Bool) → fitOf (in-session .client .fixed) (sweptTarget in-session ends-small) ≡ t → isEnd (said (stepMachine in-session (Datagram ends-small))) ≡ true
+    by : (t : Bool) → fitOf (in-session .client .fixed) (sweptTarget in-session ends-small) ≡ t
+        → isEnd (said (stepMachine in-session (Datagram ends-small))) ≡ true
     by true t =
         ap (λ (o : Outcome). isEnd (said o)) (write-end in-session ends-small end-heard refl (request-read WriteEnd) (no-mark 1) t)
         ∙ ap isEnd (said-back ends-small (controlFrame 0x75 (0x06 ∷ [])) (control-short 0x75 0x06) room)

@@ -77,7 +77,8 @@ abbrev pub Holds : Row → Type 0
 Holds (Sends request bytes) = requestFrame request ≡ bytes
 Holds (Sums sector bytes sum) = (footer : Footer) → byteAt (writeFrame sector bytes footer) (5 + length bytes) ≡ sum
 Holds (Answers states datagram answer) =
-    (b : Board) (call : Call) → Calls b call → states (b .client .state) ≡ true → call .datagram ≡ datagram → said (stepMachine b (Datagram call)) ≡ answer
+    (b : Board) (call : Call) → Calls b call → states (b .client .state) ≡ true → call .datagram ≡ datagram
+    → said (stepMachine b (Datagram call)) ≡ answer
 Holds (Codes states code answer) =
     (b : Board) (call : Call) (m : ℕ) → Calls b call → states (b .client .state) ≡ true → readOf (call .datagram) ≡ Control code m
     → said (stepMachine b (Datagram call)) ≡ answer
@@ -90,7 +91,8 @@ Holds Again =
     → again .datagram ≡ call .datagram → Lends (b .client .fixed .n) again
     → said (stepMachine (stepMachine b (Datagram call) .board) (Datagram again))
     ≡ writeFrame sector (writtenBytes 0x06 0x1D (crcOf (paddedOf (dataIn (call .datagram))))) End
-Holds (Reads text answer) = (bank : Bank) (n : ℕ) (image : List ℕ) → goodN n ≡ true → length image ≡ sectorSize * n → textRead text bank n image .answer ≡ answer
+Holds (Reads text answer) =
+    (bank : Bank) (n : ℕ) (image : List ℕ) → goodN n ≡ true → length image ≡ sectorSize * n → textRead text bank n image .answer ≡ answer
 
 pub data AllHold : List Row → Type 0 where
   none : AllHold []

@@ -52,7 +52,8 @@ pub record MeetsPackets (s : Maker) : Type 0 where
 
 -- the maker of the contracts
 abbrev pub packetMaker : Maker
-packetMaker image n p before = out (packetMade image n p (length before)) (bufferAfter (packetMade image n p (length before)) before (packetFrame image n p))
+packetMaker image n p before =
+    out (packetMade image n p (length before)) (bufferAfter (packetMade image n p (length before)) before (packetFrame image n p))
 
 -- one that invents the packet number: whichever packet of an image is asked for, it makes the same
 abbrev pub InventsNumber : Maker → Type 0

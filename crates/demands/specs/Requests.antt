@@ -33,4 +33,5 @@ pub record MeetsRequests (s : Asker) : Type 0 where
 
 -- the maker of the contracts
 abbrev pub requestMaker : Asker
-requestMaker request before = out (requestMade request (length before)) (bufferAfter (requestMade request (length before)) before (requestFrame request))
+requestMaker request before =
+    out (requestMade request (length before)) (bufferAfter (requestMade request (length before)) before (requestFrame request))

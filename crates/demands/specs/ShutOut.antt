@@ -122,7 +122,8 @@ targetAfter m b start first rest end =
 -- is its own affair.
 abbrev pub FirstOnly : Machine → Type 0
 FirstOnly m =
-    (b : Board) (start first end : Call) (is js : List Input) → FirstHandled m b start first → end .datagram ≡ requestFrame WriteEnd → SameButBytes is js
+    (b : Board) (start first end : Call) (is js : List Input) → FirstHandled m b start first
+    → end .datagram ≡ requestFrame WriteEnd → SameButBytes is js
     → targetAfter m b start first is end ≡ targetAfter m b start first js end
 
 -- one of them: the client, but behind the first packet of a session it answers each packet and leaves the board as it is
