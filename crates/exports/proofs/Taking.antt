@@ -22,7 +22,7 @@ use Rattle.client.specs.Step.{Carried, stepOf, Step·Is}
 use Rattle.calls.specs.Call.{Call, Kept, kept, stepped, keptAfter, afterSteps, camesOf}
 use Rattle.calls.proofs.Again.{steps-more, cames-more, Likewise, step-lent}
 use Rattle.calls.proofs.Beside.{step-said}
-use Rattle.exports.specs.Slots.{slotCount, sizeAt, datagramAt, slotsGood, callsOf, fresh, slotsTaken, TakeSlots·Is}
+use Rattle.exports.specs.Slots.{slotRoom, slotSize, slotCount, sizeAt, datagramAt, slotsGood, callsOf, fresh, slotsTaken, TakeSlots·Is}
 use Rattle.exports.specs.Slots.{givenOf, Run, ran, lastGiven, saidNext, runOf}
 
 -- ---- slots looked at
@@ -31,41 +31,41 @@ pub none-looked-at : (slots : List ℕ) → slotsGood slots 0 ≡ true
 unfolding slotsGood
 none-looked-at slots = refl
 
-pub one-more-good : (slots : List ℕ) (k : ℕ) → slotsGood slots k ≡ true → sizeAt slots k ≤ 519 → slotsGood slots (k + 1) ≡ true
+pub one-more-good : (slots : List ℕ) (k : ℕ) → slotsGood slots k ≡ true → sizeAt slots k ≤ slotRoom → slotsGood slots (k + 1) ≡ true
 unfolding slotsGood
 one-more-good slots k g h = rw (add-one k) (and-both _ _ g (le-leb _ _ h))
 
-pub each-good : (slots : List ℕ) (n k : ℕ) → slotsGood slots n ≡ true → k < n → sizeAt slots k ≤ 519
+pub each-good : (slots : List ℕ) (n k : ℕ) → slotsGood slots n ≡ true → k < n → sizeAt slots k ≤ slotRoom
 unfolding slotsGood
 each-good slots zero k g h = absurd (omega arith)
 each-good slots (suc n) k g h = by (leb (suc k) n) refl (each-good slots n k (and-left _ _ g))
   where
-    by : (b : Bool) → leb (suc k) n ≡ b → (k < n → sizeAt slots k ≤ 519) → sizeAt slots k ≤ 519
+    by : (b : Bool) → leb (suc k) n ≡ b → (k < n → sizeAt slots k ≤ slotRoom) → sizeAt slots k ≤ slotRoom
     by true e before = before (leb-true _ _ e)
     by false e before =
         let last : k ≡ n = omega (arith, leb-false (suc k) n e) in
-        rw last (leb-true (sizeAt slots n) 519 (and-right (slotsGood slots n) (leb (sizeAt slots n) 519) g))
+        rw last (leb-true (sizeAt slots n) slotRoom (and-right (slotsGood slots n) (leb (sizeAt slots n) slotRoom) g))
 
-pub one-bad : (slots : List ℕ) (n k : ℕ) → k < n → 519 < sizeAt slots k → slotsGood slots n ≡ false
+pub one-bad : (slots : List ℕ) (n k : ℕ) → k < n → slotRoom < sizeAt slots k → slotsGood slots n ≡ false
 one-bad slots n k h b = not-so (slotsGood slots n) (λ g. let s = each-good slots n k g h in omega arith)
 
 -- the part of the slots behind a slot's length is its datagram
 pub slot-stepped : (slots : List ℕ) (k size : ℕ) {c : Client} {bank0 bank1 marks address buffer : List ℕ}
     {r : Stepped} {bank0′ bank1′ said : List ℕ} → size ≡ sizeAt slots k
-    → Step·Is c bank0 bank1 marks address buffer (take (k * 521 + 2 + size - (k * 521 + 2)) (drop (k * 521 + 2) slots)) r bank0′ bank1′ said
+    → Step·Is c bank0 bank1 marks address buffer (take (k * slotSize + 2 + size - (k * slotSize + 2)) (drop (k * slotSize + 2) slots)) r bank0′ bank1′ said
     → Step·Is c bank0 bank1 marks address buffer (datagramAt slots k) r bank0′ bank1′ said
 slot-stepped slots k size e s =
-    let same : k * 521 + 2 + size - (k * 521 + 2) ≡ sizeAt slots k = omega arith in
+    let same : k * slotSize + 2 + size - (k * slotSize + 2) ≡ sizeAt slots k = omega arith in
     rw same at s
 
 -- ---- one call more
 
 -- what a step makes of a run
-abbrev further : Run → Carried → Run
-further run r = ran (givenOf (r .answer) (r .told)) (keptAfter (run .kept-at-last) r) (saidNext (run .buffer) r)
+abbrev runNext : Run → Carried → Run
+runNext run r = ran (givenOf (r .answer) (r .told)) (keptAfter (run .kept-at-last) r) (saidNext (run .buffer) r)
 
 run-more : (buffer : List ℕ) (k : Kept) (calls : List Call) (call : Call)
-    → runOf buffer k (calls ++ (call ∷ [])) ≡ further (runOf buffer k calls) (stepped (runOf buffer k calls .kept-at-last) call)
+    → runOf buffer k (calls ++ (call ∷ [])) ≡ runNext (runOf buffer k calls) (stepped (runOf buffer k calls .kept-at-last) call)
 unfolding runOf
 run-more buffer k calls call =
     let r : Carried = stepped (afterSteps k calls) call in
@@ -107,7 +107,7 @@ module _ (slots marks address buffer : List ℕ) (start : Kept) where
 
     -- the step with the buffer as it was lent is the call's
     step-is : ran (givenOf (r .answer) (r .length)) (kept (r .client) (banks bank0′ bank1′)) said
-        ≡ further (ran told (kept c pair) lent) there
+        ≡ runNext (ran told (kept c pair) lent) there
     step-is =
         λ i. record {
           given = ap₂ givenOf (s .answer ∙ same .answer) (s .told ∙ same .told) i;
@@ -126,7 +126,7 @@ module _ (slots marks address buffer : List ℕ) (start : Kept) where
     unfolding callsOf
     one-taken =
         rw (add-one k)
-        (step-is ∙ ap (λ (run : Run). further run (stepped (run .kept-at-last) call)) e
+        (step-is ∙ ap (λ (run : Run). runNext run (stepped (run .kept-at-last) call)) e
         ∙ sym (run-more buffer start (callsOf slots marks address buffer k) call))
 
 -- ---- the contract

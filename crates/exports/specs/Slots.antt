@@ -18,22 +18,28 @@ use Rattle.client.specs.Host.{newOf, initiateOf}
 use Rattle.client.specs.Step.{Carried}
 use Rattle.calls.specs.Call.{Call, Kept, kept, afterSteps, camesOf}
 
--- ---- slots of 521 bytes: a datagram's length in two, then room for 519; bytes behind the last whole slot are not looked at
+-- ---- slots: a datagram's length in two bytes, then room for the longest request; what is behind the last whole slot is not looked at
+
+abbrev pub slotRoom : ℕ
+slotRoom = 519
+
+abbrev pub slotSize : ℕ
+slotSize = 2 + slotRoom
 
 abbrev pub slotCount : List ℕ → ℕ
-slotCount slots = length slots / 521
+slotCount slots = length slots / slotSize
 
 -- the length that slot k says, and its datagram
 abbrev pub sizeAt : List ℕ → ℕ → ℕ
-sizeAt slots k = numberAt 2 slots (k * 521)
+sizeAt slots k = numberAt 2 slots (k * slotSize)
 
 abbrev pub datagramAt : List ℕ → ℕ → List ℕ
-datagramAt slots k = take (sizeAt slots k) (drop (k * 521 + 2) slots)
+datagramAt slots k = take (sizeAt slots k) (drop (k * slotSize + 2) slots)
 
 -- whether none of the first k slots says more than it has room for
 unfoldable pub slotsGood : List ℕ → ℕ → Bool
 slotsGood slots zero = true
-slotsGood slots (suc k) = slotsGood slots k && leb (sizeAt slots k) 519
+slotsGood slots (suc k) = slotsGood slots k && leb (sizeAt slots k) slotRoom
 
 -- the calls of the first k slots, each with these marks, this address and this buffer
 unfoldable pub callsOf : List ℕ → List ℕ → List ℕ → List ℕ → ℕ → List Call

@@ -8,7 +8,7 @@ ghost use mathlib.Core.Bool.{true};
 ghost use Prim.Native.Nat.{_+_, _*_, _≤_};
 ghost use lib.ListN.{length};
 ghost use Rattle.client.specs.Step.{Step·Is};
-ghost use Rattle.exports.specs.Slots.{sizeAt, datagramAt, slotsGood, givenOf, fresh, TakeSlots·Is};
+ghost use Rattle.exports.specs.Slots.{slotRoom, slotSize, sizeAt, datagramAt, slotsGood, givenOf, fresh, TakeSlots·Is};
 
 // A slot has a datagram's length in two bytes, high byte first, and room for the longest request.
 const SLOT: usize = 521;
@@ -18,7 +18,7 @@ const ROOM: usize = 519;
 
 // The length that slot k says.
 fn size_at(slots: &[u8], k: usize) -> usize
-    requires { ⌜ (k + 1) * 521 ≤ length (now slots) ⌝ }
+    requires { ⌜ (k + 1) * slotSize ≤ length (now slots) ⌝ }
     ensures { λ r. ⌜ r ≡ sizeAt (now (slots .entry)) k ⌝ }
 {
     buffer::number::number2(slots, k * SLOT) as usize
@@ -26,7 +26,7 @@ fn size_at(slots: &[u8], k: usize) -> usize
 
 // Whether no slot says more than it has room for.
 fn slots_good(slots: &[u8], count: usize) -> bool
-    requires { ⌜ count * 521 ≤ length (now slots) ⌝ }
+    requires { ⌜ count * slotSize ≤ length (now slots) ⌝ }
     ensures { λ r. ⌜ r ≡ slotsGood (now (slots .entry)) count ⌝ }
 {
     let mut k = 0;
@@ -87,8 +87,8 @@ fn take_slot(
     address: &[u8],
     buffer: &mut [u8],
 ) -> Stepped
-    requires { ⌜ (k + 1) * 521 ≤ length (now slots) ⌝ }
-    requires { ⌜ sizeAt (now slots) k ≤ 519 ⌝ }
+    requires { ⌜ (k + 1) * slotSize ≤ length (now slots) ⌝ }
+    requires { ⌜ sizeAt (now slots) k ≤ slotRoom ⌝ }
     ensures { λ r. ⌜ Step·Is client (now (bank0 .entry)) (now (bank1 .entry)) (now (marks .entry)) (now (address .entry)) (now (buffer .entry)) (datagramAt (now (slots .entry)) k) r (now (bank0 .exit)) (now (bank1 .exit)) (now (buffer .exit)) ⌝ }
 {
     let from = k * SLOT + 2;

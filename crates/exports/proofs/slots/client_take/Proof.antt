@@ -61,12 +61,12 @@ loop-again c =
     let l = (turn .before .loop) in
     let more = (turn .loop-test .taken) in
     let s = (c .before .before .before .before .before .before .before .before .take-slot) in
-    let zero : length (s .last .1 .1 .1 .0) ≡ length (l .bank0) = s .kept .1 .1 .1 .0 in
-    let one : length (s .last .1 .1 .1 .1 .0) ≡ length (l .bank1) = s .kept .1 .1 .1 .1 .0 in
+    let in0 : length (s .last .1 .1 .1 .0) ≡ length (l .bank0) = s .kept .1 .1 .1 .0 in
+    let in1 : length (s .last .1 .1 .1 .1 .0) ≡ length (l .bank1) = s .kept .1 .1 .1 .1 .0 in
     let said : length (s .last .1 .1 .1 .1 .1 .1 .1 .0) ≡ length (l .buffer) = s .kept .1 .1 .1 .1 .1 .1 .1 .0 in (
       omega arith,
-      zero ∙ l .inv .1,
-      one ∙ l .inv .2,
+      in0 ∙ l .inv .1,
+      in1 ∙ l .inv .2,
       said ∙ l .inv .3,
       rw (c .given .ensures) (one-taken _ _ _ _ _ (l .k) (l .client) (l .told) _ _ _ (l .inv .4) (l .inv .3) (s .result) _ _ _ (s .ensures)),
     )

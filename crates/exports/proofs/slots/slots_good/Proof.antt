@@ -5,7 +5,7 @@ use mathlib.Core.Bool.{true}
 use Prim.Native.Nat.{_≤_, _<_, _-_}
 use native.Mathlib.Omega.{arith}
 use borrow.Author.Needs.{needs}
-use Rattle.exports.specs.Slots.{sizeAt, slotsGood}
+use Rattle.exports.specs.Slots.{slotRoom, sizeAt, slotsGood}
 use Rattle.exports.proofs.Taking.{none-looked-at, one-more-good, one-bad}
 use Rattle.exports.proofs.slots.slots_good.Statement.{statement}
 use Rattle.exports.proofs.slots.slots_good.Tie as tie
@@ -27,7 +27,7 @@ returns c =
     let l = (c .before .before .before .loop) in
     let a = (c .before .before .before .before .before .args) in
     let z = (c .before .size-at .ensures) in
-    let big : 519 < sizeAt (a .slots .now) (l .k) = omega arith in
+    let big : slotRoom < sizeAt (a .slots .now) (l .k) = omega arith in
     sym (one-bad (a .slots .now) (a .count) (l .k) (c .before .before .loop-test .taken) big)
 
 add-k : tie.Need-add-k Inv-loop μ-loop
@@ -41,7 +41,7 @@ loop-again c =
     let l = (c .before .before .before .loop) in
     let a = (c .before .before .before .before .before .args) in
     let z = (c .before .size-at .ensures) in
-    let small : sizeAt (a .slots .now) (l .k) ≤ 519 = omega arith in
+    let small : sizeAt (a .slots .now) (l .k) ≤ slotRoom = omega arith in
     (search needs, one-more-good (a .slots .now) (l .k) (l .inv .1) small)
 
 returns-2 : tie.Need-returns-2 Inv-loop μ-loop
