@@ -3,14 +3,15 @@
 use mathlib.Core.Path.{_≡_, refl, ap, _∙_}
 use mathlib.Core.Bool.{true}
 use mathlib.Core.List.{List, [], _∷_, _++_}
-use Prim.Native.Nat.{ℕ}
-use lib.ListN.{replicate}
+use Prim.Native.Nat.{ℕ, _*_}
+use lib.ListN.{length, replicate}
 use Rattle.layout.specs.declared.Bank.the-variants.{Zero, One}
-use Rattle.layout.specs.Layout.{goodN}
+use Rattle.layout.specs.Layout.{sectorSize, goodN, startOf}
 use Rattle.layout.specs.Pair.{bankIn}
 use Rattle.lines.specs.Line.{lines}
 use Rattle.digits.specs.Digit.{valueOf, isDigit}
 use Rattle.hex.specs.declared.read.Answer.the-variants.{Accepted}
+use Rattle.hex.specs.Meaning.{Leaves}
 use Rattle.hex.specs.Spell.{byteOf, digitBytes}
 use Rattle.hex.specs.Record.{digitsIn, digitsWhole, recordOf, total, inBank, dataAt, typed, foundOf}
 use Rattle.hex.specs.Read.{Reading, readLines, textRead}
@@ -20,7 +21,6 @@ use Rattle.sender.specs.Request.{requestFrame}
 use Rattle.client.specs.Perform.{fitOf}
 use Rattle.client.specs.Host.{fixedOf}
 use Rattle.demands.specs.Board.{Datagram, after, stepMachine}
-use Rattle.demands.specs.EndToEnd.{Holds}
 use Rattle.demands.proofs.Text.{text-to-bank}
 use Rattle.demands.proofs.Witness.{image, image-fit, two-packets, witness-board, calling, order, sending, delivery, ready}
 
@@ -56,7 +56,7 @@ unfolding text upper-line table-line body-line end-line image textRead goodN rea
     inBank digitBytes byteOf isDigit valueOf total
 text-read = refl
 
-pub text-witness : Holds text One 2
+pub text-witness : Leaves (startOf One) (sectorSize * 2) (lines text) (length (lines text))
     (bankIn One
     (stepMachine
     (after stepMachine witness-board
