@@ -91,6 +91,9 @@ determined =
       first-field = λ text. once _;
       other-fields = λ text. once _;
       ends-in-blank = λ text. once _;
+      hex-number = λ text digits. once _;
+      decimal-number = λ text most. once _;
+      spelt-bytes = λ text before x y u v p q. (p .stands ∙ sym (q .stands), p .counted ∙ sym (q .counted));
       before-lines = once _;
       held-line = λ line turn. once _;
     }

@@ -53,6 +53,7 @@ use Rattle.client.specs.Body.{Body·Is as NextBody·Is}
 use Rattle.client.specs.Host.{Told·Is, New·Is, Initiate·Is, Terminate·Is}
 use Rattle.client.specs.Step.{Take·Is, Step·Is}
 use Rattle.script.specs.Text.{First·Is, Rest·Is, EndsInBlank·Is}
+use Rattle.script.specs.Spelt.{Hex·Is, Decimal·Is, Bytes·Is}
 use Rattle.script.specs.Line.{Before·Is, Held·Is}
 
 pub record Determined : Type 0 where
@@ -135,5 +136,8 @@ pub record Determined : Type 0 where
   pub first-field : (text : List ℕ) → Once (First·Is text)
   pub other-fields : (text : List ℕ) → Once (Rest·Is text)
   pub ends-in-blank : (text : List ℕ) → Once (EndsInBlank·Is text)
+  pub hex-number : (text : List ℕ) (digits : ℕ) → Once (Hex·Is text digits)
+  pub decimal-number : (text : List ℕ) (most : ℕ) → Once (Decimal·Is text most)
+  pub spelt-bytes : (text before : List ℕ) → Twice (Bytes·Is text before)
   pub before-lines : Once Before·Is
   pub held-line : (line : List ℕ) (turn : Turn) → Once (Held·Is line turn)

@@ -12,7 +12,9 @@ use Rattle.script.proofs.say.spell.Statement.{statement}
 use Rattle.script.proofs.say.spell.Tie as tie
 
 abbrev Inv-loop : tie.InvT-loop
-Inv-loop bytes into₀ i₀ into i = (i ≤ length bytes) × (length into ≡ length into₀) × (sets into (2 * i) (digitsIn (drop i bytes)) ≡ sets into₀ 0 (digitsIn bytes))
+Inv-loop bytes into₀ i₀ into i =
+    (i ≤ length bytes) × (length into ≡ length into₀) ×
+    (sets into (2 * i) (digitsIn (drop i bytes)) ≡ sets into₀ 0 (digitsIn bytes))
 
 abbrev μ-loop : tie.MeasureT-loop
 μ-loop bytes into₀ i₀ into i = length bytes - i
@@ -61,7 +63,8 @@ loop-again c =
     let t = a .bytes .now in
     let l = c .before .before .before .before .loop in
     let h : l .i < length t = omega arith in
-    (omega arith, simp (length-set, length-set) (search needs), spell-more t (l .into) (l .i) _ _ h (c .before .digit .ensures) (c .digit2 .ensures) ∙ l .inv .2)
+    let e = spell-more t (l .into) (l .i) _ _ h (c .before .digit .ensures) (c .digit2 .ensures) in
+    (omega arith, simp (length-set, length-set) (search needs), e ∙ l .inv .2)
 
 mul-result : tie.Need-mul-result Inv-loop μ-loop
 mul-result c = search needs
@@ -73,7 +76,9 @@ returns-2 : tie.Need-returns-2 Inv-loop μ-loop
 returns-2 c =
     let a = c .before .before .before .before .before .args in
     let l = c .before .loop in
-    ((search needs, sym (length-take-le _ _ (search needs))), spelt-all (a .bytes .now) (a .into .now) (l .into) (l .i) (c .before .before .if1 .left) (omega arith) (l .inv .2))
+    let b = a .bytes .now in
+    let all = spelt-all b (a .into .now) (l .into) (l .i) (c .before .before .if1 .left) (omega arith) (l .inv .2) in
+    ((search needs, sym (length-take-le _ _ (search needs))), all)
 
 pub spell-spec : {M : Type 1} → statement M
 spell-spec =

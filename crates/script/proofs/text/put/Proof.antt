@@ -12,7 +12,9 @@ use Rattle.script.proofs.text.put.Statement.{statement}
 use Rattle.script.proofs.text.put.Tie as tie
 
 abbrev Inv-loop : tie.InvT-loop
-Inv-loop text into₀ count i₀ into i = (i ≤ count) × (length into ≡ length into₀) × (sets into i (bytesIn (drop (2 * i) text)) ≡ sets into₀ 0 (bytesIn text))
+Inv-loop text into₀ count i₀ into i =
+    (i ≤ count) × (length into ≡ length into₀) ×
+    (sets into i (bytesIn (drop (2 * i) text)) ≡ sets into₀ 0 (bytesIn text))
 
 abbrev μ-loop : tie.MeasureT-loop
 μ-loop text into₀ count i₀ into i = count - i
