@@ -46,6 +46,10 @@ determined =
       reader-at = λ text at r s p q. λ k. record { text = (p .text-is ∙ sym (q .text-is)) k; at = (p .at-is ∙ sym (q .at-is)) k };
       next-line = λ reader. once _;
       kind-number = λ kind. once _;
+      answer-number = λ answer. once _;
+      made-number = λ made. once _;
+      tally-number = λ tally. once _;
+      response-number = λ response. once _;
       read-text = λ text bank n before x y u v p q. (p .image ∙ sym (q .image), p .answer ∙ sym (q .answer));
       count = λ image n x y p q. p .answered ∙ sym (q .answered);
       packet = λ image n number before x y u v p q. (p .answered ∙ sym (q .answered), p .stands ∙ sym (q .stands));

@@ -1,5 +1,5 @@
--- Every public function's contract leaves one outcome: any two that it allows are the same (01, 'How much each function must say', "any two
--- outcomes allowed by it are proved equal"). One line for each relation that a public function's contract cites; those of
+-- Every public function's contract leaves one outcome: any two that it allows are the same (01, 'How much each function must say', "proved
+-- equal"). One line for each relation that a public function's contract cites; those of
 -- `exports` alone stand in its own Determined.antt.
 -- Assumes nothing.
 use mathlib.Core.Bool.{Bool}
@@ -11,9 +11,13 @@ use Rattle.frame.specs.declared.read.Footer.{Footer}
 use Rattle.layout.specs.declared.Bank.{Bank}
 use Rattle.lines.specs.declared.line.LineReader.{LineReader}
 use Rattle.hex.specs.declared.fault.Kind.{Kind}
+use Rattle.hex.specs.declared.read.Answer.{Answer as ReadAnswer}
+use Rattle.sender.specs.declared.made.Made.{Made}
+use Rattle.sender.specs.declared.packet.Tally.{Tally}
 use Rattle.sender.specs.declared.request.Request.{Request}
 use Rattle.exchange.specs.declared.answer.Answer.{Answer}
 use Rattle.commands.specs.declared.Command.{Command}
+use Rattle.response.specs.declared.read.Response.{Response}
 use Rattle.exchange.specs.declared.answer.Refusal.{Refusal}
 use Rattle.exchange.specs.declared.request.Asked.{Asked}
 use Rattle.exchange.specs.declared.request.Request.{Request as Received}
@@ -39,11 +43,12 @@ use Rattle.bank.specs.Listed.{BodyCount·Is, BehindTable·Is, StretchAt·Is}
 use Rattle.bank.specs.Said.{Contents·Is, Check·Is}
 use Rattle.bank.specs.Sound.{Body·Is}
 use Rattle.lines.specs.Places.{Ahead·Is, Reader·Is, Next·Is}
-use Rattle.hex.specs.Read.{KindNumber·Is}
+use Rattle.hex.specs.Read.{KindNumber·Is, AnswerNumber·Is}
 use Rattle.hex.specs.Read.{Read·Is as ReadText·Is}
-use Rattle.sender.specs.Packet.{Count·Is, Packet·Is}
+use Rattle.sender.specs.Made.{MadeNumber·Is}
+use Rattle.sender.specs.Packet.{TallyNumber·Is, Count·Is, Packet·Is}
 use Rattle.sender.specs.Request.{CommandOf·Is, Request·Is}
-use Rattle.response.specs.Said.{Response·Is}
+use Rattle.response.specs.Said.{ResponseNumber·Is, Response·Is}
 use Rattle.commands.specs.Command.{RequestCode·Is, ResponseCode·Is, ParameterBytes·Is, AddedBytes·Is, Requested·Is, Answered·Is}
 use Rattle.exchange.specs.Answer.{RefusalNumber·Is, Say·Is}
 use Rattle.exchange.specs.State.{IsClosed·Is}
@@ -102,6 +107,10 @@ pub record Determined : Type 0 where
   pub reader-at : (text : RefT (List ℕ)) (at : ℕ) → Once (Reader·Is text at)
   pub next-line : (reader : LineReader) → Once (Next·Is reader)
   pub kind-number : (kind : Kind) → Once (KindNumber·Is kind)
+  pub answer-number : (answer : ReadAnswer) → Once (AnswerNumber·Is answer)
+  pub made-number : (made : Made) → Once (MadeNumber·Is made)
+  pub tally-number : (tally : Tally) → Once (TallyNumber·Is tally)
+  pub response-number : (response : Response) → Once (ResponseNumber·Is response)
   pub read-text : (text : List ℕ) (bank : Bank) (n : ℕ) (before : List ℕ) → Twice (ReadText·Is text bank n before)
   -- the sender
   pub count : (image : List ℕ) (n : ℕ) → Once (Count·Is image n)

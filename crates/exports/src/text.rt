@@ -2,23 +2,8 @@
 use hex::read::Answer;
 use layout::Bank;
 ghost use mathlib.Core.Path.{_≡_};
-ghost use Rattle.layout.specs.Said.{code};
 ghost use Rattle.hex.specs.Read.{answerSaid};
 ghost use Rattle.exports.specs.Text.{lineSaid, ReadNumbers·Is};
-
-fn number_of(answer: Answer) -> usize
-    ensures { λ r. ⌜ r ≡ code (answerSaid answer) ⌝ }
-{
-    match answer {
-        Answer::BadN => 3,
-        Answer::BadLength => 2,
-        Answer::Refused(refusal) => {
-            let kind = refusal.kind;
-            10 + hex::fault::kind_number(kind) as usize
-        }
-        Answer::Accepted => 0,
-    }
-}
 
 fn line_of(answer: Answer) -> usize
     ensures { λ r. ⌜ r ≡ lineSaid (answerSaid answer) ⌝ }
@@ -40,7 +25,7 @@ pub extern "C" fn hex_read(text: &[u8], n: usize, image: &mut [u8], told: &mut [
         return 2;
     }
     let answer = hex::read::read(text, Bank::Zero, n, image);
-    let number = number_of(answer);
+    let number = hex::read::answer_number(answer);
     told[0] = number;
     told[1] = line_of(answer);
     number

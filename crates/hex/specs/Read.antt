@@ -9,7 +9,7 @@ use lib.Seq.{sets}
 use lib.Dec.{eqb}
 use Rattle.layout.specs.declared.Bank.{Bank}
 use Rattle.layout.specs.Layout.{sectorSize, goodN, startOf}
-use Rattle.layout.specs.Said.{Said, number, fault, accepted}
+use Rattle.layout.specs.Said.{Said, number, fault, accepted, code}
 use Rattle.lines.specs.Line.{lines}
 use Rattle.hex.specs.declared.fault.Kind.{Kind}
 use Rattle.hex.specs.declared.fault.Kind.the-variants.{H1, H2, H3, H4, H5, H6}
@@ -109,6 +109,9 @@ answerSaid BadN = number 3
 answerSaid BadLength = number 2
 answerSaid (Refused r) = fault (kindNumber (r .kind)) (r .line)
 answerSaid Accepted = accepted
+
+abbrev pub AnswerNumber·Is : Answer → ℕ → Type 0
+AnswerNumber·Is answer r = r ≡ code (answerSaid answer)
 
 -- what is said of a text, in their order: 3, 2, then the fault of the first faulty line
 abbrev pub linesSay : Outcome → Said

@@ -9,7 +9,7 @@ ghost use mathlib.Core.Path.{_≡_};
 ghost use Prim.Native.Nat.{_<_};
 ghost use lib.ListN.{length};
 ghost use Rattle.lines.specs.Line.{lines};
-ghost use Rattle.hex.specs.Read.{readLines, atStart, afterLast, Read·Is};
+ghost use Rattle.hex.specs.Read.{readLines, atStart, afterLast, AnswerNumber·Is, Read·Is};
 ghost use Rattle.hex.specs.Places.{LookFits, Took, Came};
 
 // What comes back of a text.
@@ -20,6 +20,21 @@ pub enum Answer {
     BadLength,
     Refused(Refusal),
     Accepted,
+}
+
+// What it says as one number: 3 or 2, 11 to 16 for H1 to H6, and 0 for a text that is accepted.
+pub fn answer_number(answer: Answer) -> usize
+    ensures { λ r. ⌜ AnswerNumber·Is answer r ⌝ }
+{
+    match answer {
+        Answer::BadN => 3,
+        Answer::BadLength => 2,
+        Answer::Refused(refusal) => {
+            let kind = refusal.kind;
+            10 + crate::fault::kind_number(kind) as usize
+        }
+        Answer::Accepted => 0,
+    }
 }
 
 // What came of the lines.

@@ -45,11 +45,10 @@ fn say_made(buffer: &[u8], size: usize) {
 
 fn list_one(image: &[u8], p: usize) {
     let mut buffer = [0u8; ROOM];
-    match sender::packet::packet(image, N, p, &mut buffer) {
-        Made::BadN => say_refused(3),
-        Made::BadLength => say_refused(2),
-        Made::PastLast => say_refused(5),
+    let made = sender::packet::packet(image, N, p, &mut buffer);
+    match made {
         Made::Frame(size) => say_made(&buffer, size),
+        _ => say_refused(sender::made::made_number(made)),
     }
 }
 
@@ -65,10 +64,10 @@ fn list_all(image: &[u8], count: usize) {
 }
 
 fn list(image: &[u8]) {
-    match sender::packet::count(image, N) {
-        Tally::BadN => say_refused(3),
-        Tally::BadLength => say_refused(2),
+    let tally = sender::packet::count(image, N);
+    match tally {
         Tally::Packets(count) => list_all(image, count),
+        _ => say_refused(sender::packet::tally_number(tally)),
     }
 }
 
@@ -81,11 +80,11 @@ fn say_refusal(refusal: Refusal) {
 
 fn answer(text: &[u8]) {
     let mut image = [0u8; SECTOR * N];
-    match hex::read::read(text, Bank::Zero, N, &mut image) {
-        Answer::BadN => say_refused(3),
-        Answer::BadLength => say_refused(2),
+    let answer = hex::read::read(text, Bank::Zero, N, &mut image);
+    match answer {
         Answer::Refused(refusal) => say_refusal(refusal),
         Answer::Accepted => list(&image),
+        _ => say_refused(hex::read::answer_number(answer)),
     }
 }
 

@@ -8,7 +8,7 @@ use Rattle.buffer.specs.Number.{byteAt}
 use Rattle.frame.specs.Read.{readOf, parametersIn, dataIn}
 use Rattle.frame.specs.declared.read.Read.{Read}
 use Rattle.frame.specs.declared.read.Read.the-variants.{Fault, Control, Write}
-use Rattle.layout.specs.Said.{Said, number, result}
+use Rattle.layout.specs.Said.{Said, number, result, code}
 use Rattle.response.specs.declared.read.Response.{Response}
 use Rattle.response.specs.declared.read.Response.the-variants.{Unreadable, Plain, Error, Target, Firmware, Written}
 use Rattle.response.specs.Response.{responseOf}
@@ -22,6 +22,9 @@ responseSaid (Error r) = result r
 responseSaid (Target bank) = result 0x06
 responseSaid (Firmware id major minor revision) = result 0x06
 responseSaid (Written sector response write crc) = result response
+
+abbrev pub ResponseNumber·Is : Response → ℕ → Type 0
+ResponseNumber·Is response r = r ≡ code (responseSaid response)
 
 -- the result stands first
 abbrev pub resultIn : List ℕ → Read → ℕ

@@ -9,7 +9,7 @@ ghost use Prim.Native.Nat.{_+_};
 ghost use lib.ListN.{length};
 ghost use Rattle.response.specs.Response.{mayCarry, addedOf, targetOf, acceptedOf, ownOf, errorOf, controlOf};
 ghost use Rattle.response.specs.Response.{repeatsOf, storedOf, crcFits, writeOf};
-ghost use Rattle.response.specs.Said.{Response·Is};
+ghost use Rattle.response.specs.Said.{ResponseNumber·Is, Response·Is};
 
 pub enum Response {
     Unreadable,
@@ -40,6 +40,30 @@ pub enum Response {
         write: u8,
         crc: u32,
     },
+}
+
+// Its result, or number 6.
+pub fn response_number(response: Response) -> u8
+    ensures { λ r. ⌜ ResponseNumber·Is response r ⌝ }
+{
+    match response {
+        Response::Unreadable => 6,
+        Response::Plain { command: _, result } => result,
+        Response::Error { result: said } => said,
+        Response::Target { bank: _ } => 0x06,
+        Response::Firmware {
+            id: _,
+            major: _,
+            minor: _,
+            revision: _,
+        } => 0x06,
+        Response::Written {
+            sector: _,
+            response,
+            write: _,
+            crc: _,
+        } => response,
+    }
 }
 
 // Whether a response may carry a result, the error response or another: any of Table 9. By which of them, since 02 §3 rules by it.

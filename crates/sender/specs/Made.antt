@@ -1,12 +1,13 @@
 -- What the maker of a frame answers, and what it leaves in the buffer (01, 'What comes back when it is no').
 -- Assumes nothing.
+use mathlib.Core.Path.{_≡_}
 use mathlib.Core.Bool.{Bool, cond}
 use mathlib.Core.List.{List}
 use Prim.Native.Nat.{ℕ}
 use lib.Dec.{leb}
 use lib.ListN.{length}
 use Rattle.buffer.specs.Place.{frontOf}
-use Rattle.layout.specs.Said.{Said, number, value}
+use Rattle.layout.specs.Said.{Said, number, value, code}
 use Rattle.sender.specs.declared.made.Made.{Made}
 use Rattle.sender.specs.declared.made.Made.the-variants.{BadN, BadLength, PastLast, Frame}
 
@@ -20,6 +21,9 @@ madeSaid BadN = number 3
 madeSaid BadLength = number 2
 madeSaid PastLast = number 5
 madeSaid (Frame n) = value n
+
+abbrev pub MadeNumber·Is : Made → ℕ → Type 0
+MadeNumber·Is made r = r ≡ code (madeSaid made)
 
 -- "Sender: 3, 2, 5", in the paper's numbers: the first that applies, and else what was made or counted
 unfoldable pub senderSays : Bool → Bool → Bool → ℕ → Said

@@ -11,7 +11,7 @@ use Rattle.frame.specs.Frame.{writeFrame}
 use Rattle.frame.specs.declared.read.Footer.{Footer}
 use Rattle.frame.specs.declared.read.Footer.the-variants.{End, Continued}
 use Rattle.layout.specs.Layout.{sectorSize, goodN, sectorOf}
-use Rattle.layout.specs.Said.{Said, number, value}
+use Rattle.layout.specs.Said.{Said, number, value, code}
 use Rattle.sender.specs.declared.made.Made.{Made}
 use Rattle.sender.specs.declared.made.Made.the-variants.{BadN, BadLength, PastLast, Frame}
 use Rattle.sender.specs.declared.packet.Seen.{Seen}
@@ -66,6 +66,9 @@ abbrev pub tallySaid : Tally → Said
 tallySaid NoBank = number 3
 tallySaid NoImage = number 2
 tallySaid (Packets n) = value n
+
+abbrev pub TallyNumber·Is : Tally → ℕ → Type 0
+TallyNumber·Is tally r = r ≡ code (tallySaid tally)
 
 abbrev pub countSays : List ℕ → ℕ → Said
 countSays image n = senderSays (not (goodN n)) (not (imageGood image n)) false (packetCount image n)

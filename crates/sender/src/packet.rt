@@ -8,7 +8,7 @@ ghost use mathlib.Core.Bool.{true};
 ghost use Prim.Native.Nat.{_+_, _*_, _<_, _≤_};
 ghost use lib.ListN.{length};
 ghost use Rattle.layout.specs.Layout.{sectorSize, goodN};
-ghost use Rattle.sender.specs.Packet.{seenOf, footerOf, Packet·Is, Count·Is};
+ghost use Rattle.sender.specs.Packet.{seenOf, footerOf, TallyNumber·Is, Packet·Is, Count·Is};
 
 // How many packets an image has.
 pub enum Tally {
@@ -17,6 +17,17 @@ pub enum Tally {
     // The image is not that many sectors long.
     BadLength,
     Packets(usize),
+}
+
+// What it says, as a number of the paper, or how many they are.
+pub fn tally_number(tally: Tally) -> usize
+    ensures { λ r. ⌜ TallyNumber·Is tally r ⌝ }
+{
+    match tally {
+        Tally::BadN => 3,
+        Tally::BadLength => 2,
+        Tally::Packets(count) => count,
+    }
 }
 
 // How many of the sectors that were looked at are sent, and the one that is packet p, or 0.

@@ -93,8 +93,9 @@ fn say_fields(word: &[u8], pair: u16, first: u8, second: u8, quad: u32) {
 }
 
 fn say_response(datagram: &[u8]) {
-    match response::read::read_response(datagram) {
-        Response::Unreadable => say::refused(6),
+    let response = response::read::read_response(datagram);
+    match response {
+        Response::Unreadable => say::refused(response::read::response_number(response) as usize),
         Response::Plain { command, result } => {
             say_plain(commands::response_code(command), result)
         }

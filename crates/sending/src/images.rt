@@ -61,10 +61,10 @@ pub(crate) fn count(image: &[u8], fields: &[u8]) -> bool {
     if n > text::LARGEST_NUMBER {
         return false;
     }
-    match sender::packet::count(image, n) {
-        Tally::BadN => say::refused(3),
-        Tally::BadLength => say::refused(2),
+    let tally = sender::packet::count(image, n);
+    match tally {
         Tally::Packets(count) => say_count(count),
+        _ => say::refused(sender::packet::tally_number(tally)),
     }
     say::end();
     true

@@ -21,10 +21,8 @@ fn say_refused(number: usize, buffer: &[u8]) {
 
 pub(crate) fn say_made(made: Made, buffer: &[u8]) {
     match made {
-        Made::BadN => say_refused(3, buffer),
-        Made::BadLength => say_refused(2, buffer),
-        Made::PastLast => say_refused(5, buffer),
         Made::Frame(size) => say_frame(size, buffer),
+        _ => say_refused(sender::made::made_number(made), buffer),
     }
     say::end();
 }

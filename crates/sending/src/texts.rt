@@ -55,10 +55,9 @@ fn say_refusal(refusal: Refusal) {
 
 fn say_read(answer: Answer, image: &[u8]) {
     match answer {
-        Answer::BadN => say::refused(3),
-        Answer::BadLength => say::refused(2),
         Answer::Refused(refusal) => say_refusal(refusal),
         Answer::Accepted => say::text(b"accepted"),
+        _ => say::refused(hex::read::answer_number(answer)),
     }
     say::text(b" ");
     say::quad(crc::crc32(image));

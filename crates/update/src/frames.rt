@@ -17,10 +17,8 @@ fn say_frame(buffer: &[u8], size: usize) {
 
 fn say_made(made: Made, buffer: &[u8]) {
     match made {
-        Made::BadN => refusals::number(3),
-        Made::BadLength => refusals::number(2),
-        Made::PastLast => refusals::number(5),
         Made::Frame(size) => say_frame(buffer, size),
+        _ => refusals::number(sender::made::made_number(made)),
     }
 }
 

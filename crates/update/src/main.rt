@@ -63,27 +63,26 @@ fn say_script(image: &[u8], target: Bank, n: usize, packets: usize) {
 }
 
 fn counted(image: &[u8], target: Bank, n: usize) {
-    match sender::packet::count(image, n) {
-        Tally::BadN => refusals::number(3),
-        Tally::BadLength => refusals::number(2),
+    let tally = sender::packet::count(image, n);
+    match tally {
         Tally::Packets(packets) => say_script(image, target, n, packets),
+        _ => refusals::number(sender::packet::tally_number(tally)),
     }
 }
 
 fn judged(image: &[u8], target: Bank, n: usize) {
     match bank::check::check(image) {
-        Verdict::Refused => refusals::number(2),
-        Verdict::Unsound => refusals::unsound(),
         Verdict::Sound => counted(image, target, n),
+        _ => refusals::unsound(),
     }
 }
 
 fn read_into(hex_text: &[u8], target: Bank, n: usize, image: &mut [u8]) {
-    match hex::read::read(hex_text, target, n, image) {
-        Answer::BadN => refusals::number(3),
-        Answer::BadLength => refusals::number(2),
+    let answer = hex::read::read(hex_text, target, n, image);
+    match answer {
         Answer::Refused(refusal) => refusals::line(refusal),
         Answer::Accepted => judged(image, target, n),
+        _ => refusals::number(hex::read::answer_number(answer)),
     }
 }
 

@@ -11,8 +11,8 @@ returns c = not-told (c .if1 .taken)
 read-requires : tie.Need-read-requires
 read-requires c κs = search needs
 
-number-of-requires : tie.Need-number-of-requires
-number-of-requires c κs = search needs
+answer-number-requires : tie.Need-answer-number-requires
+answer-number-requires c κs = search needs
 
 slice-write-told : tie.Need-slice-write-told
 slice-write-told c = search needs
@@ -32,7 +32,7 @@ same-length-2 c = search needs
 returns-2 : tie.Need-returns-2
 returns-2 c =
     both-told (c .before .before .before .before .before .before .if1 .left) (c .before .before .before .before .read .ensures)
-    (c .before .number-of .ensures) (c .line-of .ensures)
+    (c .before .answer-number .ensures) (c .line-of .ensures)
 
 pub hex-read-spec : {M : Type 1} → statement M
 hex-read-spec =
@@ -40,7 +40,7 @@ hex-read-spec =
     (tie.spec
     returns
     read-requires
-    number-of-requires
+    answer-number-requires
     slice-write-told
     line-of-requires
     slice-write-told-2
