@@ -1,12 +1,12 @@
--- `exports::text::number_of` meets its contract: 3, 2, ten more than the H's number, 0.
+-- `hex::read::answer_number` meets its contract: 3, 2, ten more than the H's number, 0.
 -- Assumes nothing.
 use mathlib.Core.Path.{sym, ap, _∙_}
 use Prim.Native.Nat.{ℕ, _+_}
 use Rattle.layout.specs.Said.{code}
 use Rattle.hex.specs.Read.{answerSaid}
 use borrow.Author.Needs.{needs}
-use Rattle.exports.proofs.text.number_of.Statement.{statement}
-use Rattle.exports.proofs.text.number_of.Tie as tie
+use Rattle.hex.proofs.read.answer_number.Statement.{statement}
+use Rattle.hex.proofs.read.answer_number.Tie as tie
 
 enum-told : tie.Need-enum-told
 enum-told c = search needs
@@ -41,8 +41,8 @@ returns-3 c = ap (λ (k : ℕ). 10 + k) (c .kind-number .ensures) ∙ ap (λ a. 
 returns-4 : tie.Need-returns-4
 returns-4 c = search needs
 
-pub number-of-spec : {M : Type 1} → statement M
-number-of-spec =
+pub answer-number-spec : {M : Type 1} → statement M
+answer-number-spec =
     tie.close
     (tie.spec
     enum-told
