@@ -17,7 +17,7 @@ same-length c = search needs
 
 returns : tie.Need-returns
 returns c =
-    let e = (c .before .before .packet .ensures) in
+    let e = (c .before .before .before .packet .ensures) in
     record { number-is = (c .made-number .ensures) ∙ ap code (e .says); stands = e .stands }
 
 pub sender-packet-spec : {M : Type 1} → statement M
