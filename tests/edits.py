@@ -1,20 +1,20 @@
-"""The must-fail edits of a crate: what each file claims, and which function each claim breaks.
+"""The must-fail edits of a crate: what each file claims, and which function or definition each claim breaks.
 
 A file with one claim says it in its comment, and the file's name is the claim's label. A file with several has a line in front of each,
     # LABEL (FUNCTION): what holds, and is broken by what follows
-then `file:`, `old:` and `new:` as `rt must-fail` takes them. One check of the crate then tries them all, so each breaks another function, within its
-body or in a constant that no other of them names: what one of them breaks shows in the proof of its own function alone."""
+or the name of the definition that it edits in the function's place; then `file:`, `old:` and `new:` as `rt must-fail` takes them. One check of the crate
+then tries them all. So of code each breaks another function, within its body or in a constant that no other of them names."""
 import collections
 import re
 
 from source import Fault, blanked, constants, functions, methods
 
-# `breaks` is the function as a claim of several names it, and `pairs` are its replacements: [(file, old, new), ..]
+# `breaks` is the function or definition as a claim of several names it, and `pairs` are its replacements: [(file, old, new), ..]
 Claim = collections.namedtuple("Claim", "label breaks words pairs")
 # `where` is 'body', 'head' (with the contract), 'constant' or None, and `names` are the functions that it touches, as a log names them
 Place = collections.namedtuple("Place", "where names")
 
-NAMED = re.compile(r"# (\w+) \(([\w:]+)\): (\S.*)")
+NAMED = re.compile(r"# (\w+) \(([^\s()]+)\): (\S.*)")
 
 
 def claims(text, name):

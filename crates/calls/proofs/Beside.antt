@@ -1,7 +1,7 @@
 -- The step is the call on the target, with the running bank beside it: it refuses where N or that bank's length is wrong, and nothing else of
 -- that bank bears on it. So what holds of a call holds of a step, and steps one after another are the calls on the target.
 -- Assumes nothing.
-use mathlib.Core.Path.{_≡_, refl, sym, ap, ap₂, subst, _∙_}
+use mathlib.Core.Path.{_≡_, refl, sym, ap, ap₂, _∙_}
 use mathlib.Core.Logic.{_⊎_, inl, inr}
 use mathlib.Core.Bool.{Bool, true, false}
 use mathlib.Core.List.{List, [], _∷_}
@@ -15,7 +15,6 @@ use Rattle.buffer.proofs.Bools.{split}
 use Rattle.frame.specs.Read.{dataIn}
 use Rattle.flash.specs.Bank.{sweptOf}
 use Rattle.layout.specs.declared.Bank.{Bank}
-use Rattle.layout.specs.declared.Bank.the-variants.{Zero, One}
 use Rattle.layout.specs.Layout.{goodN, bankSize, otherOf}
 use Rattle.layout.specs.Pair.{Banks, bankIn, withBank}
 use Rattle.layout.proofs.Pairs.{bank-there, bank-beside, pair-same, pair-last}
@@ -35,7 +34,7 @@ use Rattle.client.specs.Record.{standingOf, Stays}
 use Rattle.client.specs.Step.{Carried, carriedOf, planned, takeOf, besideOf}
 use Rattle.calls.specs.Call.{Call, Held, held, taken, afterCalls, cameOf, Kept, kept, stepped, keptAfter, afterSteps, camesOf}
 use Rattle.calls.proofs.Courses.{Course, still, Alike, alike, same, take-course}
-use Rattle.calls.proofs.Keeping.{carried-length, carried-stays, take-length, take-stays, take-fits, calls-stay}
+use Rattle.calls.proofs.Keeping.{carried-length, carried-stays, take-length, take-stays, take-fits}
 use Rattle.calls.proofs.Leading.{Finishing, leads}
 
 -- ---- one step

@@ -2,8 +2,7 @@
 -- Assumes nothing.
 use mathlib.Core.List.{List, [], _∷_}
 use Prim.Native.Nat.{ℕ}
-use Rattle.layout.specs.Layout.{otherOf}
-use Rattle.layout.specs.Pair.{Banks, bankIn}
+use Rattle.layout.specs.Pair.{Banks}
 use Rattle.client.specs.declared.record.Client.{Client}
 use Rattle.client.specs.Step.{Carried, takeOf, stepOf, banksAfter}
 

@@ -1,18 +1,16 @@
 -- How deciding, doing and saying become one step, on the target alone and with the running bank beside it.
 -- Assumes nothing.
-use mathlib.Core.Path.{_≡_, refl, sym, ap, ap₂, _∙_}
+use mathlib.Core.Path.{_≡_, sym, ap, ap₂, _∙_}
 use mathlib.Core.Bool.{true, false}
 use mathlib.Core.List.{List, []}
 use Prim.Native.Nat.{ℕ}
-use lib.Dec.{eqb}
 use lib.ListN.{length}
 use borrow.Author.Tests.{eq-eqb, ne-eqb}
 use Rattle.buffer.specs.Place.{frontOf}
 use Rattle.frame.specs.Read.{dataIn}
 use Rattle.layout.specs.declared.Bank.{Bank}
-use Rattle.layout.specs.declared.Bank.the-variants.{Zero, One}
 use Rattle.layout.specs.Layout.{goodN, bankSize, goodSize, otherOf}
-use Rattle.layout.specs.Pair.{Banks, banks, bankIn, withBank}
+use Rattle.layout.specs.Pair.{Banks, bankIn, withBank}
 use Rattle.layout.proofs.Layouts.{size-good}
 use Rattle.exchange.specs.declared.answer.Answer.{Answer}
 use Rattle.exchange.specs.declared.answer.Answer.the-variants.{Refused}
@@ -25,21 +23,7 @@ use Rattle.client.specs.declared.perform.Served.{Served}
 use Rattle.client.specs.declared.record.Client.{Client}
 use Rattle.client.specs.declared.step.Stepped.{Stepped}
 use Rattle.client.specs.Perform.{servedOf, Served·Is}
-use Rattle.client.specs.Step.{
-  noticeOf,
-  Carried,
-  carriedOf,
-  Carried·Is,
-  planned,
-  takeOf,
-  takeSays,
-  Take·Is,
-  besideOf,
-  stepOf,
-  banksAfter,
-  stepSays,
-  Step·Is,
-}
+use Rattle.client.specs.Step.{noticeOf, Carried, carriedOf, Carried·Is, planned, takeOf, Take·Is, besideOf, stepOf, Step·Is}
 use Rattle.client.proofs.Numbers.{take-says, beside-says}
 
 -- do, and then say

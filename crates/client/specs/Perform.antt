@@ -29,7 +29,7 @@ fitBy verdict.Refused = false
 fitBy verdict.Sound = true
 fitBy verdict.Unsound = false
 
--- whether a client may start a bank: by the bank, and by what was fixed when the client was made
+-- whether a client may start a bank: by the bank, and by what was fixed when the client was made (of use from 02 §10 on)
 abbrev pub fitOf : Fixed → List ℕ → Bool
 fitOf fixed bank = fitBy (verdictOf bank)
 

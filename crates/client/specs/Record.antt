@@ -52,7 +52,7 @@ having received c = record { fixed = c .fixed; next = c .next; state = c .state;
 abbrev pub initiated : Client → Client
 initiated c = inState Idle c
 
--- 61: "to control"; the count of write sessions starts anew
+-- 61: "to control"; how an earlier session ended is forgotten
 abbrev pub opened : Client → Client
 opened c = inState Control (lately Nothing c)
 

@@ -8,7 +8,6 @@ use lib.Dec.{eqb}
 use lib.ListN.{length}
 use Rattle.buffer.specs.Place.{frontOf}
 use Rattle.frame.specs.Read.{dataIn}
-use Rattle.layout.specs.declared.Bank.{Bank}
 use Rattle.layout.specs.Layout.{goodN, bankSize, otherOf}
 use Rattle.layout.specs.Pair.{Banks, banks, bankIn, withBank}
 use Rattle.exchange.specs.declared.answer.Answer.{Answer}
@@ -110,7 +109,7 @@ pub record Take·Is (c : Client) (target marks address buffer datagram : List �
 
 -- ---- with the running bank beside it
 
--- 3 and 2 are asked of the running bank's length before all else
+-- N and the running bank's length are asked before all else: 3, then 2
 unfoldable pub besideOf : Client → ℕ → List ℕ → List ℕ → List ℕ → List ℕ → List ℕ → Carried
 besideOf c running target marks address buffer datagram =
     cond (goodN (c .fixed .n))

@@ -11,7 +11,6 @@ use lib.ListN.{length, getD}
 use borrow.Author.Tests.{not-false}
 use Rattle.buffer.proofs.Bools.{split}
 use Rattle.layout.specs.Layout.{goodN}
-use Rattle.commands.specs.declared.Command.{Command}
 use Rattle.commands.specs.declared.Command.the-variants.{ModeStart, BankInfo, VersionInfo, WriteStart, WriteEnd, ModeEnd}
 use Rattle.commands.specs.Command.{responseCode}
 use Rattle.exchange.specs.declared.answer.Answer.{Answer}

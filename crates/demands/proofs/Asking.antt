@@ -5,12 +5,11 @@ use mathlib.Core.Bool.{true}
 use mathlib.Core.List.{List, _++_}
 use Prim.Native.Nat.{ℕ, _+_, _-_, _^_, _<_}
 use native.Mathlib.Omega.{arith}
-use lib.ListN.{length, take, drop, length-append}
+use lib.ListN.{length, take, length-append}
 use lib.Seq.{take-at, drop-at, take-all}
 use borrow.Author.Tests.{eq-eqb}
 use Rattle.buffer.specs.Number.{numberOf, bytesOf, numberAt}
 use Rattle.buffer.proofs.Numbers.{number-inside, number-bytes, length-bytes}
-use Rattle.frame.specs.Frame.{controlFrame}
 use Rattle.frame.specs.Read.{readOf, parametersIn}
 use Rattle.frame.specs.declared.read.Read.the-variants.{Control}
 use Rattle.frame.proofs.RoundTrip.{control-back, control-parameters}

@@ -35,8 +35,7 @@ use Rattle.sender.proofs.Image.{SentAt, used-sent, packet-read, packet-data}
 use Rattle.sender.proofs.Packets.{Sent, sent-in, sector-length}
 use Rattle.commands.specs.declared.Command.{Command}
 use Rattle.commands.specs.declared.Command.the-variants as command
-use Rattle.commands.specs.Command.{responseCode, errorCode}
-use Rattle.exchange.specs.declared.answer.Answer.the-variants.{Error, Response, Written}
+use Rattle.exchange.specs.declared.answer.Answer.the-variants.{Written}
 use Rattle.client.specs.declared.record.Latest.the-variants.{Good}
 use Rattle.exchange.specs.declared.state.State.the-variants as state
 use Rattle.exchange.specs.Answer.{writtenBytes, answerBytes}

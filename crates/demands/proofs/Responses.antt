@@ -30,7 +30,7 @@ use Rattle.commands.specs.declared.Command.the-variants.{ModeStart, BankInfo, V
 use Rattle.commands.specs.Command.{responseCode, addedBytes, answeredBy}
 use Rattle.commands.proofs.Codes.{response-back}
 use Rattle.response.specs.declared.read.Response.{Response}
-use Rattle.response.specs.declared.read.Response.the-variants.{Unreadable, Plain, Error, Target, Firmware, Written}
+use Rattle.response.specs.declared.read.Response.the-variants.{Unreadable, Plain, Firmware}
 use Rattle.response.specs.Response.{
   mayCarry,
   addedOf,

@@ -18,22 +18,7 @@ use Rattle.client.specs.declared.record.Client.{Client}
 use Rattle.client.specs.Host.{initiateOf, terminateOf}
 use Rattle.client.specs.Record.{Stays}
 use Rattle.calls.proofs.Beside.{step-stays, step-length}
-use Rattle.demands.specs.Board.{
-  Board,
-  Call,
-  Input,
-  Initiate,
-  Terminate,
-  Datagram,
-  after,
-  runningBank,
-  targetBank,
-  lentOf,
-  lentTarget,
-  called,
-  callOutcome,
-  stepMachine,
-}
+use Rattle.demands.specs.Board.{Board, Call, Input, Initiate, Terminate, Datagram, after, runningBank, targetBank, lentTarget, called, callOutcome, stepMachine}
 use Rattle.demands.proofs.Lending.{lent-in, back-with}
 
 initiate-stays : (c : Client) → Stays c (initiateOf c .client)

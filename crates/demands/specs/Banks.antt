@@ -13,7 +13,7 @@ use Rattle.bank.specs.Said.{verdictSaid}
 use Rattle.bank.specs.Sound.{stretchBytes}
 use Rattle.bank.specs.Table.{countOf, entryAt}
 use Rattle.client.specs.declared.record.Client.{Client}
-use Rattle.layout.specs.Pair.{Banks, banks, bankIn}
+use Rattle.layout.specs.Pair.{banks, bankIn}
 use Rattle.client.specs.Body.{banksGood}
 
 -- 2 unless the length is 1 to 491 sectors; then 06 if each rule is kept, and 1E if not

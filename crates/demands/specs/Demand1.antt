@@ -122,7 +122,7 @@ wrongValues c datagram (Control code n) =
     && not (addressesGood (c .fixed .n) (c .fixed .running) (numberAt 4 (parametersIn datagram) 0) (numberAt 4 (parametersIn datagram) 4))
 wrongValues c datagram (Write sector m footer) = not (valuesGood (c .fixed .n) sector m)
 
--- of a packet its own sector, of a write end any
+-- the packet's own sector; a write end has a row of its own
 abbrev pub wornSector : List ℕ → Read → Bool
 wornSector marks Fault = false
 wornSector marks (Control code n) = false

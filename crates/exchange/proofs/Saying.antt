@@ -11,7 +11,6 @@ use Rattle.buffer.specs.Place.{placeOf, frontOf}
 use Rattle.buffer.proofs.Numbers.{length-bytes}
 use Rattle.buffer.proofs.Places.{front-none, place-last}
 use Rattle.commands.specs.Command.{responseCode, errorCode}
-use Rattle.commands.specs.declared.Command.{Command}
 use Rattle.commands.specs.declared.Command.the-variants.{BankInfo, VersionInfo}
 use Rattle.frame.specs.Frame.{frameError, controlFrame}
 use Rattle.frame.specs.Write.{putControl, putWrite}

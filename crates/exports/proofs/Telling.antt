@@ -1,6 +1,6 @@
 -- The number and the line of a hex text, told in a list with room for both, and nothing done without it.
 -- Assumes nothing.
-use mathlib.Core.Path.{_≡_, refl, ap, ap₂, _∙_}
+use mathlib.Core.Path.{_≡_, ap, ap₂, _∙_}
 use mathlib.Core.List.{List, [], _∷_}
 use Prim.Native.Nat.{ℕ, _≤_, _<_}
 use native.Mathlib.Omega.{arith}
@@ -8,7 +8,7 @@ use lib.ListN.{length, set}
 use borrow.Author.Tests.{le-leb, lt-leb}
 use Rattle.buffer.specs.Place.{frontOf}
 use Rattle.layout.specs.declared.Bank.the-variants.{Zero}
-use Rattle.layout.specs.Said.{Said, code}
+use Rattle.layout.specs.Said.{code}
 use Rattle.hex.specs.declared.read.Answer.{Answer}
 use Rattle.hex.specs.Read.{answerSaid, Read·Is}
 use Rattle.exports.specs.Text.{lineSaid, ReadNumbers·Is}

@@ -9,7 +9,7 @@ use lib.ListN.{length, take, drop}
 use Rattle.buffer.specs.Number.{numberAt}
 use Rattle.buffer.specs.Place.{frontOf}
 use Rattle.layout.specs.declared.Bank.the-variants.{Zero}
-use Rattle.layout.specs.Pair.{Banks, banks}
+use Rattle.layout.specs.Pair.{banks}
 use Rattle.exchange.specs.declared.answer.Answer.{Answer}
 use Rattle.exchange.specs.declared.answer.Answer.the-variants.{Refused, FrameError, Error, Response, BankIs, VersionIs, Written}
 use Rattle.exchange.specs.Answer.{answerBytes, refusalNumber}

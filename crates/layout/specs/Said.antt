@@ -16,7 +16,7 @@ abbrev pub countedSaid : Counted → Said
 countedSaid Refused = number 2
 countedSaid (Sectors n) = value n
 
--- as one number, for a caller in C: H1 to H6 are 11 to 16, and an accepted text is 0
+-- as one number, for C and for what programs print: H1 to H6 are 11 to 16, and an accepted text is 0
 abbrev pub code : Said → ℕ
 code (number n) = n
 code (result n) = n

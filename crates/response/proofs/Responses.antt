@@ -19,20 +19,7 @@ use Rattle.frame.specs.declared.read.Footer.the-variants.{End, Continued}
 use Rattle.frame.specs.declared.read.Read.the-variants.{Fault, Control, Write}
 use Rattle.response.specs.declared.read.Response.{Response}
 use Rattle.response.specs.declared.read.Response.the-variants.{Unreadable, Plain, Error, Written}
-use Rattle.response.specs.Response.{
-  mayCarry,
-  addedOf,
-  acceptedOf,
-  ownOf,
-  errorOf,
-  answerOf,
-  controlOf,
-  repeatsOf,
-  crcFits,
-  writeOf,
-  responseIn,
-  responseOf,
-}
+use Rattle.response.specs.Response.{mayCarry, addedOf, acceptedOf, ownOf, errorOf, controlOf, repeatsOf, crcFits, writeOf, responseIn, responseOf}
 use Rattle.response.specs.Said.{responseSaid, Response·Is}
 use Rattle.response.proofs.Six.{response-says}
 

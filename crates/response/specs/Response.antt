@@ -19,7 +19,7 @@ use Rattle.layout.specs.declared.Bank.the-variants.{Zero, One}
 use Rattle.response.specs.declared.read.Response.{Response}
 use Rattle.response.specs.declared.read.Response.the-variants.{Unreadable, Plain, Error, Target, Firmware, Written}
 
--- the results that a response may carry, the error response or another: "in Table 9"
+-- the results that a response may carry, the error response or another: "in Table 9"; both the same until 02 §3
 unfoldable pub mayCarry : Bool → ℕ → Bool
 mayCarry error result =
     eqb result 0x05 || eqb result 0x06 || eqb result 0x07 || eqb result 0x15 || eqb result 0x1C || eqb result 0x1D

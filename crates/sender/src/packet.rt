@@ -48,14 +48,15 @@ fn look(image: &[u8], k: usize, p: usize, seen: Seen) -> Seen
     if buffer::compare::blank(&image[from..to]) {
         return seen;
     }
+    let count = seen.count + 1;
     if seen.count == p {
         return Seen {
-            count: seen.count + 1,
+            count,
             sector: k + 1,
         };
     }
     Seen {
-        count: seen.count + 1,
+        count,
         sector: seen.sector,
     }
 }

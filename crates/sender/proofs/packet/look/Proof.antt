@@ -30,65 +30,36 @@ blank-requires : tie.Need-blank-requires
 blank-requires c κs = search needs
 
 returns : tie.Need-returns
-returns c = seen-blank (c .before .before .before .before .before .args .image .now) (c .before .before .before .before .before .args .p)
-    (c .before .before .before .before .before .args .k) (c .before .before .before .before .before .args .seen)
-    (c .before .before .before .before .before .pre .1 .1)
-    (sym (looked-at (c .before .before .before .before .before .args .image .now) (c .before .before .before .before .before .args .k)
-    (c .before .before .before .sector-offset .result) (c .before .blank .result) (c .before .before .before .before .before .pre .0)
-    (c .before .before .before .sector-offset .ensures) (c .before .blank .ensures)) ∙ (c .if1 .taken))
+returns c =
+    let start = c .before .before .before .before .before in
+    let a = start .args in
+    seen-blank (a .image .now) (a .p) (a .k) (a .seen) (start .pre .1 .1)
+    (sym (looked-at (a .image .now) (a .k) _ _ (start .pre .0) (c .before .before .before .sector-offset .ensures) (c .before .blank .ensures)) ∙ (c .if1 .taken))
 
-add-t13 : tie.Need-add-t13
-add-t13 c = omega (
-  arith,
-  sent-few (c .before .before .before .before .before .before .before .before .args .image .now)
-      (c .before .before .before .before .before .before .before .before .args .k),
-  seen-count
-      (c .before .before .before .before .before .before .before .before .args .image .now)
-      (c .before .before .before .before .before .before .before .before .args .p)
-      (c .before .before .before .before .before .before .before .before .args .k) _
-      (c .before .before .before .before .before .before .before .before .pre .1 .1),
-)
+add-count : tie.Need-add-count
+add-count c =
+    let start = c .before .before .before .before .before .before in
+    let a = start .args in
+    omega (arith, sent-few (a .image .now) (a .k), seen-count (a .image .now) (a .p) (a .k) _ (start .pre .1 .1))
 
 add-t14 : tie.Need-add-t14
 add-t14 c = search needs
 
 returns-2 : tie.Need-returns-2
-returns-2 c = seen-here (c .before .before .before .before .before .before .before .before .args .image .now)
-    (c .before .before .before .before .before .before .before .before .args .p)
-    (c .before .before .before .before .before .before .before .before .args .k)
-    (c .before .before .before .before .before .before .before .before .args .seen)
-    (c .before .before .before .before .before .before .before .before .pre .1 .1)
-    (sym (looked-at (c .before .before .before .before .before .before .before .before .args .image .now)
-    (c .before .before .before .before .before .before .before .before .args .k)
-    (c .before .before .before .before .before .before .sector-offset .result) (c .before .before .before .before .blank .result)
-    (c .before .before .before .before .before .before .before .before .pre .0)
-    (c .before .before .before .before .before .before .sector-offset .ensures) (c .before .before .before .before .blank .ensures)) ∙
-    (c .before .before .before .if1 .left)) (c .before .if2 .taken)
-
-add-t7 : tie.Need-add-t7
-add-t7 c = omega (
-  arith,
-  sent-few (c .before .before .before .before .before .before .before .before .args .image .now)
-      (c .before .before .before .before .before .before .before .before .args .k),
-  seen-count
-      (c .before .before .before .before .before .before .before .before .args .image .now)
-      (c .before .before .before .before .before .before .before .before .args .p)
-      (c .before .before .before .before .before .before .before .before .args .k) _
-      (c .before .before .before .before .before .before .before .before .pre .1 .1),
-)
+returns-2 c =
+    let start = c .before .before .before .before .before .before .before .before in
+    let a = start .args in
+    seen-here (a .image .now) (a .p) (a .k) (a .seen) (start .pre .1 .1)
+    (sym (looked-at (a .image .now) (a .k) _ _ (start .pre .0) (c .before .before .before .before .before .before .sector-offset .ensures) (c .before .before .before .before .blank .ensures))
+    ∙ (c .before .before .before .if1 .left)) (c .if2 .taken)
 
 returns-3 : tie.Need-returns-3
-returns-3 c = seen-other (c .before .before .before .before .before .before .before .before .args .image .now)
-    (c .before .before .before .before .before .before .before .before .args .p)
-    (c .before .before .before .before .before .before .before .before .args .k)
-    (c .before .before .before .before .before .before .before .before .args .seen)
-    (c .before .before .before .before .before .before .before .before .pre .1 .1)
-    (sym (looked-at (c .before .before .before .before .before .before .before .before .args .image .now)
-    (c .before .before .before .before .before .before .before .before .args .k)
-    (c .before .before .before .before .before .before .sector-offset .result) (c .before .before .before .before .blank .result)
-    (c .before .before .before .before .before .before .before .before .pre .0)
-    (c .before .before .before .before .before .before .sector-offset .ensures) (c .before .before .before .before .blank .ensures)) ∙
-    (c .before .before .before .if1 .left)) (c .before .if2 .left)
+returns-3 c =
+    let start = c .before .before .before .before .before .before .before .before in
+    let a = start .args in
+    seen-other (a .image .now) (a .p) (a .k) (a .seen) (start .pre .1 .1)
+    (sym (looked-at (a .image .now) (a .k) _ _ (start .pre .0) (c .before .before .before .before .before .before .sector-offset .ensures) (c .before .before .before .before .blank .ensures))
+    ∙ (c .before .before .before .if1 .left)) (c .if2 .left)
 
 pub look-spec : {M : Type 1} → statement M
 look-spec =
@@ -102,8 +73,7 @@ look-spec =
     part-blank-end
     blank-requires
     returns
-    add-t13
+    add-count
     add-t14
     returns-2
-    add-t7
     returns-3)
