@@ -11,7 +11,7 @@ use borrow.Author.Tests.{eqb-true, eq-eqb, le-leb}
 use Rattle.buffer.specs.Number.{byteAt, numberAt}
 use Rattle.buffer.proofs.Bools.{and-left, and-right}
 use Rattle.crc.specs.Crc.{crcOf}
-use Rattle.bank.specs.Stretch.{laidOut, held}
+use Rattle.bank.specs.Stretch.{laidOut, holders}
 use Rattle.bank.specs.Table.{idOf, editionOf, countOf, crcPlace, tableEnd, entryAt, restOf, entriesOf, stretchesOf}
 use Rattle.bank.specs.Sound.{mostBodies, headerGood, tableFits, tableGood, laidOutGood, stretchBytes, bodyGood, allGood, bodiesGood}
 use Rattle.bank.specs.Sound.{listedGood, contentsGood, blankGood, soundOf}
@@ -90,9 +90,9 @@ module _ (b : List ℕ) where
 
     pub place : (k : ℕ) → k < length b → Place b k
     unfolding laidOutGood
-    place k h = by (decLt k (tableEnd b)) (held k (ahead b 0)) refl (held-once (length b) k (tableEnd b) (ahead b 0) laid)
+    place k h = by (decLt k (tableEnd b)) (holders k (ahead b 0)) refl (held-once (length b) k (tableEnd b) (ahead b 0) laid)
       where
-        by : Dec (k < tableEnd b) → (n : ℕ) → held k (ahead b 0) ≡ n → held k (ahead b 0) ≤ 1 → Place b k
+        by : Dec (k < tableEnd b) → (n : ℕ) → holders k (ahead b 0) ≡ n → holders k (ahead b 0) ≤ 1 → Place b k
         by (yes d) n e o = in-table d
         by (no d) zero e o = outside (omega arith) e (kept s .outside k (omega arith) h e)
         by (no d) (suc n) e o = in-body (omega arith) (omega arith)
@@ -142,5 +142,5 @@ module _ (b : List ℕ) where
     broken-body-crc l n = unsound (λ k. n (k .body-crc i l))
 
     pub broken-outside :
-        tableEnd b ≤ i → i < length b → held i (stretchesOf (entriesOf b)) ≡ 0 → (byteAt b i ≡ 0xFF → ⊥) → soundOf b ≡ false
+        tableEnd b ≤ i → i < length b → holders i (stretchesOf (entriesOf b)) ≡ 0 → (byteAt b i ≡ 0xFF → ⊥) → soundOf b ≡ false
     broken-outside l h z n = unsound (λ k. n (k .outside i l h z))

@@ -14,7 +14,7 @@ use Rattle.buffer.specs.Compare.{blankOf}
 use Rattle.buffer.proofs.Bools.{and-left, and-right, and-both, and-false}
 use Rattle.buffer.proofs.Comparing.{blank-at, at-blank}
 use Rattle.bank.specs.declared.stretch.Stretch.{Stretch}
-use Rattle.bank.specs.Stretch.{stopOf, fitsAt, laidOut, part, blankOutside, holds, held}
+use Rattle.bank.specs.Stretch.{stopOf, fitsAt, laidOut, part, blankOutside, holds, holders}
 
 -- what the tests at one stretch say
 pub record Fits (whole at : ℕ) (s : Stretch) : Type 0 where
@@ -80,8 +80,8 @@ not-held k s h e = ltb-false k (stopOf s) (sym (simp (le-leb (s .offset) k h)) �
 
 module _ (whole k : ℕ) where
   -- a byte before `at` is in none
-  held-before : (at : ℕ) (ss : List Stretch) → k < at → laidOut whole at ss ≡ true → held k ss ≡ 0
-  unfolding held
+  held-before : (at : ℕ) (ss : List Stretch) → k < at → laidOut whole at ss ≡ true → holders k ss ≡ 0
+  unfolding holders
   held-before at [] h o = refl
   held-before at (s ∷ ss) h o =
       let f = laid-head whole at s ss o in
@@ -89,12 +89,12 @@ module _ (whole k : ℕ) where
       rw (holds-not k s n) (held-before (stopOf s) ss (omega arith) (laid-tail whole at s ss o))
 
   -- no byte is in two
-  pub held-once : (at : ℕ) (ss : List Stretch) → laidOut whole at ss ≡ true → held k ss ≤ 1
-  unfolding held
+  pub held-once : (at : ℕ) (ss : List Stretch) → laidOut whole at ss ≡ true → holders k ss ≤ 1
+  unfolding holders
   held-once at [] o = omega arith
   held-once at (s ∷ ss) o = by (holds k s) refl (held-once (stopOf s) ss (laid-tail whole at s ss o))
     where
-      by : (t : Bool) → holds k s ≡ t → held k ss ≤ 1 → cond t (held k ss + 1) (held k ss) ≤ 1
+      by : (t : Bool) → holds k s ≡ t → holders k ss ≤ 1 → cond t (holders k ss + 1) (holders k ss) ≤ 1
       by true e q = omega (arith, held-before (stopOf s) ss (holds-before k s e) (laid-tail whole at s ss o))
       by false e q = q
 
@@ -123,8 +123,8 @@ module _ (b : List ℕ) where
   -- every byte outside is 0xFF
   pub outside-blank :
       (at : ℕ) (ss : List Stretch) → at ≤ length b → laidOut (length b) at ss ≡ true → blankOutside b at ss ≡ true
-      → (k : ℕ) → at ≤ k → k < length b → held k ss ≡ 0 → getD b k 0 ≡ 0xFF
-  unfolding blankOutside held
+      → (k : ℕ) → at ≤ k → k < length b → holders k ss ≡ 0 → getD b k 0 ≡ 0xFF
+  unfolding blankOutside holders
   outside-blank at [] a o e k l h z = part-blank b at (length b) a (omega arith) e k l h
   outside-blank at (s ∷ ss) a o e k l h z =
       by (holds k s) refl z (decLt k (s .offset))
@@ -133,8 +133,8 @@ module _ (b : List ℕ) where
       f : Fits (length b) at s
       f = laid-head (length b) at s ss o
 
-      by : (t : Bool) → holds k s ≡ t → cond t (held k ss + 1) (held k ss) ≡ 0 → Dec (k < s .offset)
-          → (stopOf s ≤ k → held k ss ≡ 0 → getD b k 0 ≡ 0xFF) → getD b k 0 ≡ 0xFF
+      by : (t : Bool) → holds k s ≡ t → cond t (holders k ss + 1) (holders k ss) ≡ 0 → Dec (k < s .offset)
+          → (stopOf s ≤ k → holders k ss ≡ 0 → getD b k 0 ≡ 0xFF) → getD b k 0 ≡ 0xFF
       by true q w d ih = absurd (omega arith)
       by false q w (yes d) ih =
           part-blank b at (s .offset) (f .after) (omega (arith, f .within)) (and-left (blankOf (part b at (s .offset))) _ e) k l d
@@ -143,9 +143,9 @@ module _ (b : List ℕ) where
   -- and the other way round
   pub blank-outside :
       (at : ℕ) (ss : List Stretch) → at ≤ length b → laidOut (length b) at ss ≡ true
-      → ((k : ℕ) → at ≤ k → k < length b → held k ss ≡ 0 → getD b k 0 ≡ 0xFF)
+      → ((k : ℕ) → at ≤ k → k < length b → holders k ss ≡ 0 → getD b k 0 ≡ 0xFF)
       → blankOutside b at ss ≡ true
-  unfolding blankOutside held
+  unfolding blankOutside holders
   blank-outside at [] a o f = blank-part b at (length b) a (omega arith) (λ k l h. f k l h refl)
   blank-outside at (s ∷ ss) a o f =
       let g = laid-head (length b) at s ss o in

@@ -6,7 +6,7 @@ use mathlib.Core.List.{List}
 use lib.ListN.{length, take}
 use Rattle.buffer.specs.Number.{byteAt, numberAt}
 use Rattle.crc.specs.Crc.{crcOf}
-use Rattle.bank.specs.Stretch.{stopOf, held}
+use Rattle.bank.specs.Stretch.{stopOf, holders}
 use Rattle.bank.specs.Table.{idOf, editionOf, countOf, crcPlace, tableEnd, entryAt, entriesOf, stretchesOf}
 use Rattle.bank.specs.Sound.{mostBodies, stretchBytes}
 
@@ -29,10 +29,10 @@ pub record Kept (b : List ℕ) : Type 0 where
   pub next : (i : ℕ) → i + 1 < countOf b → bodyEnd b i ≤ bodyStart b (i + 1)
   pub within : (i : ℕ) → i < countOf b → bodyEnd b i ≤ length b
   pub body-crc : (i : ℕ) → i < countOf b → crcOf (stretchBytes b (entryAt b i)) ≡ entryAt b i .crc
-  pub outside : (k : ℕ) → tableEnd b ≤ k → k < length b → held k (stretchesOf (entriesOf b)) ≡ 0 → byteAt b k ≡ 0xFF
+  pub outside : (k : ℕ) → tableEnd b ≤ k → k < length b → holders k (stretchesOf (entriesOf b)) ≡ 0 → byteAt b k ≡ 0xFF
 
 -- where the byte at index k is: in the table, in one body and no other, or outside
 pub data Place (b : List ℕ) (k : ℕ) : Type 0 where
   in-table : k < tableEnd b → Place b k
-  in-body : tableEnd b ≤ k → held k (stretchesOf (entriesOf b)) ≡ 1 → Place b k
-  outside : tableEnd b ≤ k → held k (stretchesOf (entriesOf b)) ≡ 0 → byteAt b k ≡ 0xFF → Place b k
+  in-body : tableEnd b ≤ k → holders k (stretchesOf (entriesOf b)) ≡ 1 → Place b k
+  outside : tableEnd b ≤ k → holders k (stretchesOf (entriesOf b)) ≡ 0 → byteAt b k ≡ 0xFF → Place b k

@@ -15,19 +15,19 @@ use Rattle.decision.specs.declared.plan.Plan.{Plan}
 use Rattle.decision.specs.declared.plan.Plan.the-variants.{Keep}
 use Rattle.client.specs.declared.record.Client.{Client}
 use Rattle.client.specs.Step.{Carried, carriedOf, planned, takeOf, besideOf}
-use Rattle.calls.specs.Call.{Call, Kept, stepped, keptAfter, afterSteps, camesOf}
+use Rattle.calls.specs.Call.{Call, Board, stepped, boardAfter, afterSteps, cameOfSteps}
 
 -- ---- one call more
 
-pub steps-more : (k : Kept) (calls : List Call) (call : Call)
-    → afterSteps k (calls ++ (call ∷ [])) ≡ keptAfter (afterSteps k calls) (stepped (afterSteps k calls) call)
+pub steps-more : (k : Board) (calls : List Call) (call : Call)
+    → afterSteps k (calls ++ (call ∷ [])) ≡ boardAfter (afterSteps k calls) (stepped (afterSteps k calls) call)
 steps-more k [] call = refl
-steps-more k (x ∷ calls) call = steps-more (keptAfter k (stepped k x)) calls call
+steps-more k (x ∷ calls) call = steps-more (boardAfter k (stepped k x)) calls call
 
-pub cames-more : (k : Kept) (calls : List Call) (call : Call)
-    → camesOf k (calls ++ (call ∷ [])) ≡ camesOf k calls ++ (stepped (afterSteps k calls) call ∷ [])
+pub cames-more : (k : Board) (calls : List Call) (call : Call)
+    → cameOfSteps k (calls ++ (call ∷ [])) ≡ cameOfSteps k calls ++ (stepped (afterSteps k calls) call ∷ [])
 cames-more k [] call = refl
-cames-more k (x ∷ calls) call = ap (λ (l : List Carried). stepped k x ∷ l) (cames-more (keptAfter k (stepped k x)) calls call)
+cames-more k (x ∷ calls) call = ap (λ (l : List Carried). stepped k x ∷ l) (cames-more (boardAfter k (stepped k x)) calls call)
 
 -- ---- two buffers of one length
 

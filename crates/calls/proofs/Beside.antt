@@ -32,9 +32,9 @@ use Rattle.client.specs.declared.record.Client.{Client}
 use Rattle.client.specs.Perform.{servedOf}
 use Rattle.client.specs.Record.{standingOf, Stays}
 use Rattle.client.specs.Step.{Carried, carriedOf, planned, takeOf, besideOf}
-use Rattle.calls.specs.Call.{Call, Held, held, taken, afterCalls, cameOf, Kept, kept, stepped, keptAfter, afterSteps, camesOf}
+use Rattle.calls.specs.Call.{Call, Alone, alone, taken, afterCalls, cameOfCalls, Board, board, stepped, boardAfter, afterSteps, cameOfSteps}
 use Rattle.calls.proofs.Courses.{Course, still, Alike, alike, same, take-course}
-use Rattle.calls.proofs.Keeping.{carried-length, carried-stays, take-length, take-stays, take-fits}
+use Rattle.calls.proofs.Keeping.{carried-length, carried-stays, taken-length, take-stays, take-fits}
 use Rattle.calls.proofs.Leading.{Finishing, leads}
 
 -- ---- one step
@@ -59,7 +59,7 @@ module _ (c : Client) (running : ℕ) (target marks address buffer datagram : Li
 
   pub step-length : length (besideOf c running target marks address buffer datagram .target) ≡ length target
   step-length =
-      by-cases (λ (r : Carried). length (r .target) ≡ length target) (take-length c target marks address buffer datagram)
+      by-cases (λ (r : Carried). length (r .target) ≡ length target) (taken-length c target marks address buffer datagram)
       (λ why. carried-length c target address buffer [] (Keep (Refused why)))
 
   pub step-stays : Stays c (besideOf c running target marks address buffer datagram .client)
@@ -145,22 +145,22 @@ step-taken c running target marks address buffer datagram (inr e) = by (goodN (c
     by false g = rw g
 
 module _ (x : Bank) where
-  abbrev targetOf : Kept → Held
-  targetOf k = held (k .client) (bankIn (otherOf x) (k .pair))
+  abbrev withoutRunning : Board → Alone
+  withoutRunning k = alone (k .client) (bankIn (otherOf x) (k .pair))
 
-  module _ (k : Kept) (runs : k .client .fixed .running ≡ x) (right : Right (k .client) (bankIn x (k .pair))) (call : Call) where
-    one-step : stepped k call ≡ taken (targetOf k) call
+  module _ (k : Board) (runs : k .client .fixed .running ≡ x) (right : Right (k .client) (bankIn x (k .pair))) (call : Call) where
+    one-step : stepped k call ≡ taken (withoutRunning k) call
     one-step =
         ap (λ (y : Bank). besideOf (k .client) (length (bankIn y (k .pair))) (bankIn (otherOf y) (k .pair)) (call .marks) (call .address) (call .buffer) (call .datagram)) runs
         ∙ step-taken (k .client) (bankIn x (k .pair)) (bankIn (otherOf x) (k .pair)) (call .marks) (call .address) (call .buffer) (call .datagram) right
 
     abbrev r : Carried
-    r = taken (targetOf k) call
+    r = taken (withoutRunning k) call
 
-    next-is : keptAfter k (stepped k call) ≡ kept (r .client) (withBank (otherOf x) (r .target) (k .pair))
+    next-is : boardAfter k (stepped k call) ≡ board (r .client) (withBank (otherOf x) (r .target) (k .pair))
     next-is =
-        ap (keptAfter k) one-step
-        ∙ ap (λ (y : Bank). kept (r .client) (withBank (otherOf y) (r .target) (k .pair))) runs
+        ap (boardAfter k) one-step
+        ∙ ap (λ (y : Bank). board (r .client) (withBank (otherOf y) (r .target) (k .pair))) runs
 
     stays : r .client .fixed ≡ k .client .fixed
     stays = take-stays (k .client) (bankIn (otherOf x) (k .pair)) (call .marks) (call .address) (call .buffer) (call .datagram)
@@ -169,27 +169,27 @@ module _ (x : Bank) where
     next-right = rw (stays, bank-beside x (r .target) (k .pair)) right
 
   -- client and pair are those of the calls on the target; the running bank is as it was
-  pub steps-are : (calls : List Call) (k : Kept) → k .client .fixed .running ≡ x → Right (k .client) (bankIn x (k .pair))
-      → afterSteps k calls ≡ kept (afterCalls (targetOf k) calls .client) (withBank (otherOf x) (afterCalls (targetOf k) calls .target) (k .pair))
-  steps-are [] k runs right = ap (kept (k .client)) (sym (pair-same (otherOf x)))
+  pub steps-are : (calls : List Call) (k : Board) → k .client .fixed .running ≡ x → Right (k .client) (bankIn x (k .pair))
+      → afterSteps k calls ≡ board (afterCalls (withoutRunning k) calls .client) (withBank (otherOf x) (afterCalls (withoutRunning k) calls .target) (k .pair))
+  steps-are [] k runs right = ap (board (k .client)) (sym (pair-same (otherOf x)))
   steps-are (call ∷ calls) k runs right =
       let s = r k runs right call in
-      let t : Held = held (s .client) (s .target) in
+      let t : Alone = alone (s .client) (s .target) in
       let p : Banks = withBank (otherOf x) (s .target) (k .pair) in
-      let there : targetOf (kept (s .client) p) ≡ t = ap (held (s .client)) (bank-there (otherOf x) (k .pair)) in
-      ap (λ (n : Kept). afterSteps n calls) (next-is k runs right call)
-      ∙ steps-are calls (kept (s .client) p) (ap (λ (f : Fixed). f .running) (stays k runs right call) ∙ runs) (next-right k runs right call)
-      ∙ ap (λ (h : Held). kept (afterCalls h calls .client) (withBank (otherOf x) (afterCalls h calls .target) p)) there
-      ∙ ap (kept (afterCalls t calls .client)) (pair-last (otherOf x) (s .target) (afterCalls t calls .target) (k .pair))
+      let there : withoutRunning (board (s .client) p) ≡ t = ap (alone (s .client)) (bank-there (otherOf x) (k .pair)) in
+      ap (λ (n : Board). afterSteps n calls) (next-is k runs right call)
+      ∙ steps-are calls (board (s .client) p) (ap (λ (f : Fixed). f .running) (stays k runs right call) ∙ runs) (next-right k runs right call)
+      ∙ ap (λ (h : Alone). board (afterCalls h calls .client) (withBank (otherOf x) (afterCalls h calls .target) p)) there
+      ∙ ap (board (afterCalls t calls .client)) (pair-last (otherOf x) (s .target) (afterCalls t calls .target) (k .pair))
 
   -- and so is what came of each
-  pub steps-came : (calls : List Call) (k : Kept) → k .client .fixed .running ≡ x → Right (k .client) (bankIn x (k .pair))
-      → camesOf k calls ≡ cameOf (targetOf k) calls
+  pub steps-came : (calls : List Call) (k : Board) → k .client .fixed .running ≡ x → Right (k .client) (bankIn x (k .pair))
+      → cameOfSteps k calls ≡ cameOfCalls (withoutRunning k) calls
   steps-came [] k runs right = refl
   steps-came (call ∷ calls) k runs right =
       let s = r k runs right call in
       let p : Banks = withBank (otherOf x) (s .target) (k .pair) in
       ap₂ _∷_ (one-step k runs right call)
-      (ap (λ (n : Kept). camesOf n calls) (next-is k runs right call)
-      ∙ steps-came calls (kept (s .client) p) (ap (λ (f : Fixed). f .running) (stays k runs right call) ∙ runs) (next-right k runs right call)
-      ∙ ap (λ (t : List ℕ). cameOf (held (s .client) t) calls) (bank-there (otherOf x) (k .pair)))
+      (ap (λ (n : Board). cameOfSteps n calls) (next-is k runs right call)
+      ∙ steps-came calls (board (s .client) p) (ap (λ (f : Fixed). f .running) (stays k runs right call) ∙ runs) (next-right k runs right call)
+      ∙ ap (λ (t : List ℕ). cameOfCalls (alone (s .client) t) calls) (bank-there (otherOf x) (k .pair)))

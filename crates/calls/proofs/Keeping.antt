@@ -23,7 +23,7 @@ use Rattle.client.specs.Perform.{fitOf, Done, storeOf, checkedOf, servedOf}
 use Rattle.client.specs.Record.{standingOf, Stays}
 use Rattle.client.specs.Step.{carriedOf, planned, takeOf}
 use Rattle.client.proofs.Promising.{heard, decides}
-use Rattle.calls.specs.Call.{Call, Held, afterCalls}
+use Rattle.calls.specs.Call.{Call, Alone, afterCalls}
 
 -- ---- a plan
 
@@ -58,9 +58,9 @@ module _ (c : Client) (target marks address buffer datagram : List ℕ) where
   abbrev plan : Plan
   plan = planned c target marks address buffer datagram
 
-  pub take-length : length (takeOf c target marks address buffer datagram .target) ≡ length target
+  pub taken-length : length (takeOf c target marks address buffer datagram .target) ≡ length target
   unfolding takeOf
-  take-length = carried-length c target address buffer (dataIn datagram) plan
+  taken-length = carried-length c target address buffer (dataIn datagram) plan
 
   pub take-stays : Stays c (takeOf c target marks address buffer datagram .client)
   unfolding takeOf
@@ -94,12 +94,12 @@ module _ (c : Client) (target marks address buffer datagram : List ℕ) where
 
 -- ---- calls one after another
 
-pub calls-stay : (calls : List Call) (h : Held) → Stays (h .client) (afterCalls h calls .client)
+pub calls-stay : (calls : List Call) (h : Alone) → Stays (h .client) (afterCalls h calls .client)
 calls-stay [] h = refl
 calls-stay (call ∷ calls) h =
     calls-stay calls _ ∙ take-stays (h .client) (h .target) (call .marks) (call .address) (call .buffer) (call .datagram)
 
-pub calls-length : (calls : List Call) (h : Held) → length (afterCalls h calls .target) ≡ length (h .target)
+pub calls-length : (calls : List Call) (h : Alone) → length (afterCalls h calls .target) ≡ length (h .target)
 calls-length [] h = refl
 calls-length (call ∷ calls) h =
-    calls-length calls _ ∙ take-length (h .client) (h .target) (call .marks) (call .address) (call .buffer) (call .datagram)
+    calls-length calls _ ∙ taken-length (h .client) (h .target) (call .marks) (call .address) (call .buffer) (call .datagram)

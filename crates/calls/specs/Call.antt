@@ -16,45 +16,45 @@ pub record Call : Type 0 where
 -- ---- on the target alone
 
 -- a client and its target bank
-pub record Held : Type 0 where
+pub record Alone : Type 0 where
   pub client : Client
   pub target : List ℕ
 
-abbrev pub held : Client → List ℕ → Held
-held c target = record { client = c; target = target }
+abbrev pub alone : Client → List ℕ → Alone
+alone c target = record { client = c; target = target }
 
-abbrev pub taken : Held → Call → Carried
+abbrev pub taken : Alone → Call → Carried
 taken h call = takeOf (h .client) (h .target) (call .marks) (call .address) (call .buffer) (call .datagram)
 
 -- client and target after some calls, and what came of each
-abbrev pub afterCalls : Held → List Call → Held
+abbrev pub afterCalls : Alone → List Call → Alone
 afterCalls h [] = h
-afterCalls h (call ∷ calls) = afterCalls (held (taken h call .client) (taken h call .target)) calls
+afterCalls h (call ∷ calls) = afterCalls (alone (taken h call .client) (taken h call .target)) calls
 
-abbrev pub cameOf : Held → List Call → List Carried
-cameOf h [] = []
-cameOf h (call ∷ calls) = taken h call ∷ cameOf (held (taken h call .client) (taken h call .target)) calls
+abbrev pub cameOfCalls : Alone → List Call → List Carried
+cameOfCalls h [] = []
+cameOfCalls h (call ∷ calls) = taken h call ∷ cameOfCalls (alone (taken h call .client) (taken h call .target)) calls
 
 -- ---- with the running bank beside it
 
--- a client and its two banks
-pub record Kept : Type 0 where
+-- a board: the client and its two banks, by number; the record says which one runs
+pub record Board : Type 0 where
   pub client : Client
   pub pair : Banks
 
-abbrev pub kept : Client → Banks → Kept
-kept c pair = record { client = c; pair = pair }
+abbrev pub board : Client → Banks → Board
+board c pair = record { client = c; pair = pair }
 
-abbrev pub stepped : Kept → Call → Carried
+abbrev pub stepped : Board → Call → Carried
 stepped k call = stepOf (k .client) (k .pair) (call .marks) (call .address) (call .buffer) (call .datagram)
 
-abbrev pub keptAfter : Kept → Carried → Kept
-keptAfter k r = kept (r .client) (banksAfter (k .client) (k .pair) r)
+abbrev pub boardAfter : Board → Carried → Board
+boardAfter k r = board (r .client) (banksAfter (k .client) (k .pair) r)
 
-abbrev pub afterSteps : Kept → List Call → Kept
+abbrev pub afterSteps : Board → List Call → Board
 afterSteps k [] = k
-afterSteps k (call ∷ calls) = afterSteps (keptAfter k (stepped k call)) calls
+afterSteps k (call ∷ calls) = afterSteps (boardAfter k (stepped k call)) calls
 
-abbrev pub camesOf : Kept → List Call → List Carried
-camesOf k [] = []
-camesOf k (call ∷ calls) = stepped k call ∷ camesOf (keptAfter k (stepped k call)) calls
+abbrev pub cameOfSteps : Board → List Call → List Carried
+cameOfSteps k [] = []
+cameOfSteps k (call ∷ calls) = stepped k call ∷ cameOfSteps (boardAfter k (stepped k call)) calls

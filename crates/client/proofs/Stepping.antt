@@ -92,7 +92,7 @@ module _ (c : Client) (target marks address buffer datagram : List ℕ) (r : Ste
 module _ (c : Client) (pair : Banks) (marks address buffer datagram : List ℕ) (r : Stepped) (after answered : List ℕ) where
   pub step-is : (running : Bank) → c .fixed .running ≡ running
       → Carried·Is (besideOf c (length (bankIn running pair)) (bankIn (otherOf running) pair) marks address buffer datagram) r after answered
-      → Step·Is c (pair .zero) (pair .one) marks address buffer datagram r (withBank (otherOf running) after pair .zero) (withBank (otherOf running) after pair .one) answered
+      → Step·Is c (pair .bank0) (pair .bank1) marks address buffer datagram r (withBank (otherOf running) after pair .bank0) (withBank (otherOf running) after pair .bank1) answered
   step-is running e s =
       let whole : Carried = stepOf c pair marks address buffer datagram in
       let t : Carried·Is whole r after answered = rw (← e) at s in
@@ -104,7 +104,7 @@ module _ (c : Client) (pair : Banks) (marks address buffer datagram : List ℕ) 
             ∙ beside-says c (length (bankIn (c .fixed .running) pair)) (bankIn (otherOf (c .fixed .running)) pair) marks address buffer datagram;
         told = t .told;
         notice = t .notice;
-        bank-zero = ap₂ (λ (x : Bank) (y : List ℕ). withBank (otherOf x) y pair .zero) (sym e) (t .target);
-        bank-one = ap₂ (λ (x : Bank) (y : List ℕ). withBank (otherOf x) y pair .one) (sym e) (t .target);
+        bank-zero = ap₂ (λ (x : Bank) (y : List ℕ). withBank (otherOf x) y pair .bank0) (sym e) (t .target);
+        bank-one = ap₂ (λ (x : Bank) (y : List ℕ). withBank (otherOf x) y pair .bank1) (sym e) (t .target);
         said = t .buffer;
       }

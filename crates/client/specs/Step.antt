@@ -142,6 +142,6 @@ pub record Step·Is (c : Client) (bank0 bank1 marks address buffer datagram : Li
   pub says : answerNumber (r .answer) ≡ stepSays c (banks bank0 bank1) marks address buffer
   pub told : r .length ≡ stepOf c (banks bank0 bank1) marks address buffer datagram .told
   pub notice : r .notice ≡ stepOf c (banks bank0 bank1) marks address buffer datagram .notice
-  pub bank-zero : left0 ≡ banksAfter c (banks bank0 bank1) (stepOf c (banks bank0 bank1) marks address buffer datagram) .zero
-  pub bank-one : left1 ≡ banksAfter c (banks bank0 bank1) (stepOf c (banks bank0 bank1) marks address buffer datagram) .one
+  pub bank-zero : left0 ≡ banksAfter c (banks bank0 bank1) (stepOf c (banks bank0 bank1) marks address buffer datagram) .bank0
+  pub bank-one : left1 ≡ banksAfter c (banks bank0 bank1) (stepOf c (banks bank0 bank1) marks address buffer datagram) .bank1
   pub said : answered ≡ stepOf c (banks bank0 bank1) marks address buffer datagram .buffer

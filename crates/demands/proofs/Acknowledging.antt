@@ -22,7 +22,8 @@ use Rattle.commands.specs.declared.Command.the-variants.{WriteStart, WriteEnd}
 use Rattle.calls.proofs.Courses.{Course, still, begins, stores, ends}
 use Rattle.calls.proofs.Beside.{step-course}
 use Rattle.decision.proofs.Planning.{values-low, values-high}
-use Rattle.demands.specs.Board.{Board, Call, Input, Datagram, Outcome, said, after, lentTarget, called, stepMachine}
+use Rattle.calls.specs.Call.{Board}
+use Rattle.demands.specs.Board.{LentCall, Input, Datagram, Outcome, said, after, lentTarget, called, stepMachine}
 use Rattle.demands.specs.Demand1.{isPacket}
 use Rattle.demands.specs.Session.{isBegin, isStored}
 use Rattle.demands.specs.ShutOut.{SameButBytes, none-alike, more-alike, bringing, FirstOnly, anyOf, acknowledging}
@@ -40,7 +41,7 @@ any-set (x ∷ xs) (suc i) h = ap (λ (t : Bool). x || t) (any-set xs i (omega a
 
 -- ---- the client, by its answers
 
-module _ (b : Board) (call : Call) where
+module _ (b : Board) (call : LentCall) where
   abbrev next : Board
   next = stepMachine b (Datagram call) .board
 
@@ -74,7 +75,7 @@ module _ (b : Board) (call : Call) where
 
 -- ---- the machine
 
-module _ (b : Board) (call : Call) where
+module _ (b : Board) (call : LentCall) where
   -- it answers as the client does
   said-alike : said (acknowledging b (Datagram call)) ≡ said (stepMachine b (Datagram call))
   said-alike =

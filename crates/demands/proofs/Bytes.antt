@@ -15,7 +15,7 @@ use Rattle.exchange.specs.declared.answer.Answer.the-variants.{Refused, FrameEr
 use Rattle.exchange.specs.Answer.{answerBytes}
 use Rattle.client.specs.Perform.{Accepted}
 use Rattle.decision.proofs.Leading.{Quiet}
-use Rattle.demands.specs.Session.{isBegin, isEnd, isStored}
+use Rattle.demands.specs.Session.{isBegin, endsSession, isStored}
 
 either : (a b c : Bool) → (a && (b || c)) ≡ false → ((a && b) || (a && c)) ≡ false
 either true b c e = e
@@ -33,7 +33,7 @@ quiet-begin (BankIs bank) q = refl
 quiet-begin (VersionIs major minor revision) q = refl
 quiet-begin (Written sector result write crc) q = refl
 
-pub quiet-end : (answer : Answer) → Quiet answer → isEnd (answerBytes answer) ≡ false
+pub quiet-end : (answer : Answer) → Quiet answer → endsSession (answerBytes answer) ≡ false
 unfolding answerBytes controlFrame writeFrame framed frameError
 quiet-end (Refused why) q = refl
 quiet-end FrameError q = refl
@@ -59,7 +59,7 @@ pub response-begin : isBegin (answerBytes (Response WriteStart 0x06)) ≡ true
 unfolding answerBytes controlFrame framed
 response-begin = refl
 
-pub response-start-end : isEnd (answerBytes (Response WriteStart 0x06)) ≡ false
+pub response-start-end : endsSession (answerBytes (Response WriteStart 0x06)) ≡ false
 unfolding answerBytes controlFrame framed
 response-start-end = refl
 
@@ -75,7 +75,7 @@ pub written-begin : (sector result write crc : ℕ) → isBegin (answerBytes (Wr
 unfolding answerBytes writeFrame framed
 written-begin sector result write crc = refl
 
-pub written-end : (sector result write crc : ℕ) → isEnd (answerBytes (Written sector result write crc)) ≡ false
+pub written-end : (sector result write crc : ℕ) → endsSession (answerBytes (Written sector result write crc)) ≡ false
 unfolding answerBytes writeFrame framed
 written-end sector result write crc = refl
 

@@ -11,10 +11,11 @@ use Rattle.exchange.specs.Answer.{answerNumber}
 use Rattle.client.specs.declared.step.Stepped.{Stepped}
 use Rattle.client.specs.Step.{takeOf}
 use Rattle.calls.proofs.Beside.{step-taken}
-use Rattle.demands.specs.Board.{Board, board, Call, Datagram, lentOf, backIn, lentTarget, hostOutcome, callOutcome, stepMachine}
+use Rattle.calls.specs.Call.{Board, board}
+use Rattle.demands.specs.Board.{LentCall, Datagram, lentOf, backIn, lentTarget, hostOutcome, callOutcome, stepMachine}
 use Rattle.demands.specs.Contracts.{StepAllows, TakeAllows, stepBack, takeBack, Contracts}
 
-module _ (b : Board) (call : Call) {r : Stepped} where
+module _ (b : Board) (call : LentCall) {r : Stepped} where
   step-outcome : {zero one answered : List ℕ}
       → StepAllows b call r zero one answered
       → stepMachine b (Datagram call) ≡ stepBack b call r zero one answered
@@ -52,7 +53,7 @@ pub contracts : Contracts
 contracts =
     record {
       step = λ b call p. step-outcome b call p;
-      take = λ b call e p. take-outcome b call e p;
+      take-call = λ b call e p. take-outcome b call e p;
       initiate = λ b p. ap (hostOutcome b) (sym (p .is));
       terminate = λ b p. ap (hostOutcome b) (sym (p .is));
       new = λ p. sym (p .is);

@@ -65,28 +65,15 @@ use Rattle.client.specs.Perform.{fitOf, storeResult, storeOf, checkedOf, served
 use Rattle.client.specs.Record.{standingOf, marked}
 use Rattle.client.specs.Step.{Carried, carriedOf, takeOf, besideOf}
 use Rattle.calls.proofs.Leading.{fits-stored, storing}
-use Rattle.demands.specs.Board.{
-  Board,
-  board,
-  Call,
-  Input,
-  Initiate,
-  Terminate,
-  Datagram,
-  Outcome,
-  lentOf,
-  backIn,
-  lentTarget,
-  callOutcome,
-  stepMachine,
-}
+use Rattle.calls.specs.Call.{Board, board}
+use Rattle.demands.specs.Board.{LentCall, Input, Initiate, Terminate, Datagram, Outcome, lentOf, backIn, lentTarget, callOutcome, stepMachine}
 use Rattle.demands.specs.Demand1.{firstOf, isFault, refused, changed, answered, stored, afterFrame, callRows, tableOf, sweptTarget, Meets1}
 use Rattle.demands.proofs.Lending.{back-with, whole-again}
 use Rattle.demands.proofs.Steps.{run-stays, run-running}
 
 -- ---- what came of a call, as the rows put it
 
-module _ (b : Board) (call : Call) where
+module _ (b : Board) (call : LentCall) where
   abbrev other : Bank
   other = otherOf (b .client .fixed .running)
 
@@ -147,7 +134,7 @@ module _ (b : Board) (call : Call) where
 -- ---- a datagram, as it is read
 
 -- the board in each state, so that a state's row computes
-module _ (fixed : Fixed) (next : Bank) (latest : Latest) (received : List Bool) (pair : Banks) (call : Call) where
+module _ (fixed : Fixed) (next : Bank) (latest : Latest) (received : List Bool) (pair : Banks) (call : LentCall) where
   abbrev c : State → Client
   c s = record { fixed = fixed; next = next; state = s; latest = latest; received = received }
 

@@ -48,8 +48,9 @@ use Rattle.client.specs.Record.{starting, begun, ended}
 use Rattle.calls.proofs.Courses.{accepted, not-write}
 use Rattle.exchange.proofs.Saying.{answer-short}
 use Rattle.decision.proofs.Planning.{lent-good, values-words}
-use Rattle.demands.specs.Board.{Board, board, Call, Input, Datagram, Outcome, said, after, outcomes, targetBank, sectorsIn, lentOf, lentTarget, stepMachine}
-use Rattle.demands.specs.Session.{isEnd, allBlank, exchanged, noted}
+use Rattle.calls.specs.Call.{Board, board}
+use Rattle.demands.specs.Board.{LentCall, Input, Datagram, Outcome, said, after, outcomes, targetBank, sectorsIn, lentOf, lentTarget, stepMachine}
+use Rattle.demands.specs.Session.{endsSession, allBlank, exchanged, noted}
 use Rattle.demands.specs.Demand1.{changed, stored, packetStored, sweptTarget}
 use Rattle.demands.specs.Demand2.{Lends, Packets, none, more, Ready, Fit, Delivery, Taken, AllTaken, none-taken, more-taken, Meets2}
 use Rattle.demands.proofs.Asking.{request-read, start-read, pairGood, start-addressed}
@@ -65,13 +66,13 @@ abbrev pub Whole : ℕ → Banks → Type 0
 Whole n pair = (x : Bank) → length (bankIn x pair) ≡ bankSize n
 
 -- each bank is lent whole
-pub lent-whole : (b : Board) (call : Call) (n : ℕ) → Lends n call → Whole n (b .pair) → (x : Bank) → length (bankIn x (lentOf (call .lent) (b .pair))) ≡ bankSize n
+pub lent-whole : (b : Board) (call : LentCall) (n : ℕ) → Lends n call → Whole n (b .pair) → (x : Bank) → length (bankIn x (lentOf (call .lent) (b .pair))) ≡ bankSize n
 lent-whole b call n l whole x =
     ap length (lent-in (call .lent) (b .pair) x)
     ∙ length-take-le (call .lent x) (bankIn x (b .pair)) (omega (arith, l .banks x, whole x))
     ∙ l .banks x
 
-module _ (b : Board) (call : Call) (good : goodN (b .client .fixed .n) ≡ true) (l : Lends (b .client .fixed .n) call) (whole : Whole (b .client .fixed .n) (b .pair)) where
+module _ (b : Board) (call : LentCall) (good : goodN (b .client .fixed .n) ≡ true) (l : Lends (b .client .fixed .n) call) (whole : Whole (b .client .fixed .n) (b .pair)) where
   pub heard : isClosed (b .client .state) ≡ false → Heard b call
   heard live =
       let n : ℕ = b .client .fixed .n in
@@ -97,7 +98,7 @@ no-mark (suc n) = no-mark n
 
 -- ---- what was said
 
-pub said-back : (call : Call) (answer : List ℕ) → length answer ≤ 14 → 14 ≤ length (call .buffer) → take (length answer) (frontOf (call .buffer) answer) ≡ answer
+pub said-back : (call : LentCall) (answer : List ℕ) → length answer ≤ 14 → 14 ≤ length (call .buffer) → take (length answer) (frontOf (call .buffer) answer) ≡ answer
 said-back call answer s r = front-take (call .buffer) answer (omega arith)
 
 pub control-short : (code result : ℕ) → length (controlFrame code (result ∷ [])) ≤ 14
@@ -142,7 +143,7 @@ goes-on fixed b image now i stays whole shows w e =
     }
 
 -- what is lent, and what is whole, by the board's own N
-own-lends : (fixed : Fixed) (b : Board) (call : Call) → b .client .fixed ≡ fixed → Lends (fixed .n) call → Lends (b .client .fixed .n) call
+own-lends : (fixed : Fixed) (b : Board) (call : LentCall) → b .client .fixed ≡ fixed → Lends (fixed .n) call → Lends (b .client .fixed .n) call
 own-lends fixed b call e l = subst (λ (f : Fixed). Lends (f .n) call) (sym e) l
 
 own-whole : (fixed : Fixed) (b : Board) → b .client .fixed ≡ fixed → Whole (fixed .n) (b .pair) → Whole (b .client .fixed .n) (b .pair)
@@ -154,7 +155,7 @@ pub begins-blank : (n : ℕ) (image datagram : List ℕ) → exchanged n image d
 unfolding answerBytes
 begins-blank n image datagram = rw response-begin
 
-module _ (b : Board) (r : Ready b) (call : Call) (sent : call .datagram ≡ requestFrame (WriteStart (otherOf (b .client .fixed .running)) (b .client .fixed .n)))
+module _ (b : Board) (r : Ready b) (call : LentCall) (sent : call .datagram ≡ requestFrame (WriteStart (otherOf (b .client .fixed .running)) (b .client .fixed .n)))
     (l : Lends (b .client .fixed .n) call) where
   pub begun-is : stepMachine b (Datagram call)
       ≡ changed b call (begun (starting (b .client .fixed .running) (b .client))) noNotice (controlFrame 0x70 (0x06 ∷ []))
@@ -202,7 +203,7 @@ module _ (fixed : Fixed) (good : goodN (fixed .n) ≡ true) (image : List ℕ) (
   values : valuesGood n k 512 ≡ true
   values = sym (values-words n k 512 (sent .low) (sent .high) (omega arith) (omega arith))
 
-  module _ (b : Board) (g : List ℕ) (busy : Busy fixed b g) (call : Call) (brings : call .datagram ≡ packetFrame image n p) (l : Lends n call) where
+  module _ (b : Board) (g : List ℕ) (busy : Busy fixed b g) (call : LentCall) (brings : call .datagram ≡ packetFrame image n p) (l : Lends n call) where
     reads : readOf (call .datagram) ≡ Write k 512 (footerOf (packetCount image n) p)
     reads = ap readOf brings ∙ sym (packet-read image n p good by-sectors h)
 
@@ -338,7 +339,7 @@ module _ (fixed : Fixed) (good : goodN (fixed .n) ≡ true) (image : List ℕ) (
 
   -- ---- the end
 
-  module _ (b : Board) (busy : Busy fixed b image) (sound : fitOf fixed image ≡ true) (call : Call) (asks : call .datagram ≡ requestFrame WriteEnd)
+  module _ (b : Board) (busy : Busy fixed b image) (sound : fitOf fixed image ≡ true) (call : LentCall) (asks : call .datagram ≡ requestFrame WriteEnd)
       (l : Lends (fixed .n) call) where
     lends : Lends (b .client .fixed .n) call
     lends = own-lends fixed b call (busy .stays) l
@@ -374,7 +375,7 @@ module _ (fixed : Fixed) (good : goodN (fixed .n) ≡ true) (image : List ℕ) (
         let size = lengths-kept b (Datagram call) (otherOf (next .client .fixed .running)) ∙ own (otherOf (next .client .fixed .running)) in
         ap (λ (f : Fixed). bankIn (otherOf (f .running)) (next .pair)) (sym (machine-stays b (Datagram call) ∙ busy .stays))
         ∙ sym (take-all (bankSize (b .client .fixed .n)) (targetBank next) (omega arith))
-        ∙ step-closes b image (Datagram call) (λ _. busy .session) (ap isEnd ended-said)
+        ∙ step-closes b image (Datagram call) (λ _. busy .session) (ap endsSession ended-said)
 
 -- the board behind the end: in control state, and the session ended with 06
 pub record Over (b : Board) (fixed : Fixed) : Type 0 where
@@ -383,7 +384,7 @@ pub record Over (b : Board) (fixed : Fixed) : Type 0 where
   pub latest : b .client .latest ≡ Good
   pub whole : Whole (fixed .n) (b .pair)
 
-module _ (b : Board) (image : List ℕ) (ready : Ready b) (fit : Fit image (b .client .fixed)) (start : Call) (ps : List ℕ) (is : List Input) (end : Call)
+module _ (b : Board) (image : List ℕ) (ready : Ready b) (fit : Fit image (b .client .fixed)) (start : LentCall) (ps : List ℕ) (is : List Input) (end : LentCall)
     (d : Delivery b image start ps is end) where
   all : Busy (b .client .fixed) (after stepMachine b (Datagram start ∷ is)) image
       × AllTaken image (b .client .fixed .n) ps (outcomes stepMachine (stepMachine b (Datagram start) .board) is)

@@ -22,24 +22,9 @@ use Rattle.decision.specs.declared.plan.Fixed.{Fixed}
 use Rattle.calls.proofs.Courses.{Match, same, either, Alike as AlikeSteps}
 use Rattle.calls.proofs.Leading.{Finishing}
 use Rattle.calls.proofs.Beside.{step-alike, step-told, step-said, step-fits}
-use Rattle.demands.specs.Board.{
-  Board,
-  board,
-  Call,
-  Input,
-  Initiate,
-  Terminate,
-  Datagram,
-  said,
-  after,
-  outcomes,
-  sectorsIn,
-  lentOf,
-  lentTarget,
-  called,
-  stepMachine,
-}
-use Rattle.demands.specs.Session.{isEnd, allBlank, exchanged, noted, shown}
+use Rattle.calls.specs.Call.{Board, board}
+use Rattle.demands.specs.Board.{LentCall, Input, Initiate, Terminate, Datagram, said, after, outcomes, sectorsIn, lentOf, lentTarget, called, stepMachine}
+use Rattle.demands.specs.Session.{endsSession, allBlank, exchanged, noted, shown}
 use Rattle.demands.specs.Demand3.{AlikeBytes, same as same-bytes, either as either-bytes, Alike, AllAlike, none, more, Meets3}
 use Rattle.demands.proofs.Bytes.{written-begin, written-end, written-stored}
 use Rattle.demands.proofs.Lending.{front-alike, lent-in}
@@ -105,12 +90,12 @@ match-shown n image datagram (same e) = ap (λ (x : Answer). exchanged n image d
 match-shown n image datagram (either sector crc v w p q e f) =
     rw (e, f, written-begin sector 0x06 v crc, written-begin sector 0x06 w crc, written-stored sector v crc p, written-stored sector w crc q)
 
-match-end : {a b : Answer} → Match a b → isEnd (answerBytes a) ≡ isEnd (answerBytes b)
-match-end (same e) = ap (λ (x : Answer). isEnd (answerBytes x)) e
+match-end : {a b : Answer} → Match a b → endsSession (answerBytes a) ≡ endsSession (answerBytes b)
+match-end (same e) = ap (λ (x : Answer). endsSession (answerBytes x)) e
 match-end (either sector crc v w p q e f) =
-    ap (λ (x : Answer). isEnd (answerBytes x)) e
+    ap (λ (x : Answer). endsSession (answerBytes x)) e
     ∙ written-end sector 0x06 v crc
-    ∙ sym (ap (λ (x : Answer). isEnd (answerBytes x)) f ∙ written-end sector 0x06 w crc)
+    ∙ sym (ap (λ (x : Answer). endsSession (answerBytes x)) f ∙ written-end sector 0x06 w crc)
 
 -- ---- one input on two boards
 
@@ -123,7 +108,7 @@ pub record Twins (a b : Board) (image : List ℕ) : Type 0 where
 pub record Stepped (a b : Board) (image : List ℕ) (i : Input) : Type 0 where
   pub alike : Alike (stepMachine a i) (stepMachine b i)
   pub shown-alike : noted (a .client .fixed .n) image i (stepMachine a i) ≡ noted (a .client .fixed .n) image i (stepMachine b i)
-  pub end-alike : isEnd (said (stepMachine a i)) ≡ isEnd (said (stepMachine b i))
+  pub end-alike : endsSession (said (stepMachine a i)) ≡ endsSession (said (stepMachine b i))
 
 module _ (c : Client) (pa pb : Banks) (image : List ℕ) where
   abbrev a : Board
@@ -132,32 +117,32 @@ module _ (c : Client) (pa pb : Banks) (image : List ℕ) where
   abbrev b : Board
   b = board c pb
 
-  lent-length : (call : Call) → Twins a b image → (x : Bank)
+  lent-length : (call : LentCall) → Twins a b image → (x : Bank)
       → length (bankIn x (lentOf (call .lent) pa)) ≡ length (bankIn x (lentOf (call .lent) pb))
   lent-length call t x =
       ap length (lent-in (call .lent) pa x)
       ∙ front-alike (call .lent x) (bankIn x pa) (bankIn x pb) (t .lengths x)
       ∙ sym (ap length (lent-in (call .lent) pb x))
 
-  abbrev runs : Call → Banks → ℕ
+  abbrev runs : LentCall → Banks → ℕ
   runs call p = length (bankIn (c .fixed .running) (lentOf (call .lent) p))
 
-  target-length : (call : Call) → Twins a b image → length (lentTarget a call) ≡ length (lentTarget b call)
+  target-length : (call : LentCall) → Twins a b image → length (lentTarget a call) ≡ length (lentTarget b call)
   target-length call t = lent-length call t (otherOf (c .fixed .running))
 
-  finishing : (call : Call) → Twins a b image → Finishing c (length (lentTarget a call)) → Finishing c (length (lentTarget b call))
+  finishing : (call : LentCall) → Twins a b image → Finishing c (length (lentTarget a call)) → Finishing c (length (lentTarget b call))
   finishing call t f = record { writing = f .writing; good = f .good; whole = sym (target-length call t) ∙ f .whole }
 
   -- the call on the second board, seen with the first one's running bank: only its length counts
-  abbrev beside : Call → Carried
+  abbrev beside : LentCall → Carried
   beside call = besideOf c (runs call pa) (lentTarget b call) (call .marks) (call .address) (call .buffer) (call .datagram)
 
-  same-runs : (call : Call) → Twins a b image → beside call ≡ called b call
+  same-runs : (call : LentCall) → Twins a b image → beside call ≡ called b call
   same-runs call t =
       ap (λ (n : ℕ). besideOf c n (lentTarget b call) (call .marks) (call .address) (call .buffer) (call .datagram))
       (lent-length call t (c .fixed .running))
 
-  alike-steps : (call : Call) → Twins a b image → AlikeSteps (called a call) (beside call)
+  alike-steps : (call : LentCall) → Twins a b image → AlikeSteps (called a call) (beside call)
   alike-steps call t =
       step-alike c (runs call pa) (lentTarget a call) (lentTarget b call) (call .marks) (call .address) (call .buffer) (call .datagram)
       (target-length call t)
@@ -197,7 +182,7 @@ module _ (c : Client) (pa pb : Banks) (image : List ℕ) where
             ap (exchanged (c .fixed .n) image (call .datagram)) (said-is a call)
             ∙ match-shown (c .fixed .n) image (call .datagram) m
             ∙ sym (ap (exchanged (c .fixed .n) image (call .datagram)) (said-is b call));
-        end-alike = ap isEnd (said-is a call) ∙ match-end m ∙ sym (ap isEnd (said-is b call));
+        end-alike = ap endsSession (said-is a call) ∙ match-end m ∙ sym (ap endsSession (said-is b call));
       }
 
 twins-step : (a b : Board) (image : List ℕ) (i : Input) → Twins a b image → Stepped a b image i

@@ -73,7 +73,7 @@ determined =
       new = λ n running major minor revision x y p q. p .is ∙ sym (q .is);
       initiate = λ c x y p q. p .is ∙ sym (q .is);
       terminate = λ c x y p q. p .is ∙ sym (q .is);
-      take = λ c target marks address buffer datagram x y u v s t p q. (
+      take-call = λ c target marks address buffer datagram x y u v s t p q. (
         λ k. record {
           client = (p .client ∙ sym (q .client)) k;
           answer = (p .answer ∙ sym (q .answer)) k;

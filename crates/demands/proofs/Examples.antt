@@ -46,10 +46,11 @@ use Rattle.decision.specs.Plan.{isWorn, valuesGood}
 use Rattle.calls.proofs.Courses.{accepted}
 use Rattle.calls.proofs.Leading.{fits-stored, storing}
 use Rattle.decision.proofs.Planning.{values-zero, values-above, values-empty, values-long, values-words, values-low, values-high}
-use Rattle.demands.specs.Board.{Board, Call, Datagram, Outcome, said, lentTarget, stepMachine}
+use Rattle.calls.specs.Call.{Board}
+use Rattle.demands.specs.Board.{LentCall, Datagram, Outcome, said, lentTarget, stepMachine}
 use Rattle.demands.specs.Demand1.{packetStored}
 use Rattle.demands.specs.Demand2.{Lends}
-use Rattle.demands.specs.Examples.{Calls, Brings, Verdict, goodLength, isIdle, live, none, also, Examples}
+use Rattle.demands.specs.Examples.{Calls, Brings, SectorTaken, goodLength, isIdle, live, none, also, Examples}
 use Rattle.demands.specs.Session.{isStored}
 use Rattle.demands.proofs.Bytes.{written-stored}
 use Rattle.demands.proofs.Lending.{lent-in}
@@ -104,7 +105,7 @@ error-bytes = refl
 
 -- ---- answers
 
-calling : (b : Board) (call : Call) → Calls b call → isClosed (b .client .state) ≡ false → Heard b call
+calling : (b : Board) (call : LentCall) → Calls b call → isClosed (b .client .state) ≡ false → Heard b call
 calling b call c l = heard b call (c .good) (c .lends) (c .whole) l
 
 idle-only : (s : State) → isIdle s ≡ true → s ≡ state.Idle
@@ -113,7 +114,7 @@ idle-only state.Idle e = refl
 idle-only state.Control e = absurd (false≢true e)
 idle-only state.Write e = absurd (false≢true e)
 
-example-1 : (b : Board) (call : Call) → Calls b call → isIdle (b .client .state) ≡ true → call .datagram ≡ 0x01 ∷ 0x01 ∷ 0x61 ∷ 0x9E ∷ 0x03 ∷ []
+example-1 : (b : Board) (call : LentCall) → Calls b call → isIdle (b .client .state) ≡ true → call .datagram ≡ 0x01 ∷ 0x01 ∷ 0x61 ∷ 0x9E ∷ 0x03 ∷ []
     → said (stepMachine b (Datagram call)) ≡ 0x01 ∷ 0x02 ∷ 0x71 ∷ 0x06 ∷ 0x87 ∷ 0x03 ∷ []
 example-1 b call c s d =
     let i = idle-only (b .client .state) s in
@@ -121,18 +122,18 @@ example-1 b call c s d =
     ∙ said-back call (controlFrame 0x71 (0x06 ∷ [])) (control-short 0x71 0x06) (c .lends .room)
     ∙ started-bytes
 
-example-3-any : (b : Board) (call : Call) (m : ℕ) → Calls b call → live (b .client .state) ≡ true → readOf (call .datagram) ≡ Control 0x60 m
+example-3-any : (b : Board) (call : LentCall) (m : ℕ) → Calls b call → live (b .client .state) ≡ true → readOf (call .datagram) ≡ Control 0x60 m
     → said (stepMachine b (Datagram call)) ≡ 0x01 ∷ 0x02 ∷ 0xE0 ∷ 0x05 ∷ 0x19 ∷ 0x03 ∷ []
 example-3-any b call m c s r =
     ap said (no-request b call (calling b call c (not-true (isClosed (b .client .state)) s)) 0x60 m r refl)
     ∙ said-back call (controlFrame 0xE0 (0x05 ∷ [])) (control-short 0xE0 0x05) (c .lends .room)
     ∙ answer-3
 
-example-3 : (b : Board) (call : Call) → Calls b call → live (b .client .state) ≡ true → call .datagram ≡ 0x01 ∷ 0x01 ∷ 0x60 ∷ 0x9F ∷ 0x03 ∷ []
+example-3 : (b : Board) (call : LentCall) → Calls b call → live (b .client .state) ≡ true → call .datagram ≡ 0x01 ∷ 0x01 ∷ 0x60 ∷ 0x9F ∷ 0x03 ∷ []
     → said (stepMachine b (Datagram call)) ≡ 0x01 ∷ 0x02 ∷ 0xE0 ∷ 0x05 ∷ 0x19 ∷ 0x03 ∷ []
 example-3 b call c s d = example-3-any b call 0 c s (ap readOf d ∙ reads-3)
 
-example-6 : (b : Board) (call : Call) → Calls b call → live (b .client .state) ≡ true → call .datagram ≡ []
+example-6 : (b : Board) (call : LentCall) → Calls b call → live (b .client .state) ≡ true → call .datagram ≡ []
     → said (stepMachine b (Datagram call)) ≡ 0x01 ∷ 0x02 ∷ 0xE0 ∷ 0x07 ∷ 0x17 ∷ 0x03 ∷ []
 example-6 b call c s d =
     let room = c .lends .room in
@@ -142,7 +143,7 @@ example-6 b call c s d =
 
 -- ---- packets
 
-module _ (b : Board) (call : Call) (sector m : ℕ) (p : Brings b call sector m) where
+module _ (b : Board) (call : LentCall) (sector m : ℕ) (p : Brings b call sector m) where
   packet-heard : Heard b call
   packet-heard = calling b call (p .calls) (ap isClosed (p .writing))
 
@@ -170,14 +171,14 @@ module _ (b : Board) (call : Call) (sector m : ℕ) (p : Brings b call sector m)
       ∙ said-back call (writeFrame sector (writtenBytes 0x06 result (crcOf (paddedOf bytes))) End)
       (written-short sector 0x06 result (crcOf (paddedOf bytes))) (p .calls .lends .room)
 
-  taken : valuesGood (b .client .fixed .n) sector m ≡ true → Verdict true b call sector
+  taken : valuesGood (b .client .fixed .n) sector m ≡ true → SectorTaken true b call sector
   unfolding answerBytes
   taken v =
       ap isStored (stored-said v)
       ∙ written-stored sector result (crcOf (paddedOf bytes))
       (accepted (blankOf bytes) (sameOf (sectorOf (lentTarget b call) sector) (paddedOf bytes)))
 
-  refused : valuesGood (b .client .fixed .n) sector m ≡ false → Verdict false b call sector
+  refused : valuesGood (b .client .fixed .n) sector m ≡ false → SectorTaken false b call sector
   refused v =
       ap said (packet-wrong b call packet-heard sector m (p .footer) (p .writing) (p .reads) v)
       ∙ said-back call (writeFrame sector (writtenBytes 0x05 0x05 0) End) (written-short sector 0x05 0x05 0) (p .calls .lends .room)
@@ -187,29 +188,29 @@ good-7 : (m : ℕ) → valuesGood 491 491 m ≡ goodLength m
 unfolding valuesGood
 good-7 m = refl
 
-example-7 : (b : Board) (call : Call) (m : ℕ) → b .client .fixed .n ≡ 491 → goodLength m ≡ true → Brings b call 491 m → Verdict true b call 491
+example-7 : (b : Board) (call : LentCall) (m : ℕ) → b .client .fixed .n ≡ 491 → goodLength m ≡ true → Brings b call 491 m → SectorTaken true b call 491
 example-7 b call m n g p = taken b call 491 m p (ap (λ (x : ℕ). valuesGood x 491 m) n ∙ good-7 m ∙ g)
 
-example-7-above : (b : Board) (call : Call) (m : ℕ) → b .client .fixed .n ≡ 491 → goodLength m ≡ true
-    → Brings b call 492 m → Verdict false b call 492
+example-7-above : (b : Board) (call : LentCall) (m : ℕ) → b .client .fixed .n ≡ 491 → goodLength m ≡ true
+    → Brings b call 492 m → SectorTaken false b call 492
 example-7-above b call m n g p =
     refused b call 492 m p (ap (λ (x : ℕ). valuesGood x 492 m) n ∙ sym (values-above 491 492 m (omega arith) (omega arith)))
 
-example-7-zero : (b : Board) (call : Call) (m : ℕ) → b .client .fixed .n ≡ 491 → goodLength m ≡ true → Brings b call 0 m → Verdict false b call 0
+example-7-zero : (b : Board) (call : LentCall) (m : ℕ) → b .client .fixed .n ≡ 491 → goodLength m ≡ true → Brings b call 0 m → SectorTaken false b call 0
 example-7-zero b call m n g p = refused b call 0 m p (sym (values-zero (b .client .fixed .n) 0 m (omega arith)))
 
 -- 8
-module _ (b : Board) (call : Call) (sector : ℕ) (low : 1 ≤ sector) (high : sector ≤ b .client .fixed .n) where
-  example-8 : Brings b call sector 512 → Verdict true b call sector
+module _ (b : Board) (call : LentCall) (sector : ℕ) (low : 1 ≤ sector) (high : sector ≤ b .client .fixed .n) where
+  example-8 : Brings b call sector 512 → SectorTaken true b call sector
   example-8 p = taken b call sector 512 p (sym (values-words (b .client .fixed .n) sector 512 low high (omega arith) (omega arith)))
 
-  example-8-long : Brings b call sector 516 → Verdict false b call sector
+  example-8-long : Brings b call sector 516 → SectorTaken false b call sector
   example-8-long p = refused b call sector 516 p (sym (values-long (b .client .fixed .n) sector 516 low high (omega arith) (omega arith)))
 
-  example-8-none : Brings b call sector 0 → Verdict false b call sector
+  example-8-none : Brings b call sector 0 → SectorTaken false b call sector
   example-8-none p = refused b call sector 0 p (sym (values-empty (b .client .fixed .n) sector 0 low high (omega arith)))
 
-  example-8-odd : Brings b call sector 6 → Verdict false b call sector
+  example-8-odd : Brings b call sector 6 → SectorTaken false b call sector
   example-8-odd p = refused b call sector 6 p (sym (values-words (b .client .fixed .n) sector 6 low high (omega arith) (omega arith)))
 
 -- 9
@@ -217,7 +218,7 @@ wrong-stored : (sector : ℕ) → isStored (writeFrame sector (writtenBytes 0x05
 unfolding writeFrame framed bytesOf
 wrong-stored sector = refl
 
-module _ (b : Board) (call again : Call) (sector m : ℕ) (p : Brings b call sector m)
+module _ (b : Board) (call again : LentCall) (sector m : ℕ) (p : Brings b call sector m)
     (stored : isStored (said (stepMachine b (Datagram call))) ≡ true)
     (repeats : again .datagram ≡ call .datagram) (l : Lends (b .client .fixed .n) again) where
   -- what was accepted has good values

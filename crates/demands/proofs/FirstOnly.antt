@@ -28,7 +28,7 @@ use Rattle.decision.specs.declared.plan.Fixed.{Fixed}
 use Rattle.client.specs.Host.{fixedOf}
 use Rattle.client.specs.Perform.{fitOf}
 use Rattle.exchange.specs.Answer.{answerBytes}
-use Rattle.demands.specs.Board.{Call, Input, Datagram, Outcome, said, Machine}
+use Rattle.demands.specs.Board.{LentCall, Input, Datagram, Outcome, said, Machine}
 use Rattle.demands.specs.Demand1.{isPacket}
 use Rattle.demands.specs.Demand2.{Fit, Taken, AllTaken, more-taken, Delivered, Meets2}
 use Rattle.demands.specs.Session.{isBegin, isStored}
@@ -110,13 +110,13 @@ pub no-first-only : (m : Machine) → FirstOnly m → Meets2 m → ⊥
 unfolding witness-board order sending calling rest
 no-first-only m only meets = not-same (sym (one .bank) ∙ same ∙ subst Leaves same-first (two .bank))
   where
-    start : Call
+    start : LentCall
     start = calling (requestFrame (WriteStart One 2))
 
-    first : Call
+    first : LentCall
     first = calling (packetFrame image 2 1)
 
-    end : Call
+    end : LentCall
     end = calling (requestFrame WriteEnd)
 
     one : Delivered m witness-board image (calling (requestFrame (WriteStart One 2))) order (sending image) (calling (requestFrame WriteEnd))

@@ -19,10 +19,11 @@ use Rattle.client.specs.declared.record.Client.{Client}
 use Rattle.client.specs.Host.{fixedOf, newOf}
 use Rattle.client.specs.Notice.{noticeWith, noticeBytes, latestNumber}
 use Rattle.client.specs.Record.{closedClient, initiated, opened, modeEnded}
-use Rattle.demands.specs.Board.{Board, board, Call, Input, Initiate, Datagram, Outcome, said, stepMachine}
+use Rattle.calls.specs.Call.{Board, board}
+use Rattle.demands.specs.Board.{LentCall, Input, Initiate, Datagram, Outcome, said, stepMachine}
 use Rattle.demands.specs.Demand1.{hostDone, changed}
 use Rattle.demands.specs.Demand2.{Lends, Ready, Fit, Delivery}
-use Rattle.demands.specs.Fresh.{Fresh, inMode, afterAll, Told, MeetsFresh}
+use Rattle.demands.specs.Fresh.{Fresh, inMode, afterAll, FreshRight, MeetsFresh}
 use Rattle.demands.proofs.Asking.{request-read}
 use Rattle.demands.proofs.Demand2.{Whole, heard, said-back, control-short, Over, over, demand2}
 use Rattle.demands.proofs.Rows.{initiate, mode-start, mode-end}
@@ -49,7 +50,7 @@ module _ (n : ℕ) (running : Bank) (major minor revision : ℕ) (pair : Banks) 
   unfolding newOf
   initiated-is = initiate (board new pair) (fresh .good) refl
 
-  module _ (mode : Call) (sent : mode .datagram ≡ requestFrame ModeStart) (l : Lends n mode) where
+  module _ (mode : LentCall) (sent : mode .datagram ≡ requestFrame ModeStart) (l : Lends n mode) where
     abbrev opened-board : Board
     opened-board = board (opened (initiated new)) pair
 
@@ -68,7 +69,7 @@ module _ (n : ℕ) (running : Bank) (major minor revision : ℕ) (pair : Banks) 
     fixed-in : inMode stepMachine made mode .client .fixed ≡ fixedOf n running major minor revision
     fixed-in = ap (λ (b : Board). b .client .fixed) in-mode
 
-    module _ (image : List ℕ) (fit : Fit image (fixedOf n running major minor revision)) (start : Call) (ps : List ℕ) (is : List Input) (end ending : Call)
+    module _ (image : List ℕ) (fit : Fit image (fixedOf n running major minor revision)) (start : LentCall) (ps : List ℕ) (is : List Input) (end ending : LentCall)
         (d : Delivery (inMode stepMachine made mode) image start ps is end) (asks : ending .datagram ≡ requestFrame ModeEnd) (e : Lends n ending) where
       own-fit : Fit image (inMode stepMachine made mode .client .fixed)
       own-fit = subst (Fit image) (sym fixed-in) fit
@@ -90,7 +91,7 @@ module _ (n : ℕ) (running : Bank) (major minor revision : ℕ) (pair : Banks) 
           (subst (λ (f : Fixed). Whole (f .n) (last .pair)) (sym (done .stays)) (done .whole)) (ap isClosed (done .control)))
           (done .control) (ap readOf asks ∙ request-read ModeEnd)
 
-      pub told : Told stepMachine made image mode start ps is end ending
+      pub told : FreshRight stepMachine made image mode start ps is end ending
       told =
           record {
             initiated = ap (λ (o : Outcome). o .number) initiated-is;

@@ -22,8 +22,9 @@ use Rattle.exchange.specs.Answer.{answerBytes}
 use Rattle.calls.proofs.Courses.{Course, still, begins, stores, ends}
 use Rattle.calls.proofs.Leading.{fits-stored, packed-in}
 use Rattle.calls.proofs.Beside.{step-course}
-use Rattle.demands.specs.Board.{Board, Call, Input, Initiate, Terminate, Datagram, said, outcomes, lentTarget, called, stepMachine}
-use Rattle.demands.specs.Session.{allBlank, exchanged, shown, lately, lastAccepted}
+use Rattle.calls.specs.Call.{Board}
+use Rattle.demands.specs.Board.{LentCall, Input, Initiate, Terminate, Datagram, said, outcomes, lentTarget, called, stepMachine}
+use Rattle.demands.specs.Session.{allBlank, exchanged, shown, nextAccepted, lastAccepted}
 use Rattle.demands.proofs.Bytes.{quiet-begin, quiet-stored, response-begin, ended-begin, response-stored, written-begin, written-stored}
 use Rattle.demands.proofs.Sessions.{said-is}
 use Rattle.demands.proofs.Steps.{machine-stays}
@@ -49,9 +50,9 @@ module _ (n k : ℕ) (low : 1 ≤ k) (high : k ≤ n) where
             let size = at .size in
             with-other image number bytes h e k (record { first = low; last = omega arith }) (λ q. eqb-false number k t (sym q)) ∙ at .is
 
-    module _ (b : Board) (call : Call) (sectors : b .client .fixed .n ≡ n) where
+    module _ (b : Board) (call : LentCall) (sectors : b .client .fixed .n ≡ n) where
       step-at : Course (b .client) (lentTarget b call) (call .datagram) (called b call)
-          → At n k (exchanged n image (call .datagram) (answerBytes (called b call .answer))) (lately k sector (call .datagram) (answerBytes (called b call .answer)))
+          → At n k (exchanged n image (call .datagram) (answerBytes (called b call .answer))) (nextAccepted k sector (call .datagram) (answerBytes (called b call .answer)))
       step-at (still q t w) = rw (quiet-begin (called b call .answer) q, quiet-stored (called b call .answer) q) at
       step-at (begins a t m h) = rw (a, response-begin) blank-at
       step-at (stores number write h v a t c) =
@@ -62,9 +63,9 @@ module _ (n k : ℕ) (low : 1 ≤ k) (high : k ≤ n) where
           (put-at number (paddedOf bytes) (lies-still whole (f .inside)) (length-padded bytes (f .short)))
       step-at (ends result u a t x h) = rw (a, ended-begin result, response-stored WriteEnd result) at
 
-      call-at : At n k (exchanged n image (call .datagram) (said (stepMachine b (Datagram call)))) (lately k sector (call .datagram) (said (stepMachine b (Datagram call))))
+      call-at : At n k (exchanged n image (call .datagram) (said (stepMachine b (Datagram call)))) (nextAccepted k sector (call .datagram) (said (stepMachine b (Datagram call))))
       call-at =
-          subst (λ (s : List ℕ). At n k (exchanged n image (call .datagram) s) (lately k sector (call .datagram) s)) (sym (said-is b call))
+          subst (λ (s : List ℕ). At n k (exchanged n image (call .datagram) s) (nextAccepted k sector (call .datagram) s)) (sym (said-is b call))
           (step-at (step-course (b .client) _ (lentTarget b call) (call .marks) (call .address) (call .buffer) (call .datagram)))
 
   run-at : (is : List Input) (b : Board) (image sector : List ℕ) → b .client .fixed .n ≡ n → At n k image sector

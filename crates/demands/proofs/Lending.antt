@@ -35,8 +35,8 @@ module _ (lent : Bank → ℕ) (pair : Banks) where
 
   -- one of them came back as another, and what lay behind it lies behind it still
   pub back-with : (x : Bank) (front : List ℕ) → backIn lent pair (withBank x front (lentOf lent pair)) ≡ withBank x (front ++ drop (lent x) (bankIn x pair)) pair
-  back-with Zero front = ap (banks (front ++ drop (lent Zero) (pair .zero))) (take-append-drop (lent One) (pair .one))
-  back-with One front = ap (λ (l : List ℕ). banks l (front ++ drop (lent One) (pair .one))) (take-append-drop (lent Zero) (pair .zero))
+  back-with Zero front = ap (banks (front ++ drop (lent Zero) (pair .bank0))) (take-append-drop (lent One) (pair .bank1))
+  back-with One front = ap (λ (l : List ℕ). banks l (front ++ drop (lent One) (pair .bank1))) (take-append-drop (lent Zero) (pair .bank0))
 
   -- a bank whose front came back as it was lent
   pub whole-again : (x : Bank) → bankIn x (lentOf lent pair) ++ drop (lent x) (bankIn x pair) ≡ bankIn x pair

@@ -2,6 +2,7 @@ pub mod Acknowledging
 pub mod Asking
 pub mod Banks
 pub mod Bytes
+pub mod Calls
 pub mod Contracts
 pub mod Counting
 pub mod Demand1

@@ -7,7 +7,8 @@ use Prim.Native.Nat.{ℕ}
 use Rattle.layout.specs.Layout.{goodN}
 use Rattle.client.specs.Body.{banksGood, nextBody}
 use Rattle.client.specs.Host.{newOf}
-use Rattle.demands.specs.Board.{Board, Input, Initiate, Terminate, Datagram, Outcome, outcomes, stepMachine}
+use Rattle.calls.specs.Call.{Board}
+use Rattle.demands.specs.Board.{Input, Initiate, Terminate, Datagram, Outcome, outcomes, stepMachine}
 use Rattle.demands.specs.Demand1.{refused}
 use Rattle.demands.specs.New.{lentBuffer, allRefused, MeetsNew}
 use Rattle.demands.proofs.Banks.{body-meets}

@@ -45,18 +45,19 @@ use Rattle.decision.specs.Plan.{lentGood}
 use Rattle.calls.proofs.Courses.{accepted}
 use Rattle.exchange.proofs.Saying.{answer-short}
 use Rattle.decision.proofs.Planning.{lent}
-use Rattle.demands.specs.Board.{Board, Call, Datagram, Outcome, said, lentOf, lentTarget, stepMachine}
+use Rattle.calls.specs.Call.{Board}
+use Rattle.demands.specs.Board.{LentCall, Datagram, Outcome, said, lentOf, lentTarget, stepMachine}
 use Rattle.demands.specs.Demand1.{Row, firstOf, responseCode, isFault, refused, answered, afterFrame, callRows}
 use Rattle.demands.specs.EndToEnd.{Readable, MeetsRead}
-use Rattle.demands.specs.Responses.{answerCode, spelled, numberIn}
+use Rattle.demands.specs.Responses.{answerCode, spelled, paperNumber}
 use Rattle.demands.proofs.Demand1.{table}
 use Rattle.demands.proofs.Demand2.{said-back, control-short, written-short}
 use Rattle.demands.proofs.Rows.{given, comes}
 
 -- ---- what is read of each kind of answer
 
-back : (answer : List ℕ) (r : Response) → r ≡ responseOf answer → spelled r ≡ answer → numberIn (responseSaid r) ≡ 0 → Readable answer
-back answer r e s n = record { unnumbered = sym (ap (λ (x : Response). numberIn (responseSaid x)) e) ∙ n; whole = sym (ap spelled e) ∙ s }
+back : (answer : List ℕ) (r : Response) → r ≡ responseOf answer → spelled r ≡ answer → paperNumber (responseSaid r) ≡ 0 → Readable answer
+back answer r e s n = record { unnumbered = sym (ap (λ (x : Response). paperNumber (responseSaid x)) e) ∙ n; whole = sym (ap spelled e) ∙ s }
 
 -- one byte behind a command's code
 plain : (command : Command) (result : ℕ) → answerCode command ≡ codeFor command → mayCarry false result ≡ true → addedOf command result ≡ 0
@@ -199,7 +200,7 @@ fault-readable : Readable frameError
 unfolding mayCarry
 fault-readable = subst Readable (sym error-frame) (error-readable 0x07 refl)
 
-module _ (b : Board) (call : Call) (bytes : (i : ℕ) → byteAt (call .datagram) i < 256) (revision : b .client .fixed .revision < 2 ^ 32) (room : 14 ≤ length (call .buffer)) where
+module _ (b : Board) (call : LentCall) (bytes : (i : ℕ) → byteAt (call .datagram) i < 256) (revision : b .client .fixed .revision < 2 ^ 32) (room : 14 ≤ length (call .buffer)) where
   abbrev Back : Outcome → Type 0
   Back o = Readable (said o)
 

@@ -20,7 +20,7 @@ use Rattle.sender.specs.declared.request.Request.{Request}
 use Rattle.sender.specs.declared.request.Request.the-variants.{ModeStart, BankInfo, VersionInfo, WriteStart, WriteEnd, ModeEnd}
 use Rattle.sender.specs.Made.{room, madeSaid, roomFor, bufferAfter}
 use Rattle.sender.specs.Request.{commandOf, asksFor, requestFrame, givenGood, requestMade}
-use Rattle.demands.specs.Requests.{Asked, MeetsRequests, requestMaker}
+use Rattle.demands.specs.Requests.{RequestRight, MeetsRequests, requestMaker}
 
 few : (request : Request) → length (asksFor request) ≤ 8
 few ModeStart = omega arith
@@ -43,7 +43,7 @@ module _ (request : Request) (before : List ℕ) (g : givenGood request ≡ true
   buffer-is : requestMaker request before .buffer ≡ frontOf before (requestFrame request)
   buffer-is = ap (λ (m : Made). bufferAfter m before (requestFrame request)) made-is
 
-  is-asked : Asked request before (requestMaker request before)
+  is-asked : RequestRight request before (requestMaker request before)
   is-asked =
       let s = short request in
       let fits : length (requestFrame request) ≤ length before = omega arith in

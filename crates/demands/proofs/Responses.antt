@@ -49,7 +49,7 @@ use Rattle.response.specs.Response.{
 use Rattle.response.specs.Said.{responseSaid, resultIn}
 use Rattle.response.proofs.Responses.{adds-none, adds-some}
 use Rattle.response.proofs.Six.{response-says}
-use Rattle.demands.specs.Responses.{answerCode, spelled, numberIn, MeetsReader}
+use Rattle.demands.specs.Responses.{answerCode, spelled, paperNumber, MeetsReader}
 
 -- ---- the bytes of a short list
 
@@ -96,7 +96,7 @@ spelt-all l n e = spelt-part l 0 n (omega arith) ∙ take-all n l (omega arith)
 
 -- what was read gives this back, if it was read
 abbrev Gives : List ℕ → Response → Type 0
-Gives d r = numberIn (responseSaid r) ≡ 0 → spelled r ≡ d
+Gives d r = paperNumber (responseSaid r) ≡ 0 → spelled r ≡ d
 
 gives-six : (d : List ℕ) → Gives d Unreadable
 gives-six d e = absurd (omega arith)
@@ -224,7 +224,7 @@ responses-meet =
     record {
       six = λ d t. response-says d ∙ ap (λ (b : Bool). cond b (number 6) (result (resultIn d (readOf d)))) t;
       else = λ d small f.
-          let read : numberIn (responseSaid (responseOf d)) ≡ 0 =
-          ap numberIn (response-says d ∙ ap (λ (b : Bool). cond b (number 6) (result (resultIn d (readOf d)))) f) in
+          let read : paperNumber (responseSaid (responseOf d)) ≡ 0 =
+          ap paperNumber (response-says d ∙ ap (λ (b : Bool). cond b (number 6) (result (resultIn d (readOf d)))) f) in
           record { unnumbered = read; whole = gives d small (readOf d) (told d) read };
     }

@@ -25,7 +25,8 @@ use Rattle.client.specs.Notice.{noNotice, noticeWith, latestNumber}
 use Rattle.client.specs.Perform.{fitOf}
 use Rattle.decision.specs.Plan.{lentGood, isWorn, anyWorn, valuesGood, addressesGood}
 use Rattle.client.specs.Record.{starting, initiated, opened, modeEnded, begun, ended}
-use Rattle.demands.specs.Board.{Board, Call, Input, Initiate, Datagram, Outcome, lentOf, lentTarget, stepMachine}
+use Rattle.calls.specs.Call.{Board}
+use Rattle.demands.specs.Board.{LentCall, Input, Initiate, Datagram, Outcome, lentOf, lentTarget, stepMachine}
 use Rattle.demands.specs.Demand1.{firstOf, tableOf, isRequest, hostDone, answered, changed, stored, packetStored, sweptTarget, acceptedIn, takesPackets}
 use Rattle.demands.proofs.Demand1.{table}
 
@@ -37,13 +38,13 @@ pub comes : (b : Board) (i : Input) (o : Outcome) → firstOf (tableOf b i) ≡ 
 comes b i o e = ap (given o) (sym (table b i) ∙ e)
 
 -- a call that is not refused: N, the lengths, the state
-pub record Heard (b : Board) (call : Call) : Type 0 where
+pub record Heard (b : Board) (call : LentCall) : Type 0 where
   pub good : goodN (b .client .fixed .n) ≡ true
   pub runs : eqb (length (bankIn (b .client .fixed .running) (lentOf (call .lent) (b .pair)))) (bankSize (b .client .fixed .n)) ≡ true
   pub lengths : lentGood (b .client .fixed .n) (length (lentTarget b call)) (length (call .marks)) (length (call .address)) (length (call .buffer)) ≡ true
   pub live : isClosed (b .client .state) ≡ false
 
-module _ (b : Board) (call : Call) (h : Heard b call) where
+module _ (b : Board) (call : LentCall) (h : Heard b call) where
   pub write-start : b .client .state ≡ state.Control → readOf (call .datagram) ≡ Control 0x40 8 → addressesGood (b .client .fixed .n) (b .client .fixed .running) (numberAt 4 (parametersIn (call .datagram)) 0) (numberAt 4 (parametersIn (call .datagram)) 4) ≡ true
       → stepMachine b (Datagram call) ≡ changed b call (begun (starting (b .client .fixed .running) (b .client))) noNotice (controlFrame 0x70 (0x06 ∷ []))
   write-start s r a =

@@ -37,23 +37,9 @@ use Rattle.client.specs.Step.{Carried}
 use Rattle.calls.proofs.Courses.{Course, still, begins, stores, ends, not-write}
 use Rattle.calls.proofs.Leading.{Finishing, fits-stored, packed-in}
 use Rattle.calls.proofs.Beside.{step-course, step-stays, step-told, step-said, step-fits}
-use Rattle.demands.specs.Board.{
-  Board,
-  Call,
-  Input,
-  Initiate,
-  Terminate,
-  Datagram,
-  said,
-  targetBank,
-  sectorsIn,
-  lentTarget,
-  hostOutcome,
-  callOutcome,
-  called,
-  stepMachine,
-}
-use Rattle.demands.specs.Session.{isEnd, allBlank, exchanged, noted}
+use Rattle.calls.specs.Call.{Board}
+use Rattle.demands.specs.Board.{LentCall, Input, Initiate, Terminate, Datagram, said, targetBank, sectorsIn, lentTarget, hostOutcome, callOutcome, called, stepMachine}
+use Rattle.demands.specs.Session.{endsSession, allBlank, exchanged, noted}
 use Rattle.demands.proofs.Bytes.{
   quiet-begin,
   quiet-end,
@@ -101,7 +87,7 @@ make b n received part rest image en er et l good marked shows =
 
 -- ---- a datagram
 
-module _ (b : Board) (call : Call) where
+module _ (b : Board) (call : LentCall) where
   abbrev n : ℕ
   n = b .client .fixed .n
 
@@ -207,11 +193,11 @@ module _ (b : Board) (call : Call) where
     keeps (ends result u a t x h) s = absurd (not-write state.Control refl (sym x ∙ s))
 
     -- the end leaves what the session showed
-    closes : Course (b .client) (lentTarget b call) (call .datagram) r → isEnd (answerBytes (r .answer)) ≡ true → sectorsIn n next ≡ image
+    closes : Course (b .client) (lentTarget b call) (call .datagram) r → endsSession (answerBytes (r .answer)) ≡ true → sectorsIn n next ≡ image
     closes (still q t w) e = absurd (false≢true (sym (quiet-end (r .answer) q) ∙ e))
-    closes (begins a t m h) e = absurd (false≢true (sym (ap (λ (x : Answer). isEnd (answerBytes x)) a ∙ response-start-end) ∙ e))
+    closes (begins a t m h) e = absurd (false≢true (sym (ap (λ (x : Answer). endsSession (answerBytes x)) a ∙ response-start-end) ∙ e))
     closes (stores sector write h v a t k) e =
-        absurd (false≢true (sym (ap (λ (x : Answer). isEnd (answerBytes x)) a ∙ written-end sector 0x06 write (crcOf (paddedOf (dataIn (call .datagram))))) ∙ e))
+        absurd (false≢true (sym (ap (λ (x : Answer). endsSession (answerBytes x)) a ∙ written-end sector 0x06 write (crcOf (paddedOf (dataIn (call .datagram))))) ∙ e))
     closes (ends result u a t x h) e =
         let p : r .target ≡ image = t ∙ lent-shows image shows h in
         let l : length (r .target) ≡ bankSize n = ap length t ∙ length-sweep (lentTarget b call) n (b .client .received) ∙ h .whole in
@@ -239,10 +225,10 @@ step-shows b image (Datagram call) v =
     let k = step-course (b .client) _ (lentTarget b call) (call .marks) (call .address) (call .buffer) (call .datagram) in
     subst (Kept b call image) (sym (said-is b call)) (keeps b call image v k)
 
-pub step-closes : (b : Board) (image : List ℕ) (i : Input) → Shows b image → isEnd (said (stepMachine b i)) ≡ true
+pub step-closes : (b : Board) (image : List ℕ) (i : Input) → Shows b image → endsSession (said (stepMachine b i)) ≡ true
     → sectorsIn (b .client .fixed .n) (stepMachine b i .board) ≡ image
 step-closes b image Initiate v e = absurd (false≢true e)
 step-closes b image Terminate v e = absurd (false≢true e)
 step-closes b image (Datagram call) v e =
     let k = step-course (b .client) _ (lentTarget b call) (call .marks) (call .address) (call .buffer) (call .datagram) in
-    closes b call image v k (sym (ap isEnd (said-is b call)) ∙ e)
+    closes b call image v k (sym (ap endsSession (said-is b call)) ∙ e)

@@ -23,9 +23,10 @@ use Rattle.client.specs.Host.{fixedOf}
 use Rattle.sender.specs.declared.request.Request.the-variants.{WriteStart, WriteEnd}
 use Rattle.sender.specs.Packet.{packetCount}
 use Rattle.sender.specs.Request.{requestFrame}
-use Rattle.demands.specs.Board.{Board, Call, Datagram, Outcome, said, Machine, lentOf, lentTarget}
+use Rattle.calls.specs.Call.{Board}
+use Rattle.demands.specs.Board.{LentCall, Datagram, Outcome, said, Machine, lentOf, lentTarget}
 use Rattle.demands.specs.Demand2.{Fit, Delivered, Meets2}
-use Rattle.demands.specs.ShutOut.{says06, RefusesAll, Fixed, faultsOnly, NeverStores}
+use Rattle.demands.specs.ShutOut.{says06, RefusesAll, OneAnswer, faultsOnly, NeverStores}
 use Rattle.demands.proofs.Demand2.{said-back}
 use Rattle.demands.proofs.Witness.{image, witness-board, calling, order, sending, delivery, ready, image-size, image-fit, two-packets}
 
@@ -45,7 +46,7 @@ no-refuser m r meets = r _ _ (ap says06 (delivered m meets image fit two-packets
 speaks : (x y z : ℕ) (l t : List ℕ) → t ≡ x ∷ y ∷ z ∷ l → t ≡ [] → ⊥
 speaks x y z l t e n = absurd (omega (arith, ap length (sym e ∙ n)))
 
-pub no-fixed : (m : Machine) → Fixed m → Meets2 m → ⊥
+pub no-fixed : (m : Machine) → OneAnswer m → Meets2 m → ⊥
 no-fixed m f meets =
     let d = delivered m meets image fit two-packets in
     let first = f .always _ _ (speaks _ _ _ _ _ (d .started)) in
@@ -59,7 +60,7 @@ frame-short : length frameError ≤ 14
 unfolding frameError
 frame-short = omega arith
 
-only-fault : (b : Board) (call : Call) → (said (faultsOnly b (Datagram call)) ≡ []) ⊎ (said (faultsOnly b (Datagram call)) ≡ frameError)
+only-fault : (b : Board) (call : LentCall) → (said (faultsOnly b (Datagram call)) ≡ []) ⊎ (said (faultsOnly b (Datagram call)) ≡ frameError)
 only-fault b call =
     let c : Client = b .client in
     let P : Outcome → Type 0 = λ o. (said o ≡ []) ⊎ (said o ≡ frameError) in
@@ -74,10 +75,10 @@ only-fault b call =
     not-false true e = refl
     not-false false e = sym e
 
-pub one-fixed : Fixed faultsOnly
+pub one-fixed : OneAnswer faultsOnly
 one-fixed = record { answer = frameError; always = λ b call n. by b call n (only-fault b call) }
   where
-    by : (b : Board) (call : Call) → (said (faultsOnly b (Datagram call)) ≡ [] → ⊥)
+    by : (b : Board) (call : LentCall) → (said (faultsOnly b (Datagram call)) ≡ [] → ⊥)
         → (said (faultsOnly b (Datagram call)) ≡ []) ⊎ (said (faultsOnly b (Datagram call)) ≡ frameError)
         → said (faultsOnly b (Datagram call)) ≡ frameError
     by b call n (inl e) = absurd (n e)
@@ -101,5 +102,5 @@ unfolding witness-board sending
 no-keeper m k meets =
     let d = delivered m meets image fit two-packets in
     let kept = k _ _ ∙ k _ _ ∙ k _ _ ∙ k _ _ ∙ k witness-board _ in
-    let e = ap (λ (p : Banks). getD (p .one) 0 0) (sym kept) ∙ ap (λ (l : List ℕ). getD l 0 0) (d .bank) ∙ first-byte in
+    let e = ap (λ (p : Banks). getD (p .bank1) 0 0) (sym kept) ∙ ap (λ (l : List ℕ). getD l 0 0) (d .bank) ∙ first-byte in
     absurd (omega (arith, e))

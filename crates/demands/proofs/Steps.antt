@@ -18,7 +18,8 @@ use Rattle.client.specs.declared.record.Client.{Client}
 use Rattle.client.specs.Host.{initiateOf, terminateOf}
 use Rattle.client.specs.Record.{Stays}
 use Rattle.calls.proofs.Beside.{step-stays, step-length}
-use Rattle.demands.specs.Board.{Board, Call, Input, Initiate, Terminate, Datagram, after, runningBank, targetBank, lentTarget, called, callOutcome, stepMachine}
+use Rattle.calls.specs.Call.{Board}
+use Rattle.demands.specs.Board.{LentCall, Input, Initiate, Terminate, Datagram, after, runningBank, targetBank, lentTarget, called, callOutcome, stepMachine}
 use Rattle.demands.proofs.Lending.{lent-in, back-with}
 
 initiate-stays : (c : Client) → Stays c (initiateOf c .client)
@@ -40,7 +41,7 @@ machine-stays b (Datagram call) = step-stays (b .client) _ (lentTarget b call) (
 
 -- ---- the two banks after a datagram: the target's front came back, the running bank is as it was
 
-module _ (b : Board) (call : Call) where
+module _ (b : Board) (call : LentCall) where
   abbrev other : Bank
   other = otherOf (b .client .fixed .running)
 

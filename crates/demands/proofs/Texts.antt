@@ -21,7 +21,7 @@ use Rattle.hex.specs.Meaning.{FirstBroken}
 use Rattle.hex.specs.Read.{readLines, answerSaid, readSays, textRead}
 use Rattle.hex.specs.Record.{digitsIn, digitsWhole, recordOf, total, dataAt, typed, foundOf}
 use Rattle.hex.proofs.Meaning.{answer-said, says-3, says-2, unread, kept-accepted, broken-refused, accepted-kept, refused-broken, read-length}
-use Rattle.demands.specs.Texts.{Reader, MeetsHex, InventsLine, relined, inventor}
+use Rattle.demands.specs.Texts.{TextReader, MeetsHex, InventsLine, relined, inventor}
 
 pub texts-meet : MeetsHex textRead
 texts-meet text bank n image =
@@ -78,7 +78,7 @@ refused-at BadLength k l e = no-way (cc)
 refused-at (Refused r) k l e = record { why = r; refuses = refl; at = cc }
 refused-at Accepted k l e = no-way (cc)
 
-pub no-inventor : (read : Reader) → InventsLine read → MeetsHex read → ⊥
+pub no-inventor : (read : TextReader) → InventsLine read → MeetsHex read → ⊥
 no-inventor read invents meets =
     let first = refused-at _ 6 1 (meets [] Zero 1 image .breaks one-good size 6 1 empty-line) in
     let second = refused-at _ 6 2 (meets two-lines Zero 1 image .breaks one-good size 6 2 second-line) in

@@ -22,11 +22,12 @@ use Rattle.client.specs.Perform.{fitOf}
 use Rattle.client.specs.Host.{fixedOf}
 use Rattle.client.specs.Record.{closedClient, inState, starting, begun}
 use Rattle.calls.proofs.Courses.{not-write}
-use Rattle.demands.specs.Board.{Board, board, Call, Input, Datagram, Outcome, said, Machine, after, targetBank, sectorsIn, stepMachine}
+use Rattle.calls.specs.Call.{Board, board}
+use Rattle.demands.specs.Board.{LentCall, Input, Datagram, Outcome, said, Machine, after, targetBank, sectorsIn, stepMachine}
 use Rattle.demands.specs.Demand1.{changed, sweptTarget}
 use Rattle.demands.specs.Demand2.{Lends, Ready}
 use Rattle.demands.specs.Demand3.{Meets3}
-use Rattle.demands.specs.Session.{isBegin, isEnd, allBlank}
+use Rattle.demands.specs.Session.{isBegin, endsSession, allBlank}
 use Rattle.demands.specs.ShutOut.{StoresNothing, unstored, storesNothing}
 use Rattle.demands.proofs.Asking.{request-read}
 use Rattle.demands.proofs.Demand2.{heard, no-mark, said-back, control-short, begun-is, begun-said}
@@ -40,7 +41,7 @@ zeros =
       pair = banks (replicate 512 0) (replicate 512 0);
     }
 
-small-call : List ℕ → Call
+small-call : List ℕ → LentCall
 small-call datagram = record { datagram = datagram; address = replicate 16 0; marks = replicate 1 0; buffer = replicate 14 0; lent = λ x. 512 }
 
 small-lends : (datagram : List ℕ) → Lends 1 (small-call datagram)
@@ -48,10 +49,10 @@ unfolding small-call
 small-lends datagram =
     record { address = length-replicate {A = ℕ} 16 0; marks = refl; room = omega (arith, length-replicate {A = ℕ} 14 0); banks = λ x. refl }
 
-begins-small : Call
+begins-small : LentCall
 begins-small = small-call (requestFrame (WriteStart One 1))
 
-ends-small : Call
+ends-small : LentCall
 ends-small = small-call (requestFrame WriteEnd)
 
 zeros-ready : Ready zeros
@@ -80,7 +81,7 @@ unfolding zeros ends-small small-call
 end-heard =
     heard in-session ends-small (zeros-ready .good) (small-lends (requestFrame WriteEnd)) (zeros-ready .whole) refl
 
-end-said : isEnd (said (stepMachine in-session (Datagram ends-small))) ≡ true
+end-said : endsSession (said (stepMachine in-session (Datagram ends-small))) ≡ true
 unfolding zeros ends-small small-call controlFrame framed
 end-said = by (fitOf (in-session .client .fixed) (sweptTarget in-session ends-small)) refl
   where
@@ -88,13 +89,13 @@ end-said = by (fitOf (in-session .client .fixed) (sweptTarget in-session ends-sm
     room = small-lends (requestFrame WriteEnd) .room
 
     by : (t : Bool) → fitOf (in-session .client .fixed) (sweptTarget in-session ends-small) ≡ t
-        → isEnd (said (stepMachine in-session (Datagram ends-small))) ≡ true
+        → endsSession (said (stepMachine in-session (Datagram ends-small))) ≡ true
     by true t =
-        ap (λ (o : Outcome). isEnd (said o)) (write-end in-session ends-small end-heard refl (request-read WriteEnd) (no-mark 1) t)
-        ∙ ap isEnd (said-back ends-small (controlFrame 0x75 (0x06 ∷ [])) (control-short 0x75 0x06) room)
+        ap (λ (o : Outcome). endsSession (said o)) (write-end in-session ends-small end-heard refl (request-read WriteEnd) (no-mark 1) t)
+        ∙ ap endsSession (said-back ends-small (controlFrame 0x75 (0x06 ∷ [])) (control-short 0x75 0x06) room)
     by false t =
-        ap (λ (o : Outcome). isEnd (said o)) (write-end-unsound in-session ends-small end-heard refl (request-read WriteEnd) (no-mark 1) t)
-        ∙ ap isEnd (said-back ends-small (controlFrame 0x75 (0x1E ∷ [])) (control-short 0x75 0x1E) room)
+        ap (λ (o : Outcome). endsSession (said o)) (write-end-unsound in-session ends-small end-heard refl (request-read WriteEnd) (no-mark 1) t)
+        ∙ ap endsSession (said-back ends-small (controlFrame 0x75 (0x1E ∷ [])) (control-short 0x75 0x1E) room)
 
 session-next : storesNothing zeros (Datagram begins-small) .board ≡ in-session
 unfolding zeros
@@ -114,7 +115,7 @@ one-keeper =
       start = begins-small;
       end = ends-small;
       begins = ap isBegin begun-said-small;
-      ends = ap (λ (b : Board). isEnd (said (stepMachine b (Datagram ends-small)))) session-next ∙ end-said;
+      ends = ap (λ (b : Board). endsSession (said (stepMachine b (Datagram ends-small)))) session-next ∙ end-said;
     }
 
 pub no-store : (m : Machine) → StoresNothing m → Meets3 m → ⊥

@@ -25,7 +25,8 @@ use Rattle.exchange.specs.declared.state.State.the-variants.{Control}
 use Rattle.client.specs.Perform.{fitOf}
 use Rattle.client.specs.Host.{fixedOf}
 use Rattle.client.specs.Record.{closedClient, inState}
-use Rattle.demands.specs.Board.{Board, Call, Input, Datagram, stepMachine}
+use Rattle.calls.specs.Call.{Board}
+use Rattle.demands.specs.Board.{LentCall, Input, Datagram, stepMachine}
 use Rattle.demands.specs.Demand2.{Lends, none, more, Ready, Delivery, Delivered}
 use Rattle.demands.proofs.Demand2.{demand2}
 
@@ -65,7 +66,7 @@ witness-board =
       pair = banks (replicate 1024 0) (replicate 1024 0);
     }
 
-unfoldable pub calling : List ℕ → Call
+unfoldable pub calling : List ℕ → LentCall
 calling datagram = record { datagram = datagram; address = replicate 16 0; marks = replicate 2 0; buffer = replicate 14 0; lent = λ x. 1024 }
 
 pub lends : (datagram : List ℕ) → Lends 2 (calling datagram)

@@ -16,14 +16,7 @@ use Rattle.client.specs.declared.record.Client.{Client}
 use Rattle.client.specs.Host.{toldNumber, initiateOf, terminateOf}
 use Rattle.client.specs.Notice.{noNotice}
 use Rattle.client.specs.Step.{Carried, stepOf, banksAfter}
-
--- the client's record and the two banks, by number: the record says which one runs
-pub record Board : Type 0 where
-  pub client : Client
-  pub pair : Banks
-
-abbrev pub board : Client → Banks → Board
-board c pair = record { client = c; pair = pair }
+use Rattle.calls.specs.Call.{Board, board}
 
 -- the bank that runs, and the other, "the target"
 abbrev pub runningBank : Board → List ℕ
@@ -37,7 +30,7 @@ abbrev pub sectorsIn : ℕ → Board → List ℕ
 sectorsIn n b = take (bankSize n) (targetBank b)
 
 -- a datagram and what is lent with it, right or wrong: the sender's address, the worn marks, the answer buffer, and how many bytes of each bank
-pub record Call : Type 0 where
+pub record LentCall : Type 0 where
   pub datagram : List ℕ
   pub address : List ℕ
   pub marks : List ℕ
@@ -48,7 +41,7 @@ pub record Call : Type 0 where
 pub data Input : Type 0 where
   Initiate : Input
   Terminate : Input
-  Datagram : Call → Input
+  Datagram : LentCall → Input
 
 -- what comes of it: the board, the paper's number where there is no answer (0 where there is none), how long the answer is, the answer
 -- buffer, the notice to the host
@@ -80,19 +73,19 @@ outcomes m b (i ∷ is) = m b i ∷ outcomes m (m b i .board) is
 
 -- the fronts of two banks that are lent, and the banks of which these fronts came back so
 abbrev pub lentOf : (Bank → ℕ) → Banks → Banks
-lentOf lent pair = banks (take (lent Zero) (pair .zero)) (take (lent One) (pair .one))
+lentOf lent pair = banks (take (lent Zero) (pair .bank0)) (take (lent One) (pair .bank1))
 
 abbrev pub backIn : (Bank → ℕ) → Banks → Banks → Banks
-backIn lent pair back = banks (back .zero ++ drop (lent Zero) (pair .zero)) (back .one ++ drop (lent One) (pair .one))
+backIn lent pair back = banks (back .bank0 ++ drop (lent Zero) (pair .bank0)) (back .bank1 ++ drop (lent One) (pair .bank1))
 
 abbrev pub hostOutcome : Board → Hosted → Outcome
 hostOutcome b h = record { board = board (h .client) (b .pair); number = toldNumber (h .told); told = 0; buffer = []; notice = noNotice }
 
 -- what is lent of the target
-abbrev pub lentTarget : Board → Call → List ℕ
+abbrev pub lentTarget : Board → LentCall → List ℕ
 lentTarget b call = bankIn (otherOf (b .client .fixed .running)) (lentOf (call .lent) (b .pair))
 
-abbrev pub callOutcome : Board → Call → Carried → Outcome
+abbrev pub callOutcome : Board → LentCall → Carried → Outcome
 callOutcome b call r =
     record {
       board = board (r .client) (backIn (call .lent) (b .pair) (banksAfter (b .client) (lentOf (call .lent) (b .pair)) r));
@@ -102,7 +95,7 @@ callOutcome b call r =
       notice = r .notice;
     }
 
-abbrev pub called : Board → Call → Carried
+abbrev pub called : Board → LentCall → Carried
 called b call = stepOf (b .client) (lentOf (call .lent) (b .pair)) (call .marks) (call .address) (call .buffer) (call .datagram)
 
 abbrev pub stepMachine : Machine

@@ -30,36 +30,23 @@ use Rattle.client.specs.Body.{nextBody}
 use Rattle.client.specs.Body.{Body·Is as NextBody·Is}
 use Rattle.client.specs.Host.{newOf, New·Is, Initiate·Is, Terminate·Is}
 use Rattle.client.specs.Step.{Carried, Take·Is, Step·Is}
-use Rattle.demands.specs.Board.{
-  Board,
-  board,
-  Call,
-  Initiate,
-  Terminate,
-  Datagram,
-  Outcome,
-  lentOf,
-  backIn,
-  lentTarget,
-  hostOutcome,
-  callOutcome,
-  stepMachine,
-}
+use Rattle.calls.specs.Call.{Board, board}
+use Rattle.demands.specs.Board.{LentCall, Initiate, Terminate, Datagram, Outcome, lentOf, backIn, lentTarget, hostOutcome, callOutcome, stepMachine}
 use Rattle.demands.specs.Packets.{out, packetMaker}
 use Rattle.demands.specs.Requests.{requestMaker}
 
 -- what the contracts of `step` and `take` allow for a call on a board
-abbrev pub StepAllows : Board → Call → Stepped → List ℕ → List ℕ → List ℕ → Type 0
+abbrev pub StepAllows : Board → LentCall → Stepped → List ℕ → List ℕ → List ℕ → Type 0
 StepAllows b call r zero one answered =
     let lent : Banks = lentOf (call .lent) (b .pair) in
-    Step·Is (b .client) (lent .zero) (lent .one) (call .marks) (call .address) (call .buffer) (call .datagram) r zero one answered
+    Step·Is (b .client) (lent .bank0) (lent .bank1) (call .marks) (call .address) (call .buffer) (call .datagram) r zero one answered
 
-abbrev pub TakeAllows : Board → Call → Stepped → List ℕ → List ℕ → Type 0
+abbrev pub TakeAllows : Board → LentCall → Stepped → List ℕ → List ℕ → Type 0
 TakeAllows b call r after answered =
     Take·Is (b .client) (lentTarget b call) (call .marks) (call .address) (call .buffer) (call .datagram) r after answered
 
 -- what `step` handed back, and both banks and the buffer as they came back
-abbrev pub stepBack : Board → Call → Stepped → List ℕ → List ℕ → List ℕ → Outcome
+abbrev pub stepBack : Board → LentCall → Stepped → List ℕ → List ℕ → List ℕ → Outcome
 stepBack b call r zero one answered =
     record {
       board = board (r .client) (backIn (call .lent) (b .pair) (banks zero one));
@@ -76,10 +63,10 @@ takeBack r after answered =
 
 pub record Contracts : Type 0 where
   -- the client, of which demands 1 to 3 are proved; `take` is lent the target alone, of a board whose running bank has its length
-  pub step : (b : Board) (call : Call) {r : Stepped} {zero one answered : List ℕ}
+  pub step : (b : Board) (call : LentCall) {r : Stepped} {zero one answered : List ℕ}
       → StepAllows b call r zero one answered
       → stepMachine b (Datagram call) ≡ stepBack b call r zero one answered
-  pub take : (b : Board) (call : Call) {r : Stepped} {after answered : List ℕ}
+  pub take-call : (b : Board) (call : LentCall) {r : Stepped} {after answered : List ℕ}
       → length (bankIn (b .client .fixed .running) (lentOf (call .lent) (b .pair))) ≡ bankSize (b .client .fixed .n)
       → TakeAllows b call r after answered
       → stepMachine b (Datagram call) ≡ callOutcome b call (takeBack r after answered)

@@ -23,7 +23,7 @@ pub data Used (image : List ℕ) : ℕ → ℕ → Type 0 where
   used-one : {k count : ℕ} → (sectorOf image (suc k) ≡ blankSector → ⊥) → Used image k count → Used image (suc k) (suc count)
 
 -- they are counted
-pub record Counted (image : List ℕ) (n : ℕ) (answer : Tally) : Type 0 where
+pub record CountRight (image : List ℕ) (n : ℕ) (answer : Tally) : Type 0 where
   pub count : ℕ
   pub counts : tallySaid answer ≡ value count
   pub used : Used image n count
@@ -32,4 +32,4 @@ pub record Counted (image : List ℕ) (n : ℕ) (answer : Tally) : Type 0 where
 pub record MeetsCounter (s : Counter) : Type 0 where
   pub bad-n : (image : List ℕ) (n : ℕ) → goodN n ≡ false → tallySaid (s image n) ≡ number 3
   pub bad-length : (image : List ℕ) (n : ℕ) → goodN n ≡ true → (length image ≡ sectorSize * n → ⊥) → tallySaid (s image n) ≡ number 2
-  pub counted : (image : List ℕ) (n : ℕ) → goodN n ≡ true → length image ≡ sectorSize * n → Counted image n (s image n)
+  pub counted : (image : List ℕ) (n : ℕ) → goodN n ≡ true → length image ≡ sectorSize * n → CountRight image n (s image n)

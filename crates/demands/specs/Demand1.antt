@@ -35,7 +35,8 @@ use Rattle.client.specs.Notice.{noNotice, noticeWith, latestNumber}
 use Rattle.client.specs.Perform.{fitOf, storeResult}
 use Rattle.decision.specs.Plan.{lentGood, isWorn, anyWorn, valuesGood, addressesGood}
 use Rattle.client.specs.Record.{Stays, starting, initiated, terminated, opened, modeEnded, begun, marked, ended}
-use Rattle.demands.specs.Board.{Board, board, Call, Input, Initiate, Terminate, Datagram, Outcome, Machine, after, runningBank, lentOf, lentTarget}
+use Rattle.calls.specs.Call.{Board, board}
+use Rattle.demands.specs.Board.{LentCall, Input, Initiate, Terminate, Datagram, Outcome, Machine, after, runningBank, lentOf, lentTarget}
 
 -- ---- rows
 
@@ -141,16 +142,16 @@ abbrev pub refused : Board → List ℕ → ℕ → Outcome
 refused b buffer number = record { board = b; number = number; told = 0; buffer = buffer; notice = noNotice }
 
 -- an answer at the front of the buffer, the record and the notice; the banks stay
-abbrev pub changed : Board → Call → Client → Notice → List ℕ → Outcome
+abbrev pub changed : Board → LentCall → Client → Notice → List ℕ → Outcome
 changed b call c notice answer =
     record { board = board c (b .pair); number = 0; told = length answer; buffer = frontOf (call .buffer) answer; notice = notice }
 
 -- nothing changes but the buffer
-abbrev pub answered : Board → Call → List ℕ → Outcome
+abbrev pub answered : Board → LentCall → List ℕ → Outcome
 answered b call answer = changed b call (b .client) noNotice answer
 
 -- the same with another target: the front that was lent, and what lies behind it
-abbrev pub stored : Board → Call → Client → List ℕ → List ℕ → Outcome
+abbrev pub stored : Board → LentCall → Client → List ℕ → List ℕ → Outcome
 stored b call c target answer =
     record {
       board =
@@ -163,7 +164,7 @@ stored b call c target answer =
     }
 
 -- the data and then 0xFF are the sector, which "counts as received", with 06 or 1D and the CRC of the sector
-abbrev pub packetStored : Board → Call → Read → Outcome
+abbrev pub packetStored : Board → LentCall → Read → Outcome
 packetStored b call Fault = answered b call []
 packetStored b call (Control code n) = answered b call []
 packetStored b call (Write sector m footer) =
@@ -173,18 +174,18 @@ packetStored b call (Write sector m footer) =
     (writeFrame sector (writtenBytes 0x06 result (crcOf (paddedOf bytes))) End)
 
 -- "response result 06 and write result 1C"
-abbrev pub packetWorn : Board → Call → Read → Outcome
+abbrev pub packetWorn : Board → LentCall → Read → Outcome
 packetWorn b call Fault = answered b call []
 packetWorn b call (Control code n) = answered b call []
 packetWorn b call (Write sector m footer) = answered b call (writeFrame sector (writtenBytes 0x06 0x1C 0) End)
 
 -- what was not received since the write start is 0xFF
-abbrev pub sweptTarget : Board → Call → List ℕ
+abbrev pub sweptTarget : Board → LentCall → List ℕ
 sweptTarget b call = sweptOf (lentTarget b call) (b .client .fixed .n) (b .client .received)
 
 -- ---- the rows of a datagram, as it is read
 
-abbrev pub afterFrame : Board → Call → Read → List Row
+abbrev pub afterFrame : Board → LentCall → Read → List Row
 afterFrame b call r =
     let c : Client = b .client in
     -- code, parameter length, state, values, worn
@@ -206,7 +207,7 @@ afterFrame b call r =
     ∷ []
 
 -- 3, 2, 1, frame, and then the others
-abbrev pub callRows : Board → Call → List Row
+abbrev pub callRows : Board → LentCall → List Row
 callRows b call =
     let c : Client = b .client in
     let lent : Banks = lentOf (call .lent) (b .pair) in
@@ -238,10 +239,10 @@ tableOf b (Datagram call) = callRows b call
 
 -- ---- the demand
 
-pub record Kept (before after : Board) : Type 0 where
+pub record Unchanged (before after : Board) : Type 0 where
   pub client : Stays (before .client) (after .client)
   pub bytes : runningBank after ≡ runningBank before
 
 pub record Meets1 (m : Machine) : Type 0 where
   pub table : (b : Board) (i : Input) → firstOf (tableOf b i) ≡ some (m b i)
-  pub kept : (b : Board) (is : List Input) → Kept b (after m b is)
+  pub kept : (b : Board) (is : List Input) → Unchanged b (after m b is)

@@ -21,10 +21,11 @@ use Rattle.exchange.specs.declared.state.State.the-variants.{Control}
 use Rattle.exchange.specs.Answer.{writtenBytes}
 use Rattle.decision.specs.declared.plan.Fixed.{Fixed}
 use Rattle.client.specs.Perform.{Accepted, fitOf}
-use Rattle.demands.specs.Board.{Board, Call, Input, Datagram, Outcome, said, Machine, after, outcomes}
+use Rattle.calls.specs.Call.{Board}
+use Rattle.demands.specs.Board.{LentCall, Input, Datagram, Outcome, said, Machine, after, outcomes}
 
 -- what a call lends: a 16-byte address, n marks that are zero ("non-zero means worn"), room for an answer, all of both banks
-pub record Lends (n : ℕ) (call : Call) : Type 0 where
+pub record Lends (n : ℕ) (call : LentCall) : Type 0 where
   pub address : length (call .address) ≡ 16
   pub marks : call .marks ≡ replicate n 0
   pub room : 14 ≤ length (call .buffer)
@@ -33,7 +34,7 @@ pub record Lends (n : ℕ) (call : Call) : Type 0 where
 -- calls that bring the packets with these numbers, in this order, as the sender makes them
 pub data Packets (image : List ℕ) (n : ℕ) : List ℕ → List Input → Type 0 where
   none : Packets image n [] []
-  more : {p : ℕ} {ps : List ℕ} {call : Call} {is : List Input} → p < packetCount image n → call .datagram ≡ packetFrame image n p → Lends n call
+  more : {p : ℕ} {ps : List ℕ} {call : LentCall} {is : List Input} → p < packetCount image n → call .datagram ≡ packetFrame image n p → Lends n call
       → Packets image n ps is → Packets image n (p ∷ ps) (Datagram call ∷ is)
 
 -- a board that takes a write start
@@ -48,7 +49,7 @@ pub record Fit (image : List ℕ) (fixed : Fixed) : Type 0 where
   pub sound : fitOf fixed image ≡ true
 
 -- the whole delivery: start, packets of which none is missing, end
-pub record Delivery (b : Board) (image : List ℕ) (start : Call) (ps : List ℕ) (is : List Input) (end : Call) : Type 0 where
+pub record Delivery (b : Board) (image : List ℕ) (start : LentCall) (ps : List ℕ) (is : List Input) (end : LentCall) : Type 0 where
   pub start-sent : start .datagram ≡ requestFrame (WriteStart (otherOf (b .client .fixed .running)) (b .client .fixed .n))
   pub start-lends : Lends (b .client .fixed .n) start
   pub packets : Packets image (b .client .fixed .n) ps is
@@ -67,7 +68,7 @@ pub data AllTaken (image : List ℕ) (n : ℕ) : List ℕ → List Outcome → T
   more-taken : {p : ℕ} {ps : List ℕ} {o : Outcome} {os : List Outcome} → Taken image n p o → AllTaken image n ps os → AllTaken image n (p ∷ ps) (o ∷ os)
 
 -- what comes of it
-pub record Delivered (m : Machine) (b : Board) (image : List ℕ) (start : Call) (ps : List ℕ) (is : List Input) (end : Call) : Type 0 where
+pub record Delivered (m : Machine) (b : Board) (image : List ℕ) (start : LentCall) (ps : List ℕ) (is : List Input) (end : LentCall) : Type 0 where
   pub started : said (m b (Datagram start)) ≡ 0x01 ∷ 0x02 ∷ 0x70 ∷ 0x06 ∷ 0x88 ∷ 0x03 ∷ []
   pub taken : AllTaken image (b .client .fixed .n) ps (outcomes m (m b (Datagram start) .board) is)
   pub ended : said (m (after m b (Datagram start ∷ is)) (Datagram end)) ≡ 0x01 ∷ 0x02 ∷ 0x75 ∷ 0x06 ∷ 0x83 ∷ 0x03 ∷ []
@@ -77,4 +78,4 @@ pub record Delivered (m : Machine) (b : Board) (image : List ℕ) (start : Call)
 abbrev pub Meets2 : Machine → Type 0
 Meets2 m =
     (b : Board) (image : List ℕ) → Ready b → Fit image (b .client .fixed)
-    → (start : Call) (ps : List ℕ) (is : List Input) (end : Call) → Delivery b image start ps is end → Delivered m b image start ps is end
+    → (start : LentCall) (ps : List ℕ) (is : List Input) (end : LentCall) → Delivery b image start ps is end → Delivered m b image start ps is end

@@ -15,9 +15,10 @@ use Rattle.layout.specs.Pair.{bankIn}
 use Rattle.exchange.specs.declared.state.State.the-variants as state
 use Rattle.exchange.specs.Answer.{writtenBytes}
 use Rattle.client.specs.Perform.{Accepted}
-use Rattle.demands.specs.Board.{Board, Input, Outcome, said, Machine, after, outcomes, sectorsIn}
-use Rattle.demands.specs.Demand1.{Kept}
-use Rattle.demands.specs.Session.{isEnd, allBlank, shown}
+use Rattle.calls.specs.Call.{Board}
+use Rattle.demands.specs.Board.{Input, Outcome, said, Machine, after, outcomes, sectorsIn}
+use Rattle.demands.specs.Demand1.{Unchanged}
+use Rattle.demands.specs.Session.{endsSession, allBlank, shown}
 
 -- two buffers: the same, or each with a write response at its front that differs from the other in 06 or 1D and in the checksum
 pub data AlikeBytes (a b : List ℕ) : Type 0 where
@@ -43,15 +44,15 @@ imageOf m a is = shown (a .client .fixed .n) (allBlank (a .client .fixed .n)) is
 
 -- a session that ended after the sweep on either board, and what the two targets are then
 pub record Ended (m : Machine) (a b : Board) (is : List Input) (i : Input) : Type 0 where
-  pub other : isEnd (said (m (after m b is) i)) ≡ true
+  pub other : endsSession (said (m (after m b is) i)) ≡ true
   pub first : sectorsIn (a .client .fixed .n) (m (after m a is) i .board) ≡ imageOf m a is
   pub second : sectorsIn (a .client .fixed .n) (m (after m b is) i .board) ≡ imageOf m a is
 
 pub record Same (m : Machine) (a b : Board) (is : List Input) : Type 0 where
   pub alike : AllAlike (outcomes m a is) (outcomes m b is)
-  pub first-kept : Kept a (after m a is)
-  pub second-kept : Kept b (after m b is)
-  pub ended : (i : Input) → isEnd (said (m (after m a is) i)) ≡ true → Ended m a b is i
+  pub first-kept : Unchanged a (after m a is)
+  pub second-kept : Unchanged b (after m b is)
+  pub ended : (i : Input) → endsSession (said (m (after m a is) i)) ≡ true → Ended m a b is i
 
 -- the premises: the same record ("two boards"), banks of the same lengths, no session under way. Nothing is asked of N or of what the banks hold
 pub record Pair (a b : Board) : Type 0 where

@@ -138,7 +138,7 @@ pub record Determined : Type 0 where
   pub new : (n : ℕ) (running : Bank) (major minor revision : ℕ) → Once (New·Is n running major minor revision)
   pub initiate : (c : Client) → Once (Initiate·Is c)
   pub terminate : (c : Client) → Once (Terminate·Is c)
-  pub take : (c : Client) (target marks address buffer datagram : List ℕ) → Thrice (Take·Is c target marks address buffer datagram)
+  pub take-call : (c : Client) (target marks address buffer datagram : List ℕ) → Thrice (Take·Is c target marks address buffer datagram)
   pub step : (c : Client) (bank0 bank1 marks address buffer datagram : List ℕ) → Fourfold (Step·Is c bank0 bank1 marks address buffer datagram)
   pub next-body : (c : Client) (bank0 bank1 : List ℕ) (i : ℕ) → Once (NextBody·Is c bank0 bank1 i)
   -- lines and fields, for the programs

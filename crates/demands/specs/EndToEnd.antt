@@ -17,7 +17,8 @@ use Rattle.hex.specs.Meaning.{Leaves}
 use Rattle.hex.specs.Read.{textRead}
 use Rattle.response.specs.Response.{responseOf}
 use Rattle.client.specs.Perform.{fitOf}
-use Rattle.demands.specs.Board.{Board, Call, Input, Datagram, said, Machine, after}
+use Rattle.calls.specs.Call.{Board}
+use Rattle.demands.specs.Board.{LentCall, Input, Datagram, said, Machine, after}
 use Rattle.demands.specs.Demand2.{Ready, Delivery}
 use Rattle.demands.specs.Responses.{ReadBack}
 
@@ -30,7 +31,7 @@ MeetsText m =
     let n : ℕ = b .client .fixed .n in
     let image : List ℕ = textRead text target n before .image in
     textRead text target n before .answer ≡ Accepted → fitOf (b .client .fixed) image ≡ true
-    → (start : Call) (ps : List ℕ) (is : List Input) (end : Call) → Delivery b image start ps is end
+    → (start : LentCall) (ps : List ℕ) (is : List Input) (end : LentCall) → Delivery b image start ps is end
     → (let last : Board = m (after m b (Datagram start ∷ is)) (Datagram end) .board in
     Leaves (startOf target) (sectorSize * n) (lines text) (length (lines text)) (bankIn target (last .pair))))
 
@@ -42,5 +43,5 @@ Readable answer = ReadBack answer (responseOf answer)
 -- what the machine's types say: a datagram's bytes are bytes, the record's revision has 32 bits
 abbrev pub MeetsRead : Machine → Type 0
 MeetsRead m =
-    (b : Board) (call : Call) → ((i : ℕ) → byteAt (call .datagram) i < 256) → b .client .fixed .revision < 2 ^ 32
+    (b : Board) (call : LentCall) → ((i : ℕ) → byteAt (call .datagram) i < 256) → b .client .fixed .revision < 2 ^ 32
     → m b (Datagram call) .number ≡ 0 → Readable (said (m b (Datagram call)))

@@ -29,74 +29,75 @@ use Rattle.exchange.specs.declared.state.State.{State}
 use Rattle.exchange.specs.declared.state.State.the-variants as state
 use Rattle.exchange.specs.Answer.{writtenBytes}
 use Rattle.exchange.specs.State.{isClosed}
-use Rattle.demands.specs.Board.{Board, Call, Datagram, said, stepMachine}
+use Rattle.calls.specs.Call.{Board}
+use Rattle.demands.specs.Board.{LentCall, Datagram, said, stepMachine}
 use Rattle.demands.specs.Demand2.{Lends}
 use Rattle.demands.specs.Session.{isStored}
 
-pub data Row : Type 0 where
+pub data Example : Type 0 where
   -- the sender's request is these bytes
-  Sends : Request → List ℕ → Row
+  Sends : Request → List ℕ → Example
   -- a write frame with this sector and these bytes has this checksum
-  Sums : ℕ → List ℕ → ℕ → Row
+  Sums : ℕ → List ℕ → ℕ → Example
   -- in such a state this datagram has this answer
-  Answers : (State → Bool) → List ℕ → List ℕ → Row
+  Answers : (State → Bool) → List ℕ → List ℕ → Example
   -- in such a state a control frame with this code has this answer, whatever parameters it has
-  Codes : (State → Bool) → ℕ → List ℕ → Row
+  Codes : (State → Bool) → ℕ → List ℕ → Example
   -- with so many sectors a packet for this sector is taken, or refused 05, whatever good number of bytes it has
-  Sector : ℕ → ℕ → Bool → Row
+  Sector : ℕ → ℕ → Bool → Example
   -- a packet with so many bytes is taken, or refused 05, whatever sector of the bank it is for
-  Length : ℕ → Bool → Row
+  Length : ℕ → Bool → Example
   -- a packet that was accepted, sent once more at once, is answered 06 and 1D, with the CRC of the sector
-  Again : Row
+  Again : Example
   -- this text has this answer
-  Reads : List ℕ → Answer → Row
+  Reads : List ℕ → Answer → Example
 
 -- a call on a board: N from 1 to 491, banks of the right length, lent whole, no sector worn
-pub record Calls (b : Board) (call : Call) : Type 0 where
+pub record Calls (b : Board) (call : LentCall) : Type 0 where
   pub good : goodN (b .client .fixed .n) ≡ true
   pub whole : (x : Bank) → length (bankIn x (b .pair)) ≡ bankSize (b .client .fixed .n)
   pub lends : Lends (b .client .fixed .n) call
 
 -- a packet in write state
-pub record Brings (b : Board) (call : Call) (sector m : ℕ) : Type 0 where
+pub record Brings (b : Board) (call : LentCall) (sector m : ℕ) : Type 0 where
   pub calls : Calls b call
   pub writing : b .client .state ≡ state.Write
   pub footer : Footer
   pub reads : readOf (call .datagram) ≡ Write sector m footer
 
 -- taken with 06 or 1D, or refused 05
-abbrev pub Verdict : Bool → Board → Call → ℕ → Type 0
-Verdict true b call sector = isStored (said (stepMachine b (Datagram call))) ≡ true
-Verdict false b call sector = said (stepMachine b (Datagram call)) ≡ writeFrame sector (writtenBytes 0x05 0x05 0) End
+abbrev pub SectorTaken : Bool → Board → LentCall → ℕ → Type 0
+SectorTaken true b call sector = isStored (said (stepMachine b (Datagram call))) ≡ true
+SectorTaken false b call sector = said (stepMachine b (Datagram call)) ≡ writeFrame sector (writtenBytes 0x05 0x05 0) End
 
 -- other numbers of bytes are wrong
 abbrev pub goodLength : ℕ → Bool
 goodLength m = leb 1 m && (leb m 512 && eqb (m % 4) 0)
 
-abbrev pub Holds : Row → Type 0
+abbrev pub Holds : Example → Type 0
 Holds (Sends request bytes) = requestFrame request ≡ bytes
 Holds (Sums sector bytes sum) = (footer : Footer) → byteAt (writeFrame sector bytes footer) (5 + length bytes) ≡ sum
 Holds (Answers states datagram answer) =
-    (b : Board) (call : Call) → Calls b call → states (b .client .state) ≡ true → call .datagram ≡ datagram
+    (b : Board) (call : LentCall) → Calls b call → states (b .client .state) ≡ true → call .datagram ≡ datagram
     → said (stepMachine b (Datagram call)) ≡ answer
 Holds (Codes states code answer) =
-    (b : Board) (call : Call) (m : ℕ) → Calls b call → states (b .client .state) ≡ true → readOf (call .datagram) ≡ Control code m
+    (b : Board) (call : LentCall) (m : ℕ) → Calls b call → states (b .client .state) ≡ true → readOf (call .datagram) ≡ Control code m
     → said (stepMachine b (Datagram call)) ≡ answer
 Holds (Sector n sector good) =
-    (b : Board) (call : Call) (m : ℕ) → b .client .fixed .n ≡ n → goodLength m ≡ true → Brings b call sector m → Verdict good b call sector
+    (b : Board) (call : LentCall) (m : ℕ) → b .client .fixed .n ≡ n → goodLength m ≡ true → Brings b call sector m → SectorTaken good b call sector
 Holds (Length m good) =
-    (b : Board) (call : Call) (sector : ℕ) → 1 ≤ sector → sector ≤ b .client .fixed .n → Brings b call sector m → Verdict good b call sector
+    (b : Board) (call : LentCall) (sector : ℕ) → 1 ≤ sector → sector ≤ b .client .fixed .n → Brings b call sector m → SectorTaken good b call sector
 Holds Again =
-    (b : Board) (call again : Call) (sector m : ℕ) → Brings b call sector m → isStored (said (stepMachine b (Datagram call))) ≡ true
+    (b : Board) (call again : LentCall) (sector m : ℕ) → Brings b call sector m → isStored (said (stepMachine b (Datagram call))) ≡ true
     → again .datagram ≡ call .datagram → Lends (b .client .fixed .n) again
     → said (stepMachine (stepMachine b (Datagram call) .board) (Datagram again))
     ≡ writeFrame sector (writtenBytes 0x06 0x1D (crcOf (paddedOf (dataIn (call .datagram))))) End
 Holds (Reads text answer) =
     (bank : Bank) (n : ℕ) (image : List ℕ) → goodN n ≡ true → length image ≡ sectorSize * n → textRead text bank n image .answer ≡ answer
 
-pub data AllHold : List Row → Type 0 where
+pub data AllHold : List Example → Type 0 where
   none : AllHold []
-  also : {r : Row} {rows : List Row} → Holds r → AllHold rows → AllHold (r ∷ rows)
+  also : {r : Example} {rows : List Example} → Holds r → AllHold rows → AllHold (r ∷ rows)
 
 abbrev pub isIdle : State → Bool
 isIdle state.Closed = false
@@ -107,7 +108,7 @@ isIdle state.Write = false
 abbrev pub live : State → Bool
 live s = not (isClosed s)
 
-abbrev pub rows : List Row
+abbrev pub rows : List Example
 rows =
     -- 1
     Sends ModeStart (0x01 ∷ 0x01 ∷ 0x61 ∷ 0x9E ∷ 0x03 ∷ [])

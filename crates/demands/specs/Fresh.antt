@@ -13,7 +13,8 @@ use Rattle.sender.specs.declared.request.Request.the-variants.{ModeStart, ModeE
 use Rattle.sender.specs.Request.{requestFrame}
 use Rattle.client.specs.Host.{fixedOf, newOf}
 use Rattle.client.specs.Notice.{noticeBytes}
-use Rattle.demands.specs.Board.{Board, board, Call, Input, Initiate, Datagram, said, Machine, after}
+use Rattle.calls.specs.Call.{Board, board}
+use Rattle.demands.specs.Board.{LentCall, Input, Initiate, Datagram, said, Machine, after}
 use Rattle.demands.specs.Demand2.{Lends, Fit, Delivery, Delivered}
 
 -- a new client between two whole banks
@@ -22,13 +23,13 @@ pub record Fresh (n : ℕ) (pair : Banks) : Type 0 where
   pub whole : (x : Bank) → length (bankIn x pair) ≡ bankSize n
 
 -- the board when the mode was started, and when the image was delivered
-abbrev pub inMode : Machine → Board → Call → Board
+abbrev pub inMode : Machine → Board → LentCall → Board
 inMode m b mode = after m b (Initiate ∷ Datagram mode ∷ [])
 
-abbrev pub afterAll : Machine → Board → Call → Call → List Input → Call → Board
+abbrev pub afterAll : Machine → Board → LentCall → LentCall → List Input → LentCall → Board
 afterAll m b mode start is end = m (after m (inMode m b mode) (Datagram start ∷ is)) (Datagram end) .board
 
-pub record Told (m : Machine) (b : Board) (image : List ℕ) (mode start : Call) (ps : List ℕ) (is : List Input) (end over : Call) : Type 0 where
+pub record FreshRight (m : Machine) (b : Board) (image : List ℕ) (mode start : LentCall) (ps : List ℕ) (is : List Input) (end over : LentCall) : Type 0 where
   pub initiated : m b Initiate .number ≡ 0
   pub started : said (m (m b Initiate .board) (Datagram mode)) ≡ 0x01 ∷ 0x02 ∷ 0x71 ∷ 0x06 ∷ 0x87 ∷ 0x03 ∷ []
   pub start-notice : noticeBytes (m (m b Initiate .board) (Datagram mode) .notice) ≡ 0x60 ∷ 0x33 ∷ mode .address
@@ -41,8 +42,8 @@ MeetsFresh m =
     (n : ℕ) (running : Bank) (major minor revision : ℕ) (pair : Banks) → Fresh n pair
     → (let b : Board = board (newOf n running major minor revision .client) pair in
     (image : List ℕ) → Fit image (fixedOf n running major minor revision)
-    → (mode start : Call) (ps : List ℕ) (is : List Input) (end over : Call)
+    → (mode start : LentCall) (ps : List ℕ) (is : List Input) (end over : LentCall)
     → mode .datagram ≡ requestFrame ModeStart → Lends n mode
     → Delivery (inMode m b mode) image start ps is end
     → over .datagram ≡ requestFrame ModeEnd → Lends n over
-    → Told m b image mode start ps is end over)
+    → FreshRight m b image mode start ps is end over)

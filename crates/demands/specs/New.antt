@@ -12,7 +12,8 @@ use Rattle.client.specs.declared.host.Hosted.{Hosted}
 use Rattle.client.specs.Host.{toldNumber, fixedOf}
 use Rattle.client.specs.Record.{closedClient}
 use Rattle.demands.specs.Banks.{View}
-use Rattle.demands.specs.Board.{Board, board, Input, Initiate, Terminate, Datagram, Outcome, Machine, outcomes}
+use Rattle.calls.specs.Call.{Board, board}
+use Rattle.demands.specs.Board.{Input, Initiate, Terminate, Datagram, Outcome, Machine, outcomes}
 use Rattle.demands.specs.Demand1.{refused}
 
 -- N, running bank, major, minor, revision

@@ -20,7 +20,7 @@ abbrev pub Asker : Type 0
 Asker = Request → List ℕ → Made·Out
 
 -- a request as it should be: its frame at the front, and the rest stays
-pub record Asked (request : Request) (before : List ℕ) (o : Made·Out) : Type 0 where
+pub record RequestRight (request : Request) (before : List ℕ) (o : Made·Out) : Type 0 where
   pub made : madeSaid (o .answer) ≡ value (length (requestFrame request))
   pub front : take (length (requestFrame request)) (o .buffer) ≡ requestFrame request
   pub rest : drop (length (requestFrame request)) (o .buffer) ≡ drop (length (requestFrame request)) before
@@ -29,7 +29,7 @@ pub record Asked (request : Request) (before : List ℕ) (o : Made·Out) : Type 
 pub record MeetsRequests (s : Asker) : Type 0 where
   pub bad-n : (bank : Bank) (n : ℕ) (before : List ℕ) → goodN n ≡ false → RefusedBy 3 before (s (WriteStart bank n) before)
   pub bad-length : (request : Request) (before : List ℕ) → givenGood request ≡ true → length before < room → RefusedBy 2 before (s request before)
-  pub request : (request : Request) (before : List ℕ) → givenGood request ≡ true → room ≤ length before → Asked request before (s request before)
+  pub request : (request : Request) (before : List ℕ) → givenGood request ≡ true → room ≤ length before → RequestRight request before (s request before)
 
 -- the maker of the contracts
 abbrev pub requestMaker : Asker

@@ -37,22 +37,22 @@ spelled (Firmware id major minor revision) = controlFrame 0x78 (0x06 ∷ bytesOf
 spelled (Written sector response write crc) = writeFrame sector (writtenBytes response write crc) End
 
 -- the paper's number of what was said, 0 where it says another thing
-abbrev pub numberIn : Said → ℕ
-numberIn (number n) = n
-numberIn (result r) = 0
-numberIn (value n) = 0
-numberIn (fault k line) = 0
-numberIn accepted = 0
+abbrev pub paperNumber : Said → ℕ
+paperNumber (number n) = n
+paperNumber (result r) = 0
+paperNumber (value n) = 0
+paperNumber (fault k line) = 0
+paperNumber accepted = 0
 
 -- it was read, and nothing of it was lost
 pub record ReadBack (datagram : List ℕ) (r : Response) : Type 0 where
-  pub unnumbered : numberIn (responseSaid r) ≡ 0
+  pub unnumbered : paperNumber (responseSaid r) ≡ 0
   pub whole : spelled r ≡ datagram
 
-abbrev pub Reader : Type 0
-Reader = List ℕ → Response
+abbrev pub ResponseReader : Type 0
+ResponseReader = List ℕ → Response
 
 -- a datagram's bytes are bytes
-pub record MeetsReader (s : Reader) : Type 0 where
+pub record MeetsReader (s : ResponseReader) : Type 0 where
   pub six : (datagram : List ℕ) → sixOf datagram ≡ true → responseSaid (s datagram) ≡ number 6
   pub else : (datagram : List ℕ) → ((i : ℕ) → byteAt datagram i < 256) → sixOf datagram ≡ false → ReadBack datagram (s datagram)

@@ -26,8 +26,8 @@ isStored answer = eqb (byteAt answer 0) 0x02 && (eqb (byteAt answer 5) 0x06 && (
 abbrev pub isBegin : List ℕ → Bool
 isBegin answer = isResponse 0x70 0x06 answer
 
-abbrev pub isEnd : List ℕ → Bool
-isEnd answer = isResponse 0x75 0x06 answer || isResponse 0x75 0x1E answer
+abbrev pub endsSession : List ℕ → Bool
+endsSession answer = isResponse 0x75 0x06 answer || isResponse 0x75 0x1E answer
 
 -- a packet leaves its data in its sector, "followed by 0xFF"
 abbrev pub packetIn : List ℕ → List ℕ → Read → List ℕ
@@ -60,8 +60,8 @@ packetFor k sector datagram Fault = sector
 packetFor k sector datagram (Control code n) = sector
 packetFor k sector datagram (Write number m footer) = cond (eqb number k) (paddedOf (dataIn datagram)) sector
 
-abbrev pub lately : ℕ → List ℕ → List ℕ → List ℕ → List ℕ
-lately k sector datagram answer =
+abbrev pub nextAccepted : ℕ → List ℕ → List ℕ → List ℕ → List ℕ
+nextAccepted k sector datagram answer =
     cond (isBegin answer) blankSector (cond (isStored answer) (packetFor k sector datagram (readOf datagram)) sector)
 
 abbrev pub lastAccepted : ℕ → List ℕ → List Input → List Outcome → List ℕ
@@ -69,4 +69,4 @@ lastAccepted k sector [] os = sector
 lastAccepted k sector (i ∷ is) [] = sector
 lastAccepted k sector (Initiate ∷ is) (o ∷ os) = lastAccepted k sector is os
 lastAccepted k sector (Terminate ∷ is) (o ∷ os) = lastAccepted k sector is os
-lastAccepted k sector (Datagram call ∷ is) (o ∷ os) = lastAccepted k (lately k sector (call .datagram) (said o)) is os
+lastAccepted k sector (Datagram call ∷ is) (o ∷ os) = lastAccepted k (nextAccepted k sector (call .datagram) (said o)) is os

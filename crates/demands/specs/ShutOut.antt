@@ -19,25 +19,10 @@ use Rattle.exchange.specs.declared.state.State.the-variants as state
 use Rattle.exchange.specs.State.{isClosed}
 use Rattle.decision.specs.Plan.{lentGood}
 use Rattle.client.specs.declared.record.Client.{Client}
-use Rattle.demands.specs.Board.{
-  Board,
-  board,
-  Call,
-  Input,
-  Initiate,
-  Terminate,
-  Datagram,
-  Outcome,
-  said,
-  Machine,
-  after,
-  targetBank,
-  lentOf,
-  lentTarget,
-  stepMachine,
-}
+use Rattle.calls.specs.Call.{Board, board}
+use Rattle.demands.specs.Board.{LentCall, Input, Initiate, Terminate, Datagram, Outcome, said, Machine, after, targetBank, lentOf, lentTarget, stepMachine}
 use Rattle.demands.specs.Demand1.{isPacket, refused, answered}
-use Rattle.demands.specs.Session.{isBegin, isStored, isEnd}
+use Rattle.demands.specs.Session.{isBegin, isStored, endsSession}
 
 -- a response with 06: a control response has its result behind the code, a write response its response result behind sector and length
 abbrev pub says06 : List ℕ → Bool
@@ -46,12 +31,12 @@ says06 answer =
 
 -- one that refuses everything: no answer of it carries 06
 abbrev pub RefusesAll : Machine → Type 0
-RefusesAll m = (b : Board) (call : Call) → says06 (said (m b (Datagram call))) ≡ true → ⊥
+RefusesAll m = (b : Board) (call : LentCall) → says06 (said (m b (Datagram call))) ≡ true → ⊥
 
 -- one with a single fixed answer: where it says anything, it says that; it may refuse with a number, rightly or not
-pub record Fixed (m : Machine) : Type 0 where
+pub record OneAnswer (m : Machine) : Type 0 where
   pub answer : List ℕ
-  pub always : (b : Board) (call : Call) → (said (m b (Datagram call)) ≡ [] → ⊥) → said (m b (Datagram call)) ≡ answer
+  pub always : (b : Board) (call : LentCall) → (said (m b (Datagram call)) ≡ [] → ⊥) → said (m b (Datagram call)) ≡ answer
 
 -- one of both: it refuses as the client does, 3, 2, 1, and takes all else for a frame fault
 abbrev pub faultsOnly : Machine
@@ -78,10 +63,10 @@ pub record StoresNothing (m : Machine) : Type 0 where
   pub place : ℕ
   pub low : place < bankSize (at .client .fixed .n)
   pub byte : getD (targetBank at) place 0xFF ≡ 0xFF → ⊥
-  pub start : Call
-  pub end : Call
+  pub start : LentCall
+  pub end : LentCall
   pub begins : isBegin (said (m at (Datagram start))) ≡ true
-  pub ends : isEnd (said (m (m at (Datagram start) .board) (Datagram end))) ≡ true
+  pub ends : endsSession (said (m (m at (Datagram start) .board) (Datagram end))) ≡ true
 
 -- the same outcome, but the banks stay
 abbrev pub unstored : Board → Outcome → Outcome
@@ -95,25 +80,25 @@ storesNothing b i = unstored b (stepMachine b i)
 -- ---- one that stores the first packet and "only acknowledges the rest"
 
 -- the same call with another datagram
-abbrev pub bringing : List ℕ → Call → Call
+abbrev pub bringing : List ℕ → LentCall → LentCall
 bringing datagram call =
     record { datagram = datagram; address = call .address; marks = call .marks; buffer = call .buffer; lent = call .lent }
 
 -- packets that differ in their bytes alone: each goes to the same sector, is as long, has the same footer and comes with the same things lent
 pub data SameButBytes : List Input → List Input → Type 0 where
   none-alike : SameButBytes [] []
-  more-alike : {call : Call} {datagram : List ℕ} {is js : List Input} (sector size : ℕ) (footer : Footer)
+  more-alike : {call : LentCall} {datagram : List ℕ} {is js : List Input} (sector size : ℕ) (footer : Footer)
       → readOf (call .datagram) ≡ Write sector size footer → readOf datagram ≡ Write sector size footer → SameButBytes is js
       → SameButBytes (Datagram call ∷ is) (Datagram (bringing datagram call) ∷ js)
 
 -- a session is begun and its first packet handled: the answers say so
-pub record FirstHandled (m : Machine) (b : Board) (start first : Call) : Type 0 where
+pub record FirstHandled (m : Machine) (b : Board) (start first : LentCall) : Type 0 where
   pub begins : isBegin (said (m b (Datagram start))) ≡ true
   pub packet : isPacket (readOf (first .datagram)) ≡ true
   pub handled : isStored (said (m (m b (Datagram start) .board) (Datagram first))) ≡ true
 
 -- the target when the session is over
-abbrev pub targetAfter : Machine → Board → Call → Call → List Input → Call → List ℕ
+abbrev pub targetAfter : Machine → Board → LentCall → LentCall → List Input → LentCall → List ℕ
 targetAfter m b start first rest end =
     bankIn (otherOf (b .client .fixed .running)) (m (after m b (Datagram start ∷ Datagram first ∷ rest)) (Datagram end) .board .pair)
 
@@ -122,7 +107,7 @@ targetAfter m b start first rest end =
 -- is its own affair.
 abbrev pub FirstOnly : Machine → Type 0
 FirstOnly m =
-    (b : Board) (start first end : Call) (is js : List Input) → FirstHandled m b start first
+    (b : Board) (start first end : LentCall) (is js : List Input) → FirstHandled m b start first
     → end .datagram ≡ requestFrame WriteEnd → SameButBytes is js
     → targetAfter m b start first is end ≡ targetAfter m b start first js end
 

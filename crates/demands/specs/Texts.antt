@@ -16,8 +16,8 @@ use Rattle.hex.specs.Meaning.{KeepsAll, FirstBroken, Leaves}
 use Rattle.hex.specs.Read.{Reading, answerSaid, textRead}
 
 -- text, bank, N, image
-abbrev pub Reader : Type 0
-Reader = List ℕ → Bank → ℕ → List ℕ → Reading
+abbrev pub TextReader : Type 0
+TextReader = List ℕ → Bank → ℕ → List ℕ → Reading
 
 -- what comes of a text is said in 01's numbers, and leaves an image
 pub record ReadRight (text : List ℕ) (bank : Bank) (n : ℕ) (image : List ℕ) (r : Reading) : Type 0 where
@@ -38,11 +38,11 @@ pub record ReadRight (text : List ℕ) (bank : Bank) (n : ℕ) (image : List ℕ
   -- the image keeps its length
   pub sized : length (r .image) ≡ length image
 
-abbrev pub MeetsHex : Reader → Type 0
+abbrev pub MeetsHex : TextReader → Type 0
 MeetsHex read = (text : List ℕ) (bank : Bank) (n : ℕ) (image : List ℕ) → ReadRight text bank n image (read text bank n image)
 
 -- one that invents the line: of any two texts that it refuses for the same bank, N and image it names the same
-abbrev pub InventsLine : Reader → Type 0
+abbrev pub InventsLine : TextReader → Type 0
 InventsLine read =
     (text other : List ℕ) (bank : Bank) (n : ℕ) (image : List ℕ) (r s : Refusal)
     → read text bank n image .answer ≡ Refused r → read other bank n image .answer ≡ Refused s → r .line ≡ s .line
@@ -54,6 +54,6 @@ relined l BadLength = BadLength
 relined l (Refused r) = Refused (record { kind = r .kind; line = l })
 relined l Accepted = Accepted
 
-abbrev pub inventor : (Bank → ℕ → List ℕ → ℕ) → Reader
+abbrev pub inventor : (Bank → ℕ → List ℕ → ℕ) → TextReader
 inventor names text bank n image =
     record { answer = relined (names bank n image) (textRead text bank n image .answer); image = textRead text bank n image .image }

@@ -19,7 +19,7 @@ use Rattle.exchange.specs.Answer.{answerBytes}
 use Rattle.client.specs.declared.record.Client.{Client}
 use Rattle.client.specs.declared.step.Stepped.{Stepped}
 use Rattle.client.specs.Step.{Carried, stepOf, Step·Is}
-use Rattle.calls.specs.Call.{Call, Kept, kept, stepped, keptAfter, afterSteps, camesOf}
+use Rattle.calls.specs.Call.{Call, Board, board, stepped, boardAfter, afterSteps, cameOfSteps}
 use Rattle.calls.proofs.Again.{steps-more, cames-more, Likewise, step-lent}
 use Rattle.calls.proofs.Beside.{step-said}
 use Rattle.exports.specs.Slots.{slotRoom, slotSize, slotCount, sizeAt, datagramAt, slotsGood, callsOf, fresh, slotsTaken, TakeSlots·Is}
@@ -62,23 +62,23 @@ slot-stepped slots k size e s =
 
 -- what a step makes of a run
 abbrev runNext : Run → Carried → Run
-runNext run r = ran (givenOf (r .answer) (r .told)) (keptAfter (run .kept-at-last) r) (saidNext (run .buffer) r)
+runNext run r = ran (givenOf (r .answer) (r .told)) (boardAfter (run .kept-at-last) r) (saidNext (run .buffer) r)
 
-run-more : (buffer : List ℕ) (k : Kept) (calls : List Call) (call : Call)
+run-more : (buffer : List ℕ) (k : Board) (calls : List Call) (call : Call)
     → runOf buffer k (calls ++ (call ∷ [])) ≡ runNext (runOf buffer k calls) (stepped (runOf buffer k calls .kept-at-last) call)
 unfolding runOf
 run-more buffer k calls call =
     let r : Carried = stepped (afterSteps k calls) call in
     let l : List Carried = r ∷ [] in
     λ i. record {
-      given = (ap (foldl lastGiven 0) (cames-more k calls call) ∙ foldl-append lastGiven 0 (camesOf k calls) l) i;
+      given = (ap (foldl lastGiven 0) (cames-more k calls call) ∙ foldl-append lastGiven 0 (cameOfSteps k calls) l) i;
       kept-at-last = steps-more k calls call i;
-      buffer = (ap (foldl saidNext buffer) (cames-more k calls call) ∙ foldl-append saidNext buffer (camesOf k calls) l) i;
+      buffer = (ap (foldl saidNext buffer) (cames-more k calls call) ∙ foldl-append saidNext buffer (cameOfSteps k calls) l) i;
     }
 
 -- ---- one slot more
 
-module _ (slots marks address buffer : List ℕ) (start : Kept) where
+module _ (slots marks address buffer : List ℕ) (start : Board) where
   abbrev runAt : ℕ → Run
   runAt k = runOf buffer start (callsOf slots marks address buffer k)
 
@@ -87,7 +87,7 @@ module _ (slots marks address buffer : List ℕ) (start : Kept) where
   none-taken = refl
 
   module _ (k : ℕ) (c : Client) (told : ℕ) (bank0 bank1 lent : List ℕ)
-      (e : ran told (kept c (banks bank0 bank1)) lent ≡ runAt k) (l : length lent ≡ length buffer)
+      (e : ran told (board c (banks bank0 bank1)) lent ≡ runAt k) (l : length lent ≡ length buffer)
       (r : Stepped) (bank0′ bank1′ said : List ℕ)
       (s : Step·Is c bank0 bank1 marks address lent (datagramAt slots k) r bank0′ bank1′ said) where
     abbrev pair : Banks
@@ -106,23 +106,23 @@ module _ (slots marks address buffer : List ℕ) (start : Kept) where
     same = step-lent c (length (bankIn x pair)) (bankIn (otherOf x) pair) marks address lent buffer (datagramAt slots k) l
 
     -- the step with the buffer as it was lent is the call's
-    step-is : ran (givenOf (r .answer) (r .length)) (kept (r .client) (banks bank0′ bank1′)) said
-        ≡ runNext (ran told (kept c pair) lent) there
+    step-is : ran (givenOf (r .answer) (r .length)) (board (r .client) (banks bank0′ bank1′)) said
+        ≡ runNext (ran told (board c pair) lent) there
     step-is =
         λ i. record {
           given = ap₂ givenOf (s .answer ∙ same .answer) (s .told ∙ same .told) i;
           kept-at-last = record {
             client = (s .client ∙ same .client) i;
             pair = record {
-              zero = (s .bank-zero ∙ ap (λ (t : List ℕ). withBank (otherOf x) t pair .zero) (same .target)) i;
-              one = (s .bank-one ∙ ap (λ (t : List ℕ). withBank (otherOf x) t pair .one) (same .target)) i;
+              zero = (s .bank-zero ∙ ap (λ (t : List ℕ). withBank (otherOf x) t pair .bank0) (same .target)) i;
+              one = (s .bank-one ∙ ap (λ (t : List ℕ). withBank (otherOf x) t pair .bank1) (same .target)) i;
             };
           };
           buffer = (s .said ∙ step-said c (length (bankIn x pair)) (bankIn (otherOf x) pair) marks address lent (datagramAt slots k)
               ∙ ap (λ (a : Answer). frontOf lent (answerBytes a)) (same .answer)) i;
         }
 
-    pub one-taken : ran (givenOf (r .answer) (r .length)) (kept (r .client) (banks bank0′ bank1′)) said ≡ runAt (k + 1)
+    pub one-taken : ran (givenOf (r .answer) (r .length)) (board (r .client) (banks bank0′ bank1′)) said ≡ runAt (k + 1)
     unfolding callsOf
     one-taken =
         rw (add-one k)
@@ -138,14 +138,14 @@ module _ (n : ℕ) (slots bank0 bank1 marks address buffer : List ℕ) where
 
   pub slots-taken : (c : Client) (told : ℕ) (bank0′ bank1′ said : List ℕ) (made : Client) (k : ℕ)
       → slotsGood slots (slotCount slots) ≡ true → made ≡ fresh n → k ≡ slotCount slots
-      → ran told (kept c (banks bank0′ bank1′)) said ≡ runAt slots marks address buffer (kept made (banks bank0 bank1)) k
+      → ran told (board c (banks bank0′ bank1′)) said ≡ runAt slots marks address buffer (board made (banks bank0 bank1)) k
       → TakeSlots·Is n slots bank0 bank1 marks address buffer told bank0′ bank1′ said
   unfolding slotsTaken
   slots-taken c told bank0′ bank1′ said made k g new all e =
-      let whole = e ∙ ap₂ (λ (m : Client) (j : ℕ). runAt slots marks address buffer (kept m (banks bank0 bank1)) j) new all in
+      let whole = e ∙ ap₂ (λ (m : Client) (j : ℕ). runAt slots marks address buffer (board m (banks bank0 bank1)) j) new all in
       record {
         given = rw g (ap (λ (run : Run). run .given) whole);
-        bank-zero = rw g (ap (λ (run : Run). run .kept-at-last .pair .zero) whole);
-        bank-one = rw g (ap (λ (run : Run). run .kept-at-last .pair .one) whole);
+        bank-zero = rw g (ap (λ (run : Run). run .kept-at-last .pair .bank0) whole);
+        bank-one = rw g (ap (λ (run : Run). run .kept-at-last .pair .bank1) whole);
         buffer-left = rw g (ap (λ (run : Run). run .buffer) whole);
       }

@@ -16,7 +16,7 @@ use Rattle.exchange.specs.Answer.{answerBytes, refusalNumber}
 use Rattle.client.specs.declared.record.Client.{Client}
 use Rattle.client.specs.Host.{newOf, initiateOf}
 use Rattle.client.specs.Step.{Carried}
-use Rattle.calls.specs.Call.{Call, Kept, kept, afterSteps, camesOf}
+use Rattle.calls.specs.Call.{Call, Board, board, afterSteps, cameOfSteps}
 
 -- ---- slots: a datagram's length in two bytes, then room for the longest request; what is behind the last whole slot is not looked at
 
@@ -63,10 +63,10 @@ givenOf (Written sector result write crc) told = told
 -- what is given of the last answer, client and banks, and the buffer
 pub record Run : Type 0 where
   pub given : ℕ
-  pub kept-at-last : Kept
+  pub kept-at-last : Board
   pub buffer : List ℕ
 
-abbrev pub ran : ℕ → Kept → List ℕ → Run
+abbrev pub ran : ℕ → Board → List ℕ → Run
 ran given k buffer = record { given = given; kept-at-last = k; buffer = buffer }
 
 abbrev pub lastGiven : ℕ → Carried → ℕ
@@ -76,9 +76,9 @@ lastGiven before r = givenOf (r .answer) (r .told)
 abbrev pub saidNext : List ℕ → Carried → List ℕ
 saidNext buffer r = frontOf buffer (answerBytes (r .answer))
 
-unfoldable pub runOf : List ℕ → Kept → List Call → Run
+unfoldable pub runOf : List ℕ → Board → List Call → Run
 runOf buffer k calls =
-    ran (foldl lastGiven 0 (camesOf k calls)) (afterSteps k calls) (foldl saidNext buffer (camesOf k calls))
+    ran (foldl lastGiven 0 (cameOfSteps k calls)) (afterSteps k calls) (foldl saidNext buffer (cameOfSteps k calls))
 
 -- ---- all slots
 
@@ -86,8 +86,8 @@ runOf buffer k calls =
 abbrev pub fresh : ℕ → Client
 fresh n = initiateOf (newOf n Zero 0 0 0 .client) .client
 
-abbrev pub atFirst : ℕ → List ℕ → List ℕ → Kept
-atFirst n bank0 bank1 = kept (fresh n) (banks bank0 bank1)
+abbrev pub atFirst : ℕ → List ℕ → List ℕ → Board
+atFirst n bank0 bank1 = board (fresh n) (banks bank0 bank1)
 
 -- 2, and nothing changes, where a slot says more than it has room for
 unfoldable pub slotsTaken : ℕ → List ℕ → List ℕ → List ℕ → List ℕ → List ℕ → List ℕ → Run
@@ -98,6 +98,6 @@ slotsTaken n slots bank0 bank1 marks address buffer =
 
 pub record TakeSlots·Is (n : ℕ) (slots bank0 bank1 marks address buffer : List ℕ) (r : ℕ) (left0 left1 said : List ℕ) : Type 0 where
   pub given : r ≡ slotsTaken n slots bank0 bank1 marks address buffer .given
-  pub bank-zero : left0 ≡ slotsTaken n slots bank0 bank1 marks address buffer .kept-at-last .pair .zero
-  pub bank-one : left1 ≡ slotsTaken n slots bank0 bank1 marks address buffer .kept-at-last .pair .one
+  pub bank-zero : left0 ≡ slotsTaken n slots bank0 bank1 marks address buffer .kept-at-last .pair .bank0
+  pub bank-one : left1 ≡ slotsTaken n slots bank0 bank1 marks address buffer .kept-at-last .pair .bank1
   pub buffer-left : said ≡ slotsTaken n slots bank0 bank1 marks address buffer .buffer

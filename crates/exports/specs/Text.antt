@@ -24,10 +24,10 @@ abbrev pub numbersOf : Said → List ℕ
 numbersOf said = code said ∷ lineSaid said ∷ []
 
 -- whether there is room for both; if not, the text is not read
-abbrev pub roomFor : List ℕ → Bool
-roomFor told = leb 2 (length told)
+abbrev pub roomToTell : List ℕ → Bool
+roomToTell told = leb 2 (length told)
 
 pub record ReadNumbers·Is (text : List ℕ) (n : ℕ) (image told : List ℕ) (r : ℕ) (image′ told′ : List ℕ) : Type 0 where
-  pub number-is : r ≡ cond (roomFor told) (code (readSays text Zero n image)) 2
-  pub image-is : image′ ≡ cond (roomFor told) (textRead text Zero n image .image) image
+  pub number-is : r ≡ cond (roomToTell told) (code (readSays text Zero n image)) 2
+  pub image-is : image′ ≡ cond (roomToTell told) (textRead text Zero n image .image) image
   pub told-is : told′ ≡ frontOf told (numbersOf (readSays text Zero n image))

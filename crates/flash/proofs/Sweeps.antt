@@ -15,7 +15,7 @@ use Rattle.layout.proofs.Layouts.{good-below}
 use Rattle.flash.specs.declared.sector.Store.the-variants as kind
 use Rattle.flash.specs.Sector.{blanks, erasedOf}
 use Rattle.flash.specs.Bank.{hasSector, blankSector, sweptOne, swept, sweptOf, Store·Is}
-use Rattle.flash.specs.Store.{Leaves, sweepStore, sweepStores, storesOfSweep}
+use Rattle.flash.specs.Store.{StoresLeave, sweepStore, sweepStores, storesOfSweep}
 use Rattle.flash.proofs.Blanks.{erased-blank, sector-blanks}
 use Rattle.flash.proofs.Changes.{Keeps, at-none, length-at, at-here, at-other}
 use Rattle.flash.proofs.Sectors.{Lies, has, has-lies, has-past, length-sector, ext-sector}
@@ -131,32 +131,32 @@ swept-blank bank n received g w none =
 -- ---- the stores
 
 module _ (bank : List ℕ) (k : ℕ) where
-  one-leaves : (received : Bool) → Leaves (sweepStore (length bank) k received) bank (sweptOne bank k received)
+  one-leaves : (received : Bool) → StoresLeave (sweepStore (length bank) k received) bank (sweptOne bank k received)
   unfolding sweepStore
   one-leaves true = leaves-none
   one-leaves false = by (hasSector (length bank) k) refl
     where
-      by : (t : Bool) → hasSector (length bank) k ≡ t → Leaves (sweepStore (length bank) k false) bank (sweptOne bank k false)
+      by : (t : Bool) → hasSector (length bank) k ≡ t → StoresLeave (sweepStore (length bank) k false) bank (sweptOne bank k false)
       by true h = rw h (leaves-call bank k kind.Erase refl)
       by false h = rw (h, at-none erasedOf k bank h) leaves-none
 
   -- each way out of a turn
-  pub one-kept : {received : Bool} → received ≡ true → Leaves (sweepStore (length bank) k received) bank bank
+  pub one-kept : {received : Bool} → received ≡ true → StoresLeave (sweepStore (length bank) k received) bank bank
   one-kept e = rw e (one-leaves true)
 
   pub one-erased : {received : Bool} {after : List ℕ} → received ≡ false → Store·Is bank k kind.Erase after
-      → Leaves (sweepStore (length bank) k received) bank after
+      → StoresLeave (sweepStore (length bank) k received) bank after
   one-erased e a = rw (e, a) (one-leaves false)
 
 module _ (received : List Bool) (bytes : ℕ) where
   -- none yet, and one more, as the loop has them
-  pub sweep-none : {bank : List ℕ} → Leaves (sweepStores received bytes 0) bank bank
+  pub sweep-none : {bank : List ℕ} → StoresLeave (sweepStores received bytes 0) bank bank
   unfolding sweepStores
   sweep-none = leaves-none
 
-  pub sweep-next : (j : ℕ) {r : Bool} {bank begun after : List ℕ} → Leaves (sweepStores received bytes j) bank begun
-      → length begun ≡ bytes → r ≡ getD received j false → Leaves (sweepStore (length begun) (j + 1) r) begun after
-      → Leaves (sweepStores received bytes (j + 1)) bank after
+  pub sweep-next : (j : ℕ) {r : Bool} {bank begun after : List ℕ} → StoresLeave (sweepStores received bytes j) bank begun
+      → length begun ≡ bytes → r ≡ getD received j false → StoresLeave (sweepStore (length begun) (j + 1) r) begun after
+      → StoresLeave (sweepStores received bytes (j + 1)) bank after
   unfolding sweepStores
   sweep-next j p l e q = rw add-one (leaves-then p (rw (l, e, add-one) at q))
 
@@ -186,13 +186,13 @@ module _ (received : List Bool) (bytes : ℕ) where
           ∙ sym (ap (sweepStores received bytes) f ∙ none-beyond (bytes / sectorSize) (n - bytes / sectorSize) (omega arith))
 
 -- what the stores of a sweep leave is what the sweep leaves
-pub sweep-leaves : (bank : List ℕ) (n : ℕ) (received : List Bool) → Leaves (storesOfSweep bank n received) bank (sweptOf bank n received)
+pub sweep-leaves : (bank : List ℕ) (n : ℕ) (received : List Bool) → StoresLeave (storesOfSweep bank n received) bank (sweptOf bank n received)
 unfolding swept sweepStores
 sweep-leaves bank zero received = leaves-none
 sweep-leaves bank (suc j) received =
     leaves-then (sweep-leaves bank j received)
     (rw (length-swept received j bank) at (one-leaves (swept received j bank) (suc j) (getD received j false)))
 
-pub sweep-end : (received : List Bool) (n j : ℕ) (bank : List ℕ) {after : List ℕ} → Leaves (sweepStores received (length bank) j) bank after
+pub sweep-end : (received : List Bool) (n j : ℕ) (bank : List ℕ) {after : List ℕ} → StoresLeave (sweepStores received (length bank) j) bank after
     → j ≡ min n (length bank / sectorSize) → after ≡ sweptOf bank n received
 sweep-end received n j bank p e = leaves-same (rw (e, stores-all received (length bank) n) at p) (sweep-leaves bank n received)

@@ -20,7 +20,7 @@ use Rattle.layout.specs.Layout.{sectorSize, sectorOf}
 use Rattle.flash.specs.declared.sector.Store.the-variants as kind
 use Rattle.flash.specs.Sector.{wordBytes, blanks, erasedOf, paddedOf}
 use Rattle.flash.specs.Bank.{hasSector, withSector, atSector, Store·Is}
-use Rattle.flash.specs.Store.{Erase, flash, allMade, Leaves, wordAt, wordStore, wordStores}
+use Rattle.flash.specs.Store.{Erase, flash, allMade, StoresLeave, wordIn, wordStore, wordStores}
 use Rattle.flash.proofs.Blanks.{length-blanks, erased-blank, padded-blanks}
 use Rattle.flash.proofs.Changes.{at-has, at-with}
 use Rattle.flash.proofs.Sectors.{has-lies, length-sector}
@@ -93,12 +93,12 @@ module _ (sector bytes : List ℕ) (s : length sector ≡ sectorSize) (h : lengt
 
 module _ (k : ℕ) (bytes : List ℕ) where
   -- none yet, and one more, as the loop has them
-  pub words-none : {bank : List ℕ} → Leaves (wordStores k bytes 0) bank bank
+  pub words-none : {bank : List ℕ} → StoresLeave (wordStores k bytes 0) bank bank
   unfolding wordStores
   words-none = leaves-none
 
-  pub words-next : (i : ℕ) {bank begun after : List ℕ} → Leaves (wordStores k bytes i) bank begun → Leaves (wordStore k bytes i) begun after
-      → Leaves (wordStores k bytes (i + 1)) bank after
+  pub words-next : (i : ℕ) {bank begun after : List ℕ} → StoresLeave (wordStores k bytes i) bank begun → StoresLeave (wordStore k bytes i) begun after
+      → StoresLeave (wordStores k bytes (i + 1)) bank after
   unfolding wordStores
   words-next i p q = rw add-one (leaves-then p q)
 
@@ -129,7 +129,7 @@ module _ (bytes : List ℕ) (i word : ℕ) (h : i * wordBytes + wordBytes ≤ le
       ∙ number-inside 4 (drop at bytes) 0 (omega (arith, length-drop at bytes))
       ∙ sym (number-inside 4 bytes at h)
 
-  word-bytes : ((j : ℕ) → getD bytes j 0 < 256) → bytesOf wordBytes word ≡ wordAt bytes i
+  word-bytes : ((j : ℕ) → getD bytes j 0 < 256) → bytesOf wordBytes word ≡ wordIn bytes i
   word-bytes small =
       let at : ℕ = i * wordBytes in
       let two : at + 1 + 1 ≡ at + 2 = omega arith in
@@ -140,29 +140,29 @@ module _ (bytes : List ℕ) (i word : ℕ) (h : i * wordBytes + wordBytes ≤ le
       (rw (part-next bytes (at + 2) 1 (omega arith), three, part-next bytes (at + 3) 0 (omega arith)))
 
   -- it is blank where the number is the largest
-  blank-read : blankOf (wordAt bytes i) ≡ true → word ≡ 0xFFFFFFFF
+  blank-read : blankOf (wordIn bytes i) ≡ true → word ≡ 0xFFFFFFFF
   unfolding numberOf
   blank-read b =
-      let l : length (wordAt bytes i) ≡ 4 = part-length bytes (i * wordBytes) 4 h in
+      let l : length (wordIn bytes i) ≡ 4 = part-length bytes (i * wordBytes) 4 h in
       word-read
       ∙ number-inside 4 bytes (i * wordBytes) h
-      ∙ ap numberOf (blank-true (wordAt bytes i) b ∙ ap (λ (n : ℕ). blanks n) l)
+      ∙ ap numberOf (blank-true (wordIn bytes i) b ∙ ap (λ (n : ℕ). blanks n) l)
 
   module _ (small : (j : ℕ) → getD bytes j 0 < 256) where
-    read-blank : word ≡ 0xFFFFFFFF → blankOf (wordAt bytes i) ≡ true
+    read-blank : word ≡ 0xFFFFFFFF → blankOf (wordIn bytes i) ≡ true
     unfolding blankOf bytesOf
     read-blank e = ap blankOf (sym (word-bytes small) ∙ ap (bytesOf wordBytes) e)
 
     -- then it is not stored, and else it is
-    pub word-left : (k : ℕ) {bank : List ℕ} → word ≡ 0xFFFFFFFF → Leaves (wordStore k bytes i) bank bank
+    pub word-left : (k : ℕ) {bank : List ℕ} → word ≡ 0xFFFFFFFF → StoresLeave (wordStore k bytes i) bank bank
     unfolding wordStore
     word-left k e = rw (read-blank e) leaves-none
 
     pub word-put : (k : ℕ) (bank : List ℕ) {after : List ℕ} → (word ≡ 0xFFFFFFFF → ⊥) → Store·Is bank k (kind.Word (i * wordBytes) word) after
-        → Leaves (wordStore k bytes i) bank after
+        → StoresLeave (wordStore k bytes i) bank after
     unfolding wordStore
     word-put k bank n e =
-        rw (not-so (blankOf (wordAt bytes i)) (λ b. n (blank-read b)))
+        rw (not-so (blankOf (wordIn bytes i)) (λ b. n (blank-read b)))
         (rw (word-bytes small) at (leaves-call bank k (kind.Word (i * wordBytes) word) e))
 
 -- ---- all of them
@@ -170,20 +170,20 @@ module _ (bytes : List ℕ) (i word : ℕ) (h : i * wordBytes + wordBytes ≤ le
 -- the bank whose sector k is these bytes, followed by 0xFF
 module _ (bank : List ℕ) (k : ℕ) (h : hasSector (length bank) k ≡ true) where
   -- erased
-  pub erase-leaves : Leaves (Erase k ∷ []) bank (withSector bank k (paddedOf []))
+  pub erase-leaves : StoresLeave (Erase k ∷ []) bank (withSector bank k (paddedOf []))
   erase-leaves =
       leaves-call bank k kind.Erase
       (sym (at-has erasedOf k bank h ∙ ap (withSector bank k) (padded-none (sectorOf bank k) (length-sector bank k (has-lies (length bank) k h)))))
 
   -- one word more
   module _ (bytes : List ℕ) (i : ℕ) (begun : List ℕ) (n : length begun ≡ i * wordBytes)
-      (l : length begun + length (wordAt bytes i) ≤ sectorSize) where
-    word-leaves : (b : Bool) → blankOf (wordAt bytes i) ≡ b
-        → Leaves (wordStore k bytes i) (withSector bank k (paddedOf begun)) (withSector bank k (paddedOf (begun ++ wordAt bytes i)))
+      (l : length begun + length (wordIn bytes i) ≤ sectorSize) where
+    word-leaves : (b : Bool) → blankOf (wordIn bytes i) ≡ b
+        → StoresLeave (wordStore k bytes i) (withSector bank k (paddedOf begun)) (withSector bank k (paddedOf (begun ++ wordIn bytes i)))
     unfolding wordStore allMade
-    word-leaves true b = rw (b, padded-blank begun (wordAt bytes i) l b) leaves-none
+    word-leaves true b = rw (b, padded-blank begun (wordIn bytes i) l b) leaves-none
     word-leaves false b =
-        let word : List ℕ = wordAt bytes i in
+        let word : List ℕ = wordIn bytes i in
         let put : List ℕ → List ℕ = λ sector. placeOf sector (i * wordBytes) word in
         let p : put (paddedOf begun) ≡ paddedOf (begun ++ word) =
         ap (λ (at : ℕ). placeOf (paddedOf begun) at word) (sym n) ∙ padded-put begun word l in
@@ -192,13 +192,13 @@ module _ (bank : List ℕ) (k : ℕ) (h : hasSector (length bank) k ≡ true) wh
         rw b (record { left = λ next. ap (λ (x : List ℕ). flash x next) a })
 
   pub words-leave : (bytes : List ℕ) (n : ℕ) → n * wordBytes ≤ length bytes → length bytes ≤ sectorSize
-      → Leaves (wordStores k bytes n) (withSector bank k (paddedOf [])) (withSector bank k (paddedOf (take (n * wordBytes) bytes)))
+      → StoresLeave (wordStores k bytes n) (withSector bank k (paddedOf [])) (withSector bank k (paddedOf (take (n * wordBytes) bytes)))
   unfolding wordStores
   words-leave bytes zero m l = leaves-none
   words-leave bytes (suc i) m l =
       let begun : List ℕ = take (i * wordBytes) bytes in
       let b : length begun ≡ i * wordBytes = length-take-le (i * wordBytes) bytes (omega arith) in
-      let w : length (wordAt bytes i) ≡ wordBytes = part-length bytes (i * wordBytes) wordBytes (omega arith) in
+      let w : length (wordIn bytes i) ≡ wordBytes = part-length bytes (i * wordBytes) wordBytes (omega arith) in
       let e : suc i * wordBytes ≡ i * wordBytes + wordBytes = omega arith in
       rw (e, take-add (i * wordBytes) wordBytes bytes)
-      (leaves-then (words-leave bytes i (omega arith) l) (word-leaves bytes i begun b (omega arith) (blankOf (wordAt bytes i)) refl))
+      (leaves-then (words-leave bytes i (omega arith) l) (word-leaves bytes i begun b (omega arith) (blankOf (wordIn bytes i)) refl))

@@ -15,7 +15,7 @@ use Rattle.buffer.proofs.Comparing.{same-self, same-true}
 use Rattle.layout.specs.Layout.{sectorSize, goodN, sectorOf}
 use Rattle.flash.specs.Sector.{wordBytes, paddedOf, fitsSector, writtenOf, alreadyOf}
 use Rattle.flash.specs.Bank.{hasSector, withSector, writtenAt, alreadyAt, WriteAt·Is}
-use Rattle.flash.specs.Store.{Store, Erase, Leaves, wordStores, storesOf}
+use Rattle.flash.specs.Store.{Store, Erase, StoresLeave, wordStores, storesOf}
 use Rattle.flash.proofs.Changes.{Keeps, at-has, at-none, at-same, length-at, at-still, at-here, at-other, at-swap}
 use Rattle.flash.proofs.Sectors.{Lies, has, has-lies, lies-still}
 use Rattle.flash.proofs.Stores.{leaves-none, leaves-then, leaves-same}
@@ -173,12 +173,12 @@ module _ (bank : List ℕ) (k : ℕ) (bytes : List ℕ) where
       ∙ ap (λ (l : List Store). Erase k ∷ l) (blank-words k bytes (length bytes / wordBytes) b)
 
   -- what they leave is what the write leaves
-  pub write-leaves : Leaves (storesOf bank k bytes) bank (writtenAt bank k bytes)
+  pub write-leaves : StoresLeave (storesOf bank k bytes) bank (writtenAt bank k bytes)
   unfolding storesOf alreadyAt alreadyOf
   write-leaves = by (hasSector (length bank) k) (fitsSector (length bytes)) (sameOf (sectorOf bank k) (paddedOf bytes)) refl refl refl
     where
       by : (h f s : Bool) → hasSector (length bank) k ≡ h → fitsSector (length bytes) ≡ f → sameOf (sectorOf bank k) (paddedOf bytes) ≡ s
-          → Leaves (storesOf bank k bytes) bank (writtenAt bank k bytes)
+          → StoresLeave (storesOf bank k bytes) bank (writtenAt bank k bytes)
       by false f s h g e = rw (h, at-none (write bytes) k bank h) leaves-none
       by true false s h g e = rw (h, g, at-same (write bytes) k bank (written-unfit (sectorOf bank k) bytes g)) leaves-none
       by true true true h g e = rw (h, g, e, already-kept bank k bytes (same-already bank k bytes h g ∙ e)) leaves-none
@@ -206,8 +206,8 @@ module _ (bank : List ℕ) (k : ℕ) (bytes : List ℕ) where
         record { written = sym (already-kept bank k bytes a); already = sym a }
 
     -- erased, and then word by word
-    pub write-stored : {erased after : List ℕ} → false ≡ sameOf (sectorOf bank k) (paddedOf bytes) → Leaves (Erase k ∷ []) bank erased
-        → Leaves (wordStores k bytes (length bytes / wordBytes)) erased after → WriteAt·Is bank k bytes after false
+    pub write-stored : {erased after : List ℕ} → false ≡ sameOf (sectorOf bank k) (paddedOf bytes) → StoresLeave (Erase k ∷ []) bank erased
+        → StoresLeave (wordStores k bytes (length bytes / wordBytes)) erased after → WriteAt·Is bank k bytes after false
     write-stored s e w =
         record {
           written = leaves-same (leaves-then e w) (rw (stores-made h f (sym s)) at write-leaves);

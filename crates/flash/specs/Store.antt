@@ -41,7 +41,7 @@ allMade [] f = f
 allMade (store ∷ stores) f = allMade stores (made store f)
 
 -- these stores make one bank of another, and set no next-start number
-pub record Leaves (stores : List Store) (before after : List ℕ) : Type 0 where
+pub record StoresLeave (stores : List Store) (before after : List ℕ) : Type 0 where
   pub left : (next : Bank) → allMade stores (flash before next) ≡ flash after next
 
 -- the store of one call, which names the sector beside it
@@ -52,12 +52,12 @@ inSector k (kind.Word at word) = Word k at (bytesOf wordBytes word)
 -- ---- a written sector
 
 -- word i of the bytes
-abbrev pub wordAt : List ℕ → ℕ → List ℕ
-wordAt bytes i = take wordBytes (drop (i * wordBytes) bytes)
+abbrev pub wordIn : List ℕ → ℕ → List ℕ
+wordIn bytes i = take wordBytes (drop (i * wordBytes) bytes)
 
 -- the store of word i: none where it is FF FF FF FF, which an erased sector holds already
 unfoldable pub wordStore : ℕ → List ℕ → ℕ → List Store
-wordStore k bytes i = cond (blankOf (wordAt bytes i)) [] (Word k (i * wordBytes) (wordAt bytes i) ∷ [])
+wordStore k bytes i = cond (blankOf (wordIn bytes i)) [] (Word k (i * wordBytes) (wordIn bytes i) ∷ [])
 
 -- those of the first n words, ascending
 unfoldable pub wordStores : ℕ → List ℕ → ℕ → List Store

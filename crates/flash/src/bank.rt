@@ -10,7 +10,7 @@ ghost use Rattle.buffer.specs.Compare.{sameOf};
 ghost use Rattle.layout.specs.Layout.{sectorSize, sectorOf};
 ghost use Rattle.flash.specs.Sector.{wordBytes, paddedOf, fitsSector};
 ghost use Rattle.flash.specs.Bank.{hasSector, Store·Is, WriteAt·Is, Sweep·Is};
-ghost use Rattle.flash.specs.Store.{Leaves, wordStore, wordStores, sweepStore};
+ghost use Rattle.flash.specs.Store.{StoresLeave, wordStore, wordStores, sweepStore};
 
 // Whether sector `k` lies within a bank of so many bytes.
 fn has_sector(bytes: usize, k: usize) -> bool
@@ -37,7 +37,7 @@ pub fn store(bank: &mut [u8], k: usize, store: Store)
 // bytes, and not from its four alone, so that the compiler takes all four at once.
 fn put_word(bank: &mut [u8], k: usize, bytes: &[u8], i: usize)
     requires { ⌜ i * wordBytes + wordBytes ≤ length (now bytes) ⌝ }
-    ensures { λ _. ⌜ Leaves (wordStore k (now (bytes .entry)) i) (now (bank .entry)) (now (bank .exit)) ⌝ }
+    ensures { λ _. ⌜ StoresLeave (wordStore k (now (bytes .entry)) i) (now (bank .entry)) (now (bank .exit)) ⌝ }
 {
     let at = i * WORD;
     let word = buffer::number::number4(&bytes[at..], 0);
@@ -50,7 +50,7 @@ fn put_word(bank: &mut [u8], k: usize, bytes: &[u8], i: usize)
 // The first `n` words of the bytes, ascending.
 fn put_words(bank: &mut [u8], k: usize, bytes: &[u8], n: usize)
     requires { ⌜ n * wordBytes ≤ length (now bytes) ⌝ }
-    ensures { λ _. ⌜ Leaves (wordStores k (now (bytes .entry)) n) (now (bank .entry)) (now (bank .exit)) ⌝ }
+    ensures { λ _. ⌜ StoresLeave (wordStores k (now (bytes .entry)) n) (now (bank .entry)) (now (bank .exit)) ⌝ }
 {
     let mut i = 0;
     while i < n {
@@ -98,7 +98,7 @@ pub fn write_at(bank: &mut [u8], k: usize, bytes: &[u8]) -> bool
 
 // Sector `k` is erased, unless it was received.
 fn sweep_one(bank: &mut [u8], k: usize, received: bool)
-    ensures { λ _. ⌜ Leaves (sweepStore (length (now (bank .entry))) k received) (now (bank .entry)) (now (bank .exit)) ⌝ }
+    ensures { λ _. ⌜ StoresLeave (sweepStore (length (now (bank .entry))) k received) (now (bank .entry)) (now (bank .exit)) ⌝ }
 {
     if received {
         return;

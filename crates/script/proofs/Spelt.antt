@@ -20,7 +20,7 @@ use Rattle.buffer.proofs.Bools.{and-left, and-right}
 use Rattle.buffer.proofs.Fold.{fold-done}
 use Rattle.buffer.proofs.Places.{place-fits, place-front, front-short}
 use Rattle.digits.specs.Digit.{valueOf, digitOf}
-use Rattle.script.specs.Spelt.{allDigits, further, numberIn, noNumber, held, bytesIn, spellsBytes, isDash, digitsIn, Bytes·Is, Spell·Is}
+use Rattle.script.specs.Spelt.{allDigits, withDigit, numberIn, noNumber, within32, bytesIn, spellsBytes, isDash, digitsSpelt, Bytes·Is, Spell·Is}
 
 -- ---- digits of a base
 
@@ -45,16 +45,16 @@ digit-at base (b ∷ text) (suc i) e h = digit-at base text i (and-right (ltb (v
 
 -- ---- a number
 
-pub held-small : (n : ℕ) → n ≤ 0xFFFFFFFF → n ≡ held n
-unfolding held
+pub held-small : (n : ℕ) → n ≤ 0xFFFFFFFF → n ≡ within32 n
+unfolding within32
 held-small n h = rw (le-leb n 0xFFFFFFFF h)
 
-held-large : (n : ℕ) → 0xFFFFFFFF < n → noNumber ≡ held n
-unfolding held
+held-large : (n : ℕ) → 0xFFFFFFFF < n → noNumber ≡ within32 n
+unfolding within32
 held-large n h = rw (lt-leb n 0xFFFFFFFF h)
 
 -- what is too large stays so
-grows : (base : ℕ) → 0 < base → (n : ℕ) (text : List ℕ) → n ≤ foldl (further base) n text
+grows : (base : ℕ) → 0 < base → (n : ℕ) (text : List ℕ) → n ≤ foldl (withDigit base) n text
 grows base h n [] = omega arith
 grows base h n (b ∷ text) =
     let one : 1 ≤ base = omega arith in
@@ -62,12 +62,12 @@ grows base h n (b ∷ text) =
     let g = grows base h (n * base + valueOf b) text in
     omega arith
 
-module _ (base : ℕ) (text : List ℕ) (n i : ℕ) (e : foldl (further base) n (drop i text) ≡ numberIn base text) where
-  pub number-large : 0 < base → 0xFFFFFFFF < n → noNumber ≡ held (numberIn base text)
+module _ (base : ℕ) (text : List ℕ) (n i : ℕ) (e : foldl (withDigit base) n (drop i text) ≡ numberIn base text) where
+  pub number-large : 0 < base → 0xFFFFFFFF < n → noNumber ≡ within32 (numberIn base text)
   number-large p h = let g = grows base p n (drop i text) in held-large (numberIn base text) (omega (arith, e))
 
-  pub number-small : length text ≤ i → n ≤ 0xFFFFFFFF → n ≡ held (numberIn base text)
-  number-small d h = held-small n h ∙ ap held (sym (fold-done (further base) text n i d) ∙ e)
+  pub number-small : length text ≤ i → n ≤ 0xFFFFFFFF → n ≡ within32 (numberIn base text)
+  number-small d h = held-small n h ∙ ap within32 (sym (fold-done (withDigit base) text n i d) ∙ e)
 
 -- ---- bytes, each of two digits
 
@@ -108,22 +108,22 @@ module _ (text into : List ℕ) (i : ℕ) where
 
 -- ---- digits of bytes
 
-pub length-digits : (bytes : List ℕ) → length (digitsIn bytes) ≡ 2 * length bytes
-unfolding digitsIn
+pub length-digits : (bytes : List ℕ) → length (digitsSpelt bytes) ≡ 2 * length bytes
+unfolding digitsSpelt
 length-digits [] = omega arith
 length-digits (b ∷ bytes) = let r = length-digits bytes in omega arith
 
 module _ (bytes into : List ℕ) (i : ℕ) where
   pub spell-more :
       (a b : ℕ) → i < length bytes → a ≡ digitOf (getD bytes i 0 / 16) → b ≡ digitOf (getD bytes i 0)
-      → sets (set (set into (2 * i) a) (2 * i + 1) b) (2 * (i + 1)) (digitsIn (drop (i + 1) bytes)) ≡ sets into (2 * i) (digitsIn (drop i bytes))
-  unfolding digitsIn
+      → sets (set (set into (2 * i) a) (2 * i + 1) b) (2 * (i + 1)) (digitsSpelt (drop (i + 1) bytes)) ≡ sets into (2 * i) (digitsSpelt (drop i bytes))
+  unfolding digitsSpelt
   spell-more a b h d e =
       let q : 2 * (i + 1) ≡ suc (suc (2 * i)) = omega arith in
       rw (q, d, e, add-one (2 * i), add-one i, drop-cons bytes i 0 h)
 
-  pub spell-done : length bytes ≤ i → sets into (2 * i) (digitsIn (drop i bytes)) ≡ into
-  unfolding digitsIn
+  pub spell-done : length bytes ≤ i → sets into (2 * i) (digitsSpelt (drop i bytes)) ≡ into
+  unfolding digitsSpelt
   spell-done h = rw (drop-of-length-le bytes h)
 
 -- ---- stored from the front on
@@ -160,19 +160,19 @@ module _ (bytes before : List ℕ) where
   pub spelt-none : length before / 2 < length bytes → Spell·Is bytes before before 0
   spelt-none h =
       let l = length-digits bytes in
-      let k : length before < length (digitsIn bytes) = omega arith in
-      record { counted = rw (lt-leb _ _ k); stands = sym (front-short before (digitsIn bytes) k) }
+      let k : length before < length (digitsSpelt bytes) = omega arith in
+      record { counted = rw (lt-leb _ _ k); stands = sym (front-short before (digitsSpelt bytes) k) }
 
   pub spelt-all :
       (after : List ℕ) (i : ℕ) → length bytes ≤ length before / 2 → i ≡ length bytes
-      → sets after (2 * i) (digitsIn (drop i bytes)) ≡ sets before 0 (digitsIn bytes) → Spell·Is bytes before after (2 * i)
+      → sets after (2 * i) (digitsSpelt (drop i bytes)) ≡ sets before 0 (digitsSpelt bytes) → Spell·Is bytes before after (2 * i)
   spelt-all after i h n e =
       let l = length-digits bytes in
-      let k : length (digitsIn bytes) ≤ length before = omega arith in
-      let m : 2 * i ≡ length (digitsIn bytes) = omega arith in
+      let k : length (digitsSpelt bytes) ≤ length before = omega arith in
+      let m : 2 * i ≡ length (digitsSpelt bytes) = omega arith in
       record {
         counted = rw (le-leb _ _ k) m;
-        stands = sym (spell-done bytes after i (omega arith)) ∙ e ∙ front-is before (digitsIn bytes) k;
+        stands = sym (spell-done bytes after i (omega arith)) ∙ e ∙ front-is before (digitsSpelt bytes) k;
       }
 
 -- ---- what is said of the bytes of a field

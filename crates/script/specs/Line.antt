@@ -17,9 +17,9 @@ abbrev pub Before·Is : Turn → Type 0
 Before·Is r = r ≡ beforeFirst
 
 -- how many of the first bytes are the line's own: a CR before its LF is not
-abbrev pub ownOf : List ℕ → ℕ → ℕ
-ownOf line size = cond (eqb size 0) 0 (cond (eqb (getD line (size - 1) 0) 0x0D) (size - 1) size)
+abbrev pub ownLength : List ℕ → ℕ → ℕ
+ownLength line size = cond (eqb size 0) 0 (cond (eqb (getD line (size - 1) 0) 0x0D) (size - 1) size)
 
 -- a turn that found more bytes than there are has found nothing
 abbrev pub Held·Is : List ℕ → Turn → List ℕ → Type 0
-Held·Is line turn r = r ≡ cond (ltb (length line) (turn .held)) [] (take (ownOf line (turn .held)) line)
+Held·Is line turn r = r ≡ cond (ltb (length line) (turn .held)) [] (take (ownLength line (turn .held)) line)

@@ -18,23 +18,23 @@ allDigits base [] = true
 allDigits base (b ∷ text) = ltb (valueOf b) base && allDigits base text
 
 -- one digit more behind a number
-abbrev pub further : ℕ → ℕ → ℕ → ℕ
-further base number digit = number * base + valueOf digit
+abbrev pub withDigit : ℕ → ℕ → ℕ → ℕ
+withDigit base number digit = number * base + valueOf digit
 
 -- the number that the digits are, the first of the highest worth
 unfoldable pub numberIn : ℕ → List ℕ → ℕ
-numberIn base text = foldl (further base) 0 text
+numberIn base text = foldl (withDigit base) 0 text
 
 -- what stands for no number: larger than any that a field could say
 abbrev pub noNumber : ℕ
 noNumber = 18446744073709551615
 
 -- 32 bits hold it, or it is none
-unfoldable pub held : ℕ → ℕ
-held number = cond (leb number 0xFFFFFFFF) number noNumber
+unfoldable pub within32 : ℕ → ℕ
+within32 number = cond (leb number 0xFFFFFFFF) number noNumber
 
 unfoldable pub saidIn : ℕ → List ℕ → ℕ
-saidIn base text = cond (allDigits base text) (held (numberIn base text)) noNumber
+saidIn base text = cond (allDigits base text) (within32 (numberIn base text)) noNumber
 
 -- of exactly so many hex digits
 unfoldable pub hexIn : List ℕ → ℕ → ℕ
@@ -76,11 +76,11 @@ pub record Bytes·Is (text before after : List ℕ) (r : ℤ) : Type 0 where
 -- ---- printed
 
 -- the two digits of each byte, the higher first
-unfoldable pub digitsIn : List ℕ → List ℕ
-digitsIn [] = []
-digitsIn (b ∷ bytes) = digitOf (b / 16) ∷ digitOf b ∷ digitsIn bytes
+unfoldable pub digitsSpelt : List ℕ → List ℕ
+digitsSpelt [] = []
+digitsSpelt (b ∷ bytes) = digitOf (b / 16) ∷ digitOf b ∷ digitsSpelt bytes
 
 -- how many digits, at the front of what was lent; none where they have no room
 pub record Spell·Is (bytes before after : List ℕ) (r : ℕ) : Type 0 where
-  pub counted : r ≡ cond (leb (length (digitsIn bytes)) (length before)) (length (digitsIn bytes)) 0
-  pub stands : after ≡ frontOf before (digitsIn bytes)
+  pub counted : r ≡ cond (leb (length (digitsSpelt bytes)) (length before)) (length (digitsSpelt bytes)) 0
+  pub stands : after ≡ frontOf before (digitsSpelt bytes)

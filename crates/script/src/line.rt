@@ -2,7 +2,7 @@
 ghost use mathlib.Core.Path.{_≡_};
 ghost use Prim.Native.Nat.{_≤_};
 ghost use lib.ListN.{length};
-ghost use Rattle.script.specs.Line.{ownOf, Before·Is, Held·Is};
+ghost use Rattle.script.specs.Line.{ownLength, Before·Is, Held·Is};
 use crate::call;
 use libc::STDIN_FILENO;
 
@@ -117,7 +117,7 @@ pub fn next(chunk: &mut [u8], line: &mut [u8], last: Turn) -> Turn
 // How many of the first `size` bytes are the line's own: a CR before its LF is not.
 fn own(line: &[u8], size: usize) -> usize
     requires { ⌜ size ≤ length (now line) ⌝ }
-    ensures { λ r. ⌜ (r ≤ length (now (line .entry))) × (r ≡ ownOf (now (line .entry)) size) ⌝ }
+    ensures { λ r. ⌜ (r ≤ length (now (line .entry))) × (r ≡ ownLength (now (line .entry)) size) ⌝ }
 {
     if size == 0 {
         return 0;

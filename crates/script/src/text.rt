@@ -8,7 +8,7 @@ ghost use Rattle.io.specs.Counts.{Counts};
 ghost use Rattle.buffer.specs.Place.{frontOf};
 ghost use Rattle.digits.specs.Digit.{valueOf};
 ghost use Rattle.script.specs.Text.{blankAt, First·Is, Rest·Is, EndsInBlank·Is};
-ghost use Rattle.script.specs.Spelt.{allDigits, further, numberIn, held, saidIn, Hex·Is, Decimal·Is};
+ghost use Rattle.script.specs.Spelt.{allDigits, withDigit, numberIn, within32, saidIn, Hex·Is, Decimal·Is};
 ghost use Rattle.script.specs.Spelt.{bytesIn, spellsBytes, isDash, Bytes·Is};
 
 // The place of the first blank, or the end.
@@ -81,7 +81,7 @@ fn wide(byte: u8) -> usize
 // One digit more behind a number.
 fn more(number: usize, base: u8, digit: u8) -> usize
     requires { ⌜ (number ≤ 0xFFFFFFFF) × (base ≤ 16) ⌝ }
-    ensures { λ r. ⌜ r ≡ further base number digit ⌝ }
+    ensures { λ r. ⌜ r ≡ withDigit base number digit ⌝ }
 {
     let unit = wide(base);
     let worth = wide(digits::value(digit));
@@ -91,7 +91,7 @@ fn more(number: usize, base: u8, digit: u8) -> usize
 // The number that the digits spell, if it is no larger than 32 bits hold.
 fn value(text: &[u8], base: u8) -> usize
     requires { ⌜ (0 < base) × (base ≤ 16) ⌝ }
-    ensures { λ r. ⌜ r ≡ held (numberIn base (now (text .entry))) ⌝ }
+    ensures { λ r. ⌜ r ≡ within32 (numberIn base (now (text .entry))) ⌝ }
 {
     let mut number: usize = 0;
     let mut i = 0;

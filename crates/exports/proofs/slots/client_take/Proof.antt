@@ -7,7 +7,7 @@ use lib.ListN.{length}
 use borrow.Author.Needs.{needs}
 use borrow.Author.Tests.{not-true, not-false}
 use Rattle.layout.specs.Pair.{banks}
-use Rattle.calls.specs.Call.{kept}
+use Rattle.calls.specs.Call.{board}
 use Rattle.exports.specs.Slots.{callsOf, ran, runOf}
 use Rattle.exports.proofs.Taking.{each-good, none-taken, one-taken, slots-refused, slots-taken}
 use Rattle.exports.proofs.slots.client_take.Statement.{statement}
@@ -16,8 +16,8 @@ use Rattle.exports.proofs.slots.client_take.Tie as tie
 abbrev Inv-loop : tie.InvT-loop
 Inv-loop n slots bank0₀ bank1₀ marks address buffer₀ count client₀ told₀ k₀ bank0 bank1 buffer client told k =
     (k ≤ count) × (length bank0 ≡ length bank0₀) × (length bank1 ≡ length bank1₀) × (length buffer ≡ length buffer₀)
-    × (ran told (kept client (banks bank0 bank1)) buffer
-    ≡ runOf buffer₀ (kept client₀ (banks bank0₀ bank1₀)) (callsOf slots marks address buffer₀ k))
+    × (ran told (board client (banks bank0 bank1)) buffer
+    ≡ runOf buffer₀ (board client₀ (banks bank0₀ bank1₀)) (callsOf slots marks address buffer₀ k))
 
 abbrev μ-loop : tie.MeasureT-loop
 μ-loop n slots bank0₀ bank1₀ marks address buffer₀ count client₀ told₀ k₀ bank0 bank1 buffer client told k =

@@ -5,13 +5,13 @@ use Prim.Native.Nat.{_≤_, _-_}
 use native.Mathlib.Omega.{arith}
 use lib.ListN.{length}
 use borrow.Author.Needs.{needs}
-use Rattle.flash.specs.Store.{Leaves, wordStores}
+use Rattle.flash.specs.Store.{StoresLeave, wordStores}
 use Rattle.flash.proofs.Words.{words-none, words-next}
 use Rattle.flash.proofs.bank.put_words.Statement.{statement}
 use Rattle.flash.proofs.bank.put_words.Tie as tie
 
 abbrev Inv-loop : tie.InvT-loop
-Inv-loop bank₀ k bytes n i₀ bank i = (i ≤ n) × (length bank ≡ length bank₀) × Leaves (wordStores k bytes i) bank₀ bank
+Inv-loop bank₀ k bytes n i₀ bank i = (i ≤ n) × (length bank ≡ length bank₀) × StoresLeave (wordStores k bytes i) bank₀ bank
 
 abbrev μ-loop : tie.MeasureT-loop
 μ-loop bank₀ k bytes n i₀ bank i = n - i

@@ -5,14 +5,14 @@ use Prim.Native.Nat.{_≤_, _-_}
 use native.Mathlib.Omega.{arith}
 use lib.ListN.{length}
 use borrow.Author.Needs.{needs}
-use Rattle.flash.specs.Store.{Leaves, sweepStores}
+use Rattle.flash.specs.Store.{StoresLeave, sweepStores}
 use Rattle.flash.proofs.Sweeps.{sweep-none, sweep-next, sweep-end}
 use Rattle.flash.proofs.bank.sweep.Statement.{statement}
 use Rattle.flash.proofs.bank.sweep.Tie as tie
 
 abbrev Inv-loop : tie.InvT-loop
 Inv-loop bank₀ n received last j₀ bank j =
-    (j ≤ last) × (length bank ≡ length bank₀) × Leaves (sweepStores received (length bank₀) j) bank₀ bank
+    (j ≤ last) × (length bank ≡ length bank₀) × StoresLeave (sweepStores received (length bank₀) j) bank₀ bank
 
 abbrev μ-loop : tie.MeasureT-loop
 μ-loop bank₀ n received last j₀ bank j = last - j

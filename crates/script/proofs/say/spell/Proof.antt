@@ -5,7 +5,7 @@ use mathlib.Core.Path.{_≡_, refl, sym, _∙_}
 use native.Mathlib.Omega.{arith}
 use lib.ListN.{length, length-set, drop}
 use lib.Seq.{length-take-le, sets}
-use Rattle.script.specs.Spelt.{digitsIn}
+use Rattle.script.specs.Spelt.{digitsSpelt}
 use Rattle.script.proofs.Spelt.{spell-more, spelt-none, spelt-all}
 use borrow.Author.Needs.{needs}
 use Rattle.script.proofs.say.spell.Statement.{statement}
@@ -14,7 +14,7 @@ use Rattle.script.proofs.say.spell.Tie as tie
 abbrev Inv-loop : tie.InvT-loop
 Inv-loop bytes into₀ i₀ into i =
     (i ≤ length bytes) × (length into ≡ length into₀) ×
-    (sets into (2 * i) (digitsIn (drop i bytes)) ≡ sets into₀ 0 (digitsIn bytes))
+    (sets into (2 * i) (digitsSpelt (drop i bytes)) ≡ sets into₀ 0 (digitsSpelt bytes))
 
 abbrev μ-loop : tie.MeasureT-loop
 μ-loop bytes into₀ i₀ into i = length bytes - i

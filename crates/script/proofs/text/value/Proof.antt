@@ -6,14 +6,14 @@ use Prim.Native.Nat.{ℕ, _<_, _≤_, _+_, _-_}
 use native.Mathlib.Omega.{arith}
 use lib.ListN.{length, drop}
 use Rattle.buffer.proofs.Fold.{fold-more}
-use Rattle.script.specs.Spelt.{further, numberIn}
+use Rattle.script.specs.Spelt.{withDigit, numberIn}
 use Rattle.script.proofs.Spelt.{number-large, number-small}
 use borrow.Author.Needs.{needs}
 use Rattle.script.proofs.text.value.Statement.{statement}
 use Rattle.script.proofs.text.value.Tie as tie
 
 abbrev Inv-loop : tie.InvT-loop
-Inv-loop text base number₀ i₀ number i = (i ≤ length text) × (foldl (further base) number (drop i text) ≡ numberIn base text)
+Inv-loop text base number₀ i₀ number i = (i ≤ length text) × (foldl (withDigit base) number (drop i text) ≡ numberIn base text)
 
 abbrev μ-loop : tie.MeasureT-loop
 μ-loop text base number₀ i₀ number i = length text - i
@@ -45,7 +45,7 @@ loop-again c =
     let a = c .before .before .before .before .before .before .args in
     let t = a .text .now in
     let l = c .before .before .before .before .loop in
-    let f = further (a .base) in
+    let f = withDigit (a .base) in
     let h : l .i < length t = omega arith in
     (omega arith, ap (λ (n : ℕ). foldl f n (drop (l .i + 1) t)) (c .more .ensures) ∙ fold-more f t (l .number) (l .i) h ∙ l .inv .1)
 
