@@ -24,7 +24,7 @@ pub enum State {
     Write,
 }
 
-/// How the latest write session since Start OTA Mode ended.
+/// What came of the last write session, none from before OTA mode was opened.
 #[derive(Clone, Copy, PartialEq)]
 pub enum Latest {
     Nothing,
