@@ -1,6 +1,6 @@
 -- How deciding, doing and saying become one step, on the target alone and with the running bank beside it.
 -- Assumes nothing.
-use mathlib.Core.Path.{_≡_, sym, ap, ap₂, _∙_}
+use mathlib.Core.Path.{_≡_, refl, sym, ap, ap₂, _∙_}
 use mathlib.Core.Bool.{true, false}
 use mathlib.Core.List.{List, []}
 use Prim.Native.Nat.{ℕ}
@@ -22,8 +22,9 @@ use Rattle.client.specs.declared.notice.Notice.{Notice}
 use Rattle.client.specs.declared.perform.Served.{Served}
 use Rattle.client.specs.declared.record.Client.{Client}
 use Rattle.client.specs.declared.step.Stepped.{Stepped}
-use Rattle.client.specs.Perform.{servedOf, Served·Is}
-use Rattle.client.specs.Step.{noticeOf, Carried, carriedOf, Carried·Is, planned, takeOf, Take·Is, besideOf, stepOf, Step·Is}
+use Rattle.client.specs.Notice.{noNotice}
+use Rattle.client.specs.Perform.{servedOf, served, Served·Is}
+use Rattle.client.specs.Step.{noticeOf, Carried, carriedOf, Carried·Is, Keeps, planned, takeOf, Take·Is, besideOf, stepOf, Step·Is}
 use Rattle.client.proofs.Numbers.{take-says, beside-says}
 
 -- do, and then say
@@ -40,6 +41,14 @@ carry-is c plan target address buffer bytes notice s after answered n e d a =
       target = d .target;
       buffer = a .said ∙ ap (λ (x : Answer). frontOf buffer (answerBytes x)) (d .answer);
     }
+
+-- nothing done, and then say
+pub kept-is : (c : Client) (answer : Answer) (buffer answered : List ℕ) (notice : Notice) (n : ℕ) → notice ≡ noNotice → Say·Is answer buffer answered n
+    → Keeps c answer buffer (record { client = c; answer = answer; length = n; notice = notice }) answered
+unfolding servedOf
+kept-is c answer buffer answered notice n e a target address =
+    carry-is c (Keep answer) target address buffer [] notice (served c answer) target answered n e
+    (record { client = refl; answer = refl; target = refl }) a
 
 -- the same carried out, by another name
 pub carried-as : (d e : Carried) (r : Stepped) (after answered : List ℕ) → d ≡ e → Carried·Is d r after answered → Carried·Is e r after answered

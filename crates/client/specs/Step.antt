@@ -81,6 +81,11 @@ pub record Carried·Is (d : Carried) (r : Stepped) (after answered : List ℕ) :
   pub target : after ≡ d .target
   pub buffer : answered ≡ d .buffer
 
+-- an answer for which nothing is done, whatever is lent
+abbrev pub Keeps : Client → Answer → List ℕ → Stepped → List ℕ → Type 0
+Keeps c answer buffer r answered =
+    (target address : List ℕ) → Carried·Is (carriedOf c (Keep answer) target address buffer []) r target answered
+
 -- ---- on the target alone
 
 -- what a datagram leads to, by what is lent with it

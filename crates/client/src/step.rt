@@ -11,7 +11,7 @@ ghost use mathlib.Core.Path.{_≡_};
 ghost use lib.ListN.{length};
 ghost use Rattle.frame.specs.Read.{dataIn};
 ghost use Rattle.client.specs.Perform.{Fair};
-ghost use Rattle.client.specs.Step.{noticeOf, Addressed, carriedOf, besideOf, Carried·Is, Take·Is, Step·Is};
+ghost use Rattle.client.specs.Step.{noticeOf, Addressed, carriedOf, besideOf, Carried·Is, Keeps, Take·Is, Step·Is};
 
 pub struct Stepped {
     pub client: Client,
@@ -42,7 +42,7 @@ fn notice_for(plan: Plan, latest: Latest, address: &[u8]) -> Notice
 }
 
 impl Client {
-    // Do and say.
+    // Do and say. The record is taken from what was done at the very end, which spares a copy of its flags.
     fn carry(
         self,
         plan: Plan,
@@ -58,9 +58,9 @@ impl Client {
         let latest = self.latest;
         let notice = notice_for(plan, latest, address);
         let served = self.serve(plan, target, bytes);
-        let client = served.client;
         let answer = served.answer;
         let length = exchange::answer::say(answer, buffer);
+        let client = served.client;
         Stepped {
             client,
             answer,
@@ -86,6 +86,20 @@ impl Client {
         self.carry(plan, target, address, buffer, frame::read::data(datagram))
     }
 
+    // Nothing is done, and this is said. `carry` has one caller so, into which it is compiled: a call would copy the record's flags.
+    fn kept(self, answer: Answer, buffer: &mut [u8]) -> Stepped
+        ensures { λ r. ⌜ Keeps self answer (now (buffer .entry)) r (now (buffer .exit)) ⌝ }
+    {
+        let length = exchange::answer::say(answer, buffer);
+        let notice = crate::notice::no_notice();
+        Stepped {
+            client: self,
+            answer,
+            length,
+            notice,
+        }
+    }
+
     // N and the length of the running bank first; of that bank nothing else is seen.
     fn beside(
         self,
@@ -100,12 +114,10 @@ impl Client {
     {
         let n = self.fixed.n;
         if !layout::good_n(n) {
-            let plan = Plan::Keep(Answer::Refused(Refusal::BadN));
-            return self.carry(plan, target, address, buffer, b"");
+            return self.kept(Answer::Refused(Refusal::BadN), buffer);
         }
         if running != layout::bank_size(n) {
-            let plan = Plan::Keep(Answer::Refused(Refusal::BadLength));
-            return self.carry(plan, target, address, buffer, b"");
+            return self.kept(Answer::Refused(Refusal::BadLength), buffer);
         }
         self.take(target, marks, address, buffer, datagram)
     }

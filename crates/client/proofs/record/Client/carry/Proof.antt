@@ -24,7 +24,7 @@ returns : tie.Need-returns
 returns c = let a = (c .before .before .before .before .before .before .before .before .before .before .before .before .before .before .args) in
     carry-is (a .self) (a .plan) (a .target .now) (a .address .now) (a .buffer .now) (a .bytes .now) _ _ _ _ _
     (c .before .before .before .before .before .before .before .before .before .notice-for .ensures)
-    (c .before .before .before .before .before .before .before .serve .ensures) (c .before .before .say .ensures)
+    (c .before .before .before .before .before .before .before .serve .ensures) (c .before .before .before .say .ensures)
 
 pub carry-spec : {M : Type 1} → statement M
 carry-spec =
