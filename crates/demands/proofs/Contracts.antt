@@ -21,7 +21,7 @@ module _ (b : Board) (call : LentCall) {r : Stepped} where
       → stepMachine b (Datagram call) ≡ stepBack b call r zero one answered
   step-outcome p =
       λ k. record {
-        board = board (sym (p .client) k) (backIn (call .lent) (b .pair) (record { zero = sym (p .bank-zero) k; one = sym (p .bank-one) k }));
+        board = board (sym (p .client) k) (backIn (call .lent) (b .pair) (record { bank0 = sym (p .bank-zero) k; bank1 = sym (p .bank-one) k }));
         number = answerNumber (sym (p .answer) k);
         told = sym (p .told) k;
         buffer = sym (p .said) k;

@@ -114,8 +114,8 @@ module _ (slots marks address buffer : List ℕ) (start : Board) where
           kept-at-last = record {
             client = (s .client ∙ same .client) i;
             pair = record {
-              zero = (s .bank-zero ∙ ap (λ (t : List ℕ). withBank (otherOf x) t pair .bank0) (same .target)) i;
-              one = (s .bank-one ∙ ap (λ (t : List ℕ). withBank (otherOf x) t pair .bank1) (same .target)) i;
+              bank0 = (s .bank-zero ∙ ap (λ (t : List ℕ). withBank (otherOf x) t pair .bank0) (same .target)) i;
+              bank1 = (s .bank-one ∙ ap (λ (t : List ℕ). withBank (otherOf x) t pair .bank1) (same .target)) i;
             };
           };
           buffer = (s .said ∙ step-said c (length (bankIn x pair)) (bankIn (otherOf x) pair) marks address lent (datagramAt slots k)
