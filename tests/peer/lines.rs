@@ -116,14 +116,13 @@ fn reading(read: Option<frame::Frame>) -> String {
     }
 }
 
+/// A buffer after a frame was put to its front: the frame alone and the rest, or all of it where the frame does not fit.
 fn put(frame: Option<Vec<u8>>, room: usize) -> String {
-    let mut buffer = vec![0xA5; room];
-    if let Some(frame) = frame {
-        if frame.len() <= room {
-            buffer.splice(..frame.len(), frame);
-        }
+    let buffer = vec![0xA5; room];
+    match frame.filter(|frame| frame.len() <= room) {
+        Some(frame) => format!("frame {} {}", hex::text(&frame), hex::text(&buffer[frame.len()..])),
+        None => format!("nothing {}", hex::text(&buffer)),
     }
-    hex::text(&buffer)
 }
 
 /// A number of one to six digits.

@@ -16,14 +16,20 @@ pub(crate) fn say_refused(number: usize) {
     say::end();
 }
 
+fn say_code(kind: Kind) {
+    say::text(b" notice ");
+    say::pair(client::notice::notice_code(kind));
+    say::text(b" ");
+}
+
 fn say_started(address: [u8; 16]) {
-    say::text(b" notice 6033 ");
+    say_code(Kind::Started);
     say::bytes(&address);
     say::end();
 }
 
 fn say_ended(result: u8, address: [u8; 16]) {
-    say::text(b" notice 6034 ");
+    say_code(Kind::Ended);
     say::byte(result);
     say::text(b" ");
     say::bytes(&address);

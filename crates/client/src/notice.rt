@@ -2,14 +2,25 @@
 use crate::record::Latest;
 ghost use mathlib.Core.Path.{_≡_};
 ghost use lib.ListN.{length};
-ghost use Rattle.client.specs.Notice.{noNotice, noticeWith, latestNumber};
+ghost use Rattle.client.specs.Notice.{noNotice, noticeWith, latestNumber, NoticeCode·Is};
 
 pub enum Kind {
     Nothing,
-    // 6033
+    // Start OTA Mode was answered 06.
     Started,
-    // 6034
+    // End OTA Mode was answered 06.
     Ended,
+}
+
+// The code of a notice, and 0 where none is given.
+pub fn notice_code(kind: Kind) -> u16
+    ensures { λ r. ⌜ NoticeCode·Is kind r ⌝ }
+{
+    match kind {
+        Kind::Nothing => 0,
+        Kind::Started => 0x6033,
+        Kind::Ended => 0x6034,
+    }
 }
 
 pub struct Notice {

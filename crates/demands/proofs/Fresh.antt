@@ -3,6 +3,7 @@
 use mathlib.Core.Path.{_≡_, refl, sym, ap, subst, _∙_}
 use mathlib.Core.List.{List, [], _∷_}
 use Prim.Native.Nat.{ℕ}
+use Rattle.buffer.specs.Number.{bytesOf}
 use Rattle.frame.specs.Checksum.{takenAway, checksumOf}
 use Rattle.frame.specs.Frame.{framed, controlFrame}
 use Rattle.frame.specs.Read.{readOf}
@@ -92,6 +93,7 @@ module _ (n : ℕ) (running : Bank) (major minor revision : ℕ) (pair : Banks) 
           (done .control) (ap readOf asks ∙ request-read ModeEnd)
 
       pub told : FreshRight stepMachine made image mode start ps is end ending
+      unfolding bytesOf
       told =
           record {
             initiated = ap (λ (o : Outcome). o .number) initiated-is;

@@ -25,6 +25,7 @@ use Rattle.exchange.specs.declared.state.State.{State}
 use Rattle.decision.specs.declared.plan.Standing.{Standing}
 use Rattle.client.specs.declared.record.Client.{Client}
 use Rattle.client.specs.declared.host.Told.{Told}
+use Rattle.client.specs.declared.notice.Kind.{Kind as NoticeKind}
 use Rattle.script.specs.declared.line.Turn.{Turn}
 use Rattle.buffer.specs.Compare.{Same·Is, Blank·Is}
 use Rattle.buffer.specs.Fill.{Fill·Is}
@@ -32,6 +33,7 @@ use Rattle.buffer.specs.Number.{Number·Is, PutNumber·Is}
 use Rattle.buffer.specs.Place.{Place·Is, Front·Is}
 use Rattle.crc.specs.Crc.{CrcMore·Is, Crc32·Is}
 use Rattle.frame.specs.Checksum.{Checksum·Is}
+use Rattle.frame.specs.Frame.{FooterByte·Is}
 use Rattle.frame.specs.Read.{Read·Is as ReadFrame·Is}
 use Rattle.frame.specs.Read.{Parameters·Is, Data·Is}
 use Rattle.frame.specs.Write.{PutControl·Is, PutWrite·Is, PutError·Is}
@@ -56,6 +58,7 @@ use Rattle.exchange.specs.Request.{Asked·Is, FitsState·Is, Declined·Is}
 use Rattle.decision.specs.Plan.{Plan·Is}
 use Rattle.client.specs.Body.{Body·Is as NextBody·Is}
 use Rattle.client.specs.Host.{Told·Is, New·Is, Initiate·Is, Terminate·Is}
+use Rattle.client.specs.Notice.{NoticeCode·Is}
 use Rattle.client.specs.Step.{Take·Is, Step·Is}
 use Rattle.script.specs.Text.{First·Is, Rest·Is, EndsInBlank·Is}
 use Rattle.script.specs.Spelt.{Hex·Is, Decimal·Is, Bytes·Is}
@@ -78,6 +81,7 @@ pub record Determined : Type 0 where
   pub read-frame : (datagram : List ℕ) → Once (ReadFrame·Is datagram)
   pub parameters-in : (datagram : List ℕ) → Once (Parameters·Is datagram)
   pub data-in : (datagram : List ℕ) → Once (Data·Is datagram)
+  pub footer-byte : (footer : Footer) → Once (FooterByte·Is footer)
   pub put-control : (before : List ℕ) (code : ℕ) (parameters : List ℕ) → Once (PutControl·Is before code parameters)
   pub put-write : (before : List ℕ) (sector : ℕ) (bytes : List ℕ) (footer : Footer) → Once (PutWrite·Is before sector bytes footer)
   pub put-error : (before : List ℕ) → Once (PutError·Is before)
@@ -135,6 +139,7 @@ pub record Determined : Type 0 where
   -- the client
   pub plan : (standing : Standing) (target : ℕ) (marks address : List ℕ) (buffer : ℕ) (asked : Asked) → Once (Plan·Is standing target marks address buffer asked)
   pub told-number : (told : Told) → Once (Told·Is told)
+  pub notice-code : (kind : NoticeKind) → Once (NoticeCode·Is kind)
   pub new : (n : ℕ) (running : Bank) (major minor revision : ℕ) → Once (New·Is n running major minor revision)
   pub initiate : (c : Client) → Once (Initiate·Is c)
   pub terminate : (c : Client) → Once (Terminate·Is c)

@@ -1,5 +1,7 @@
 // Hex text for bank 0 of 32 sectors, from standard input, as the sector packets that are sent of it: each one's sector and footer, and how
 // many they are.
+use frame::read::Footer;
+use frame::read::Read;
 use hex::fault::Refusal;
 use hex::read::Answer;
 use layout::Bank;
@@ -23,17 +25,18 @@ fn say_refused(number: usize) {
     call::refused();
 }
 
-// Sector and footer as they stand in the packet: its second and third byte, and its last.
-fn say_packet(packet: &[u8]) {
-    let size = packet.len();
-    if size < 3 {
-        return;
-    }
-    let last = size - 1;
-    say::hex(&packet[1..3]);
+fn say_listed(sector: u16, footer: Footer) {
+    say::pair(sector);
     say::text(b" ");
-    say::hex(&packet[last..]);
+    say::byte(frame::write::footer_byte(footer));
     say::end();
+}
+
+// Sector and footer, as the packet is read.
+fn say_packet(packet: &[u8]) {
+    if let Read::Write { sector, footer, .. } = frame::read::read_frame(packet) {
+        say_listed(sector, footer);
+    }
 }
 
 fn say_made(buffer: &[u8], size: usize) {

@@ -1,20 +1,9 @@
 // The requests that read a frame or write one.
+ghost use Rattle.io.specs.Counts.{Counts};
 use frame::read::Footer;
 use frame::read::Read;
 use script::say;
 use script::text;
-
-// What the reader says lies inside the datagram; nothing, should it not.
-fn part(datagram: &[u8], from: usize, count: usize) -> &[u8] {
-    if from > datagram.len() {
-        return &datagram[..0];
-    }
-    if count > datagram.len() - from {
-        return &datagram[..0];
-    }
-    let end = from + count;
-    &datagram[from..end]
-}
 
 fn say_control(code: u8, parameters: &[u8]) {
     say::text(b"control ");
@@ -30,20 +19,13 @@ fn say_length(length: usize) {
     }
 }
 
-fn say_footer(value: Footer) {
-    match value {
-        Footer::End => say::text(b"03"),
-        Footer::Continued => say::text(b"17"),
-    }
-}
-
 fn say_write(sector: u16, length: usize, footer: Footer, data: &[u8]) {
     say::text(b"write ");
     say::pair(sector);
     say::text(b" ");
     say_length(length);
     say::text(b" ");
-    say_footer(footer);
+    say::byte(frame::write::footer_byte(footer));
     say::text(b" ");
     say::bytes(data);
     say::end();
@@ -52,12 +34,12 @@ fn say_write(sector: u16, length: usize, footer: Footer, data: &[u8]) {
 fn say_read(datagram: &[u8]) {
     match frame::read::read_frame(datagram) {
         Read::Fault => say::text(b"fault\n"),
-        Read::Control { code, parameters } => say_control(code, part(datagram, 3, parameters)),
+        Read::Control { code, .. } => say_control(code, frame::read::parameters(datagram)),
         Read::Write {
             sector,
             length,
             footer,
-        } => say_write(sector, length, footer, part(datagram, 5, length)),
+        } => say_write(sector, length, footer, frame::read::data(datagram)),
     }
 }
 
@@ -87,10 +69,44 @@ fn put(buffer: &mut [u8], kind: Kind, bytes: &[u8]) {
     }
 }
 
+fn is_frame(datagram: &[u8]) -> bool {
+    match frame::read::read_frame(datagram) {
+        Read::Fault => false,
+        _ => true,
+    }
+}
+
+// How long the frame at the front of a buffer is: of all that begins there it alone is read as one. 0 where there is none.
+fn front_frame(buffer: &[u8]) -> usize
+    ensures { λ r. ⌜ Counts r (now (buffer .entry)) ⌝ }
+{
+    let mut n = 0;
+    while n < buffer.len() {
+        n += 1;
+        if is_frame(&buffer[..n]) {
+            return n;
+        }
+    }
+    0
+}
+
+// The frame alone and what stands behind it; or, where it was not written, all of the buffer.
+fn say_buffer(buffer: &[u8]) {
+    let end = front_frame(buffer);
+    if end == 0 {
+        say::text(b"nothing ");
+    } else {
+        say::text(b"frame ");
+        say::bytes(&buffer[..end]);
+        say::text(b" ");
+    }
+    say::bytes(&buffer[end..]);
+    say::end();
+}
+
 fn say_put(buffer: &mut [u8], kind: Kind, bytes: &[u8]) {
     put(buffer, kind, bytes);
-    say::bytes(buffer);
-    say::end();
+    say_buffer(buffer);
 }
 
 // The buffer that a frame is written to holds A5 before.

@@ -33,25 +33,48 @@ follow-requires : tie.Need-follow-requires Inv-loop μ-loop
 follow-requires c κs = search needs
 
 same-length : tie.Need-same-length Inv-loop μ-loop
-same-length c = (c .before .before .before .before .before .before .follow .kept .1 .0) ∙ (c .before .before .before .before .before .before .before .before .before .before .before .before .before .before .before .before .before .before .loop .inv .0)
+same-length c =
+    let followed = c .before .before .before .before .before .before in
+    let met = followed .before .before .before .before .before .before .before .before .before .before .before .before in
+    (followed .follow .kept .1 .0) ∙ (met .loop .inv .0)
 
 same-length-2 : tie.Need-same-length-2 Inv-loop μ-loop
-same-length-2 c = (c .before .before .before .before .before .before .follow .kept .1 .1 .0) ∙ (c .before .before .before .before .before .before .before .before .before .before .before .before .before .before .before .before .before .before .loop .inv .1)
+same-length-2 c =
+    let followed = c .before .before .before .before .before .before in
+    let met = followed .before .before .before .before .before .before .before .before .before .before .before .before in
+    (followed .follow .kept .1 .1 .0) ∙ (met .loop .inv .1)
 
 same-length-3 : tie.Need-same-length-3 Inv-loop μ-loop
-same-length-3 c = (c .before .before .before .before .before .before .before .before .before .before .before .before .before .before .next .kept .0) ∙ (c .before .before .before .before .before .before .before .before .before .before .before .before .before .before .before .before .before .before .loop .inv .2)
+same-length-3 c =
+    let read = c .before .before .before .before .before .before .before .before .before .before .before .before .before .before in
+    let met = read .before .before .before .before in
+    (read .next .kept .0) ∙ (met .loop .inv .2)
 
 same-length-4 : tie.Need-same-length-4 Inv-loop μ-loop
-same-length-4 c = (c .before .before .before .before .before .before .before .before .before .before .before .before .before .before .next .kept .1 .0) ∙ (c .before .before .before .before .before .before .before .before .before .before .before .before .before .before .before .before .before .before .loop .inv .3)
+same-length-4 c =
+    let read = c .before .before .before .before .before .before .before .before .before .before .before .before .before .before in
+    let met = read .before .before .before .before in
+    (read .next .kept .1 .0) ∙ (met .loop .inv .3)
 
 returns : tie.Need-returns Inv-loop μ-loop
 returns c = search needs
 
 loop-less : tie.Need-loop-less Inv-loop μ-loop
-loop-less c = omega (arith, (c .before .before .before .before .before .before .before .before .before .before .before .before .before .before .before .before .before .loop-test .taken))
+loop-less c =
+    let followed = c .before .before .before .before .before .before in
+    let tested = followed .before .before .before .before .before .before .before .before .before .before .before in
+    omega (arith, tested .loop-test .taken)
 
 loop-again : tie.Need-loop-again Inv-loop μ-loop
-loop-again c = ((c .before .before .before .before .before .before .follow .kept .1 .0) ∙ (c .before .before .before .before .before .before .before .before .before .before .before .before .before .before .before .before .before .before .loop .inv .0), (c .before .before .before .before .before .before .follow .kept .1 .1 .0) ∙ (c .before .before .before .before .before .before .before .before .before .before .before .before .before .before .before .before .before .before .loop .inv .1), (c .before .before .before .before .before .before .before .before .before .before .before .before .before .before .next .kept .0) ∙ (c .before .before .before .before .before .before .before .before .before .before .before .before .before .before .before .before .before .before .loop .inv .2), (c .before .before .before .before .before .before .before .before .before .before .before .before .before .before .next .kept .1 .0) ∙ (c .before .before .before .before .before .before .before .before .before .before .before .before .before .before .before .before .before .before .loop .inv .3))
+loop-again c =
+    let followed = c .before .before .before .before .before .before in
+    let read = followed .before .before .before .before .before .before .before .before in
+    let met = read .before .before .before .before in (
+      (followed .follow .kept .1 .0) ∙ (met .loop .inv .0),
+      (followed .follow .kept .1 .1 .0) ∙ (met .loop .inv .1),
+      (read .next .kept .0) ∙ (met .loop .inv .2),
+      (read .next .kept .1 .0) ∙ (met .loop .inv .3),
+    )
 
 same-length-5 : tie.Need-same-length-5 Inv-loop μ-loop
 same-length-5 c = search needs
