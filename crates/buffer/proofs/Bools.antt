@@ -1,6 +1,6 @@
 -- Tests: what a joined test tells, a choice taken apart, and a case that cannot be.
 -- Assumes nothing.
-use mathlib.Core.Path.{_≡_, refl, sym}
+use mathlib.Core.Path.{_≡_, refl}
 use mathlib.Core.Bool.{Bool, true, false, _&&_, cond, false≢true}
 use Prim.Native.Nat.{ℕ}
 use native.Mathlib.Omega.{arith}
@@ -37,10 +37,6 @@ split P false f g = g refl
 pub not-so : (a : Bool) → (a ≡ true → ⊥) → a ≡ false
 not-so true h = absurd (h refl)
 not-so false h = refl
-
-pub same-tests : (a b : Bool) → (a ≡ true → b ≡ true) → (b ≡ true → a ≡ true) → a ≡ b
-same-tests true b h k = sym (h refl)
-same-tests false b h k = sym (not-so b (λ e. false≢true (k e)))
 
 -- where two unlike cases are said to be the same, `no-way cc` gives anything
 pub no-way : {A : Type 0} → _≡_ {A = ℕ} 0 1 → A

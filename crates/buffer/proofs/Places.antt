@@ -5,11 +5,9 @@ use mathlib.Core.List.{List, [], _++_, append-nil}
 use Prim.Native.Nat.{ℕ, _+_, _≤_, _<_}
 use native.Mathlib.Nat.{zero-add}
 use native.Mathlib.Omega.{arith}
-use lib.Dec.{leb}
-use lib.ListN.{length, take, drop, length-append, length-drop, drop-of-length-le}
-use lib.Seq.{length-take-le, take-at, drop-at, take-append-seam, drop-append-add}
-use borrow.Author.Tests.{leb-true, le-leb, lt-leb}
-use Rattle.buffer.proofs.Bools.{split}
+use lib.ListN.{length, take, drop, length-append, drop-of-length-le}
+use lib.Seq.{take-at, drop-at, take-append-seam, drop-append-add}
+use borrow.Author.Tests.{le-leb, lt-leb}
 use Rattle.buffer.specs.Place.{placeOf, frontOf}
 
 module _ (buffer : List ℕ) (at : ℕ) (bytes : List ℕ) where
@@ -20,17 +18,6 @@ module _ (buffer : List ℕ) (at : ℕ) (bytes : List ℕ) where
   pub place-short : length buffer < at + length bytes → placeOf buffer at bytes ≡ buffer
   unfolding placeOf
   place-short h = rw (lt-leb (at + length bytes) (length buffer) h)
-
-  -- a buffer keeps its length
-  pub length-place : length (placeOf buffer at bytes) ≡ length buffer
-  unfolding placeOf
-  length-place =
-      split (λ (l : List ℕ). length l ≡ length buffer) (leb (at + length bytes) (length buffer))
-      (λ t.
-      let h : at + length bytes ≤ length buffer = leb-true (at + length bytes) (length buffer) t in
-      let n : length (take at buffer) ≡ at = length-take-le at buffer (omega arith) in
-      simp (length-append, length-drop) (omega arith))
-      (λ _. refl)
 
 module _ (buffer bytes : List ℕ) where
   pub front-fits : length bytes ≤ length buffer → frontOf buffer bytes ≡ bytes ++ drop (length bytes) buffer

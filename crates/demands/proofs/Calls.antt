@@ -11,7 +11,7 @@ use Rattle.layout.specs.Layout.{otherOf}
 use Rattle.layout.specs.Pair.{Banks, banks, bankIn, withBank}
 use Rattle.client.specs.Step.{Carried, stepOf}
 use Rattle.calls.specs.Call.{Call, Board, board, stepped, boardAfter, afterSteps}
-use Rattle.demands.specs.Board.{LentCall, Input, Datagram, after, lentOf, targetBank, called, stepMachine}
+use Rattle.demands.specs.Board.{LentCall, Input, Datagram, after, targetBank, called, stepMachine}
 use Rattle.demands.proofs.Steps.{pair-next, lengths-kept}
 
 module _ (lent : Bank → ℕ) where

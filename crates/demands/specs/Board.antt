@@ -12,7 +12,6 @@ use Rattle.layout.specs.Pair.{Banks, banks, bankIn}
 use Rattle.exchange.specs.Answer.{answerNumber}
 use Rattle.client.specs.declared.notice.Notice.{Notice}
 use Rattle.client.specs.declared.host.Hosted.{Hosted}
-use Rattle.client.specs.declared.record.Client.{Client}
 use Rattle.client.specs.Host.{toldNumber, initiateOf, terminateOf}
 use Rattle.client.specs.Notice.{noNotice}
 use Rattle.client.specs.Step.{Carried, stepOf, banksAfter}
