@@ -12,9 +12,10 @@ use Rattle.buffer.proofs.Bools.{and-left, and-right, and-both}
 use Rattle.buffer.proofs.Parts.{part-out}
 use Rattle.layout.specs.declared.Bank.{Bank}
 use Rattle.layout.specs.declared.Bank.the-variants.{Zero, One}
+use Rattle.layout.specs.declared.Counted.{Counted}
 use Rattle.layout.specs.declared.Counted.the-variants.{Refused, Sectors}
 use Rattle.layout.specs.Said.{number, value, countedSaid}
-use Rattle.layout.specs.Layout.{sectorSize, mostSectors, goodN, bankSize, goodSize, wholeLength, sectorsOf, startOf, endOf, sectorStart, sectorOffset, sectorOf}
+use Rattle.layout.specs.Layout.{sectorSize, mostSectors, goodN, bankSize, goodSize, wholeLength, sectorsOf, sectorsSay, startOf, endOf, sectorStart, sectorOffset, sectorOf, Sectors·Is}
 
 pub start-small : (bank : Bank) → startOf bank ≤ 0x14000A00
 start-small Zero = omega arith
@@ -105,13 +106,16 @@ module _ (n : ℕ) where
   offset-good g = simp g
 
   -- as 01 says it
-  pub sectors-said : countedSaid (sectorsOf n) ≡ cond (wholeLength n) (value (n / sectorSize)) (number 2)
-  unfolding sectorsOf
+  sectors-said : countedSaid (sectorsOf n) ≡ sectorsSay n
+  unfolding sectorsOf sectorsSay
   sectors-said = by (wholeLength n)
     where
       by : (t : Bool) → countedSaid (cond t (Sectors (n / sectorSize)) Refused) ≡ cond t (value (n / sectorSize)) (number 2)
       by true = refl
       by false = refl
+
+  pub sectors-is : {r : Counted} → r ≡ sectorsOf n → Sectors·Is n r
+  sectors-is e = record { counted = e; says = ap countedSaid e ∙ sectors-said }
 
 -- ---- the bytes of a sector
 

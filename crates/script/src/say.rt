@@ -85,13 +85,15 @@ pub fn byte(value: u8) {
 }
 
 pub fn pair(value: u16) {
-    let two = [(value / 256) as u8, (value % 256) as u8];
+    let mut two = [0u8; 2];
+    buffer::number::put_number2(&mut two, 0, value);
     hex(&two);
 }
 
 pub fn quad(value: u32) {
-    pair((value / 65536) as u16);
-    pair((value % 65536) as u16);
+    let mut four = [0u8; 4];
+    buffer::number::put_number4(&mut four, 0, value);
+    hex(&four);
 }
 
 pub fn decimal(value: usize) {
