@@ -10,6 +10,7 @@ const ROOM: usize = 252_416;
 const MARKS: usize = 512;
 const LONGEST_ADDRESS: usize = 32;
 const LARGEST_BUFFER: usize = 1_024;
+const LONGEST_QUOTE: usize = 80;
 
 /// What each command takes.
 const COMMANDS: [(&str, &str); 16] = [
@@ -110,7 +111,7 @@ impl Board {
         let words: Vec<&str> = text.split(' ').collect();
         let takes = match COMMANDS.iter().find(|command| command.0 == words[0]) {
             Some((_, takes)) => takes,
-            None => return Err("no such command".to_string()),
+            None => return Err(format!("no such command{}", quoted(line))),
         };
         if *takes == "nothing" && words.len() > 1 {
             return Err(format!("{} takes nothing", words[0]));
@@ -253,6 +254,14 @@ impl Board {
         };
         let Version { major, minor, revision } = version;
         format!("record {n} {running} {next} {state} {latest} {major} {minor} {revision} {received}")
+    }
+}
+
+/// A line that is no command, as far as it is quoted: not at all where a byte of it does not show.
+fn quoted(line: &[u8]) -> String {
+    match line.iter().all(|byte| byte.is_ascii_graphic() || *byte == b' ') {
+        true => format!(": {}", line.iter().take(LONGEST_QUOTE).map(|byte| char::from(*byte)).collect::<String>()),
+        false => String::new(),
     }
 }
 

@@ -54,6 +54,6 @@ pub(crate) fn follow(
     let word = word::word_of(text::first(line));
     let after = known(board, bank0, bank1, word, line);
     let wrong = after.wrong;
-    wrong::say(wrong, word, number);
+    wrong::say(wrong, word, number, line);
     after
 }

@@ -47,10 +47,36 @@ fn say_range(name: &[u8], least: usize, most: usize) {
     say::field(most);
 }
 
-fn say_field(wrong: Wrong) {
+// Whether each byte is one of ASCII's that show, a blank too.
+fn printable(line: &[u8]) -> bool {
+    let mut i = 0;
+    while i < line.len() {
+        if line[i] < b' ' {
+            return false;
+        }
+        if line[i] > b'~' {
+            return false;
+        }
+        i += 1;
+    }
+    true
+}
+
+const LONGEST_QUOTE: isize = 80;
+
+// What is no command may be the refusal of a program that wrote into the pipe, which is seen nowhere else.
+fn say_quoted(line: &[u8]) {
+    if printable(line) {
+        let end = io::count(LONGEST_QUOTE, line);
+        say::text(b": ");
+        say::text(&line[..end]);
+    }
+}
+
+fn say_field(wrong: Wrong, line: &[u8]) {
     match wrong {
         Wrong::Nothing => (),
-        Wrong::Command => (),
+        Wrong::Command => say_quoted(line),
         Wrong::Fields => (),
         Wrong::Blank => (),
         Wrong::N => say_range(b"N", 0, text::LARGEST_NUMBER),
@@ -94,17 +120,17 @@ fn say_blank(number: usize) {
     say_end();
 }
 
-fn say_taken(wrong: Wrong, word: Word, number: usize) {
+fn say_taken(wrong: Wrong, word: Word, number: usize, line: &[u8]) {
     say_line(number);
     word::say_takes(word);
-    say_field(wrong);
+    say_field(wrong, line);
     say_end();
 }
 
-pub(crate) fn say(wrong: Wrong, word: Word, number: usize) {
+pub(crate) fn say(wrong: Wrong, word: Word, number: usize, line: &[u8]) {
     match wrong {
         Wrong::Nothing => (),
         Wrong::Blank => say_blank(number),
-        other => say_taken(other, word, number),
+        other => say_taken(other, word, number, line),
     }
 }

@@ -128,26 +128,33 @@ fn update(target: Bank, n: usize)
     update_from(&mut room, target, n);
 }
 
-fn wrongly() {
-    call::called_wrongly(
-        b"update: BANK is 0 or 1, N is 1 to 491\nusage: ./run update BANK N [FILE]\n",
-    );
+fn bank_wrong() {
+    call::called_wrongly(b"update: BANK is 0 or 1\nusage: ./run update BANK N [FILE]\n");
 }
 
-fn with_words(number: usize, n: usize) {
+fn n_wrong() {
+    call::called_wrongly(b"update: N is 1 to 491\nusage: ./run update BANK N [FILE]\n");
+}
+
+fn for_bank(target: Bank, n: usize) {
     if n < 1 {
-        return wrongly();
+        return n_wrong();
     }
     if n > MOST {
-        return wrongly();
+        return n_wrong();
     }
+    update(target, n);
+}
+
+// The first word that is wrong is named.
+fn with_words(number: usize, n: usize) {
     if number == 0 {
-        return update(Bank::Zero, n);
+        return for_bank(Bank::Zero, n);
     }
     if number == 1 {
-        return update(Bank::One, n);
+        return for_bank(Bank::One, n);
     }
-    wrongly();
+    bank_wrong();
 }
 
 fn called() {
