@@ -14,31 +14,40 @@ static const uint8_t values[256] = {
 
 static int digit(uint8_t c) { return values[c] - 1; }
 
-// The fault of the first faulty line, whose number is left in `line`; 0 if there is none.
-static size_t lines(const uint8_t *text, size_t length, uint8_t *image, size_t size, size_t *line) {
+// The first byte of a line that can't belong to a record, or one past its end, counted from 1.
+static size_t place(const uint8_t *p, const uint8_t *stop) {
+    size_t length = stop - p, at = 1, due = 3;
+    if (length == 0 || *p != ':') return 1;
+    for (; at < length && at < due && digit(p[at]) >= 0; at++)
+        if (at == 2) due = 11 + 2 * (digit(p[1]) << 4 | digit(p[2]));
+    return at + 1;
+}
+
+// The fault of the first faulty line, whose number is left in `line` and whose byte in `byte`; 0 if there is none.
+static size_t lines(const uint8_t *text, size_t length, uint8_t *image, size_t size, size_t *line, size_t *byte) {
     const uint8_t *p = text, *end = text + length;
     uint64_t upper = 0, last = 0;
     int over = 0;
-    *line = 1;
+    *line = *byte = 1;
     while (p < end) {
         const uint8_t *feed = memchr(p, '\n', end - p), *stop = feed ? feed : end;
         const uint8_t *next = feed ? feed + 1 : end;
         if (feed && stop > p && stop[-1] == '\r') stop--;
         if (over) return H6;
         size_t digits = stop - p;
-        if (digits < 11 || digits % 2 == 0 || *p != ':') return H1;
+        if (digits < 11 || digits % 2 == 0 || *p != ':') return *byte = place(p, stop), H1;
         uint8_t record[261], sum = 0;
         size_t count = digits / 2;
-        if (count > sizeof record) return H1;
+        if (count > sizeof record) return *byte = place(p, stop), H1;
         for (size_t k = 0; k < count; k++) {
             int high = digit(p[1 + 2 * k]), low = digit(p[2 + 2 * k]);
-            if (high < 0 || low < 0) return H1;
+            if (high < 0 || low < 0) return *byte = place(p, stop), H1;
             record[k] = high << 4 | low;
             sum += record[k];
         }
         size_t n = record[0];
-        if (count != n + 5) return H1;
-        if (sum != 0) return H2;
+        if (count != n + 5) return *byte = place(p, stop), H1;
+        if (sum != 0) return *byte = 10 + 2 * n, H2;
         uint64_t address = record[1] << 8 | record[2];
         switch (record[3]) {
         case 0: {
@@ -71,19 +80,20 @@ static size_t lines(const uint8_t *text, size_t length, uint8_t *image, size_t s
 }
 
 size_t plain_hex_read(const uint8_t *text, size_t length, size_t n, uint8_t *image, size_t size, size_t *told, size_t room) {
-    size_t number = 0, line = 0;
-    if (room < 2) return 2;
+    size_t number = 0, line = 0, byte = 0;
+    if (room < 3) return 2;
     if (n < 1 || n > MOST) {
         number = 3;
     } else if (size != n * SECTOR) {
         number = 2;
     } else {
         memset(image, 0xff, size);
-        number = lines(text, length, image, size, &line);
+        number = lines(text, length, image, size, &line, &byte);
         if (number) memset(image, 0xff, size);
-        else line = 0;
+        else line = byte = 0;
     }
     told[0] = number;
     told[1] = line;
+    told[2] = byte;
     return number;
 }

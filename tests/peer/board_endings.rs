@@ -3,7 +3,7 @@
 /// `|` parts one from the next.
 pub fn all() -> Vec<String> {
     let unknown = "x|Record|records|crc\t0| record|client32|CRC 0|\u{e9}|-|\r\r|record\r\r|record \r|//";
-    let quoted = "refused H2 line 5|unsound|too long|x y z|x  y|! ~|~\u{7f}|\u{7f}|x\ty|\tx|x\u{1f}y|x y\u{80}|x \u{e9}|x y\r| |x | x|  x";
+    let quoted = "refused H2 line 5 byte 74|unsound|too long|x y z|x  y|! ~|~\u{7f}|\u{7f}|x\ty|\tx|x\u{1f}y|x y\u{80}|x \u{e9}|x y\r| |x | x|  x";
     let client = "client|client 1|client 1 0 0 0|client 1 2 0 0 0|client 1 0 256 0 0|client 1 0 0 256 0|client 1 0 0 0 4294967296|\
         client 1000000 0 0 0 0|client 1 0 0 0 00000000000|client 1 0 0 0 0 0|client 1 0 0 0 0 |client  1 0 0 0 0|client -1 0 0 0 0";
     let bank = "bank|bank 0|bank 2 0|bank 0 252417|bank 0 0000000|bank 0 x|bank 00 0|bank 0 1 1|fill 0|fill 0 0|fill 0 000|fill 2 00|fill 0 0G|fill 0 -";

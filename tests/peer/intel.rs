@@ -8,9 +8,12 @@ use std::ops::RangeInclusive;
 pub enum Refusal {
     /// 3 or 2: the image is as it was.
     Number(u8),
-    /// H1 to H6, and the line, counted from 1: the image is all 0xFF.
-    Fault(u8, usize),
+    /// H1 to H6, the line, and the byte in it, both counted from 1: the image is all 0xFF.
+    Fault(u8, usize, usize),
 }
+
+/// H1 to H6, and the byte in the line.
+pub type Fault = (u8, usize);
 
 #[derive(Debug, PartialEq)]
 pub struct Record {
@@ -41,23 +44,49 @@ fn lines(text: &[u8]) -> Vec<&[u8]> {
     text.split_inclusive(|b| *b == b'\n').map(|line| &line[..content(line)]).collect()
 }
 
-/// H1 and H2, which a line has by itself.
-pub fn record(line: &[u8]) -> Result<Record, u8> {
-    let digits = line.strip_prefix(b":").ok_or(1)?;
-    let digits: Vec<u32> = digits.iter().map(|d| char::from(*d).to_digit(16).ok_or(1)).collect::<Result<_, _>>()?;
-    if digits.len() % 2 != 0 {
-        return Err(1);
+/// H1 and H2, which a line has by itself. H1 is at the byte that the walk cannot go on with, H2 at the checksum's first digit.
+pub fn record(line: &[u8]) -> Result<Record, Fault> {
+    let mut walk = Walk { line, byte: 1, sum: 0 };
+    walk.step(|byte| (byte == b':').then_some(()))?;
+    let count = walk.pair()?;
+    let offset = 256 * walk.pair()? as usize + walk.pair()? as usize;
+    let kind = walk.pair()?;
+    let data = (0..count).map(|_| walk.pair()).collect::<Result<_, _>>()?;
+    let checksum = walk.byte;
+    walk.pair()?;
+    if walk.byte <= line.len() {
+        return Err((1, walk.byte));
     }
-    let bytes: Vec<usize> = digits.chunks(2).map(|pair| (16 * pair[0] + pair[1]) as usize).collect();
-    match bytes[..] {
-        [count, high, low, kind, ref data @ .., _] if count == data.len() => {
-            if bytes.iter().sum::<usize>() % 256 != 0 {
-                return Err(2);
-            }
-            let data = data.iter().map(|b| *b as u8).collect();
-            Ok(Record { kind: kind as u8, offset: 256 * high + low, data })
-        }
-        _ => Err(1),
+    if walk.sum != 0 {
+        return Err((2, checksum));
+    }
+    Ok(Record { kind, offset, data })
+}
+
+/// A line from left to right, a byte at a step.
+struct Walk<'a> {
+    line: &'a [u8],
+    /// The next one, or one past the line's end
+    byte: usize,
+    /// Of the pairs so far
+    sum: u8,
+}
+
+impl Walk<'_> {
+    fn step<T>(&mut self, known: impl Fn(u8) -> Option<T>) -> Result<T, Fault> {
+        let found = self.line.get(self.byte - 1).and_then(|byte| known(*byte)).ok_or((1, self.byte))?;
+        self.byte += 1;
+        Ok(found)
+    }
+
+    fn digit(&mut self) -> Result<u8, Fault> {
+        self.step(|byte| char::from(byte).to_digit(16).map(|digit| digit as u8))
+    }
+
+    fn pair(&mut self) -> Result<u8, Fault> {
+        let value = 16 * self.digit()? + self.digit()?;
+        self.sum = self.sum.wrapping_add(value);
+        Ok(value)
     }
 }
 
@@ -66,11 +95,13 @@ fn data(text: &[u8], bank: RangeInclusive<usize>) -> Result<BTreeMap<usize, u8>,
     let lines = lines(text);
     let (mut upper, mut ended, mut held) = (0, false, BTreeMap::new());
     for (k, line) in lines.iter().enumerate() {
-        let fault = |h| Refusal::Fault(h, k + 1);
+        let inside = |(h, byte)| Refusal::Fault(h, k + 1, byte);
+        // What is wrong with a line as a whole is named at its first byte.
+        let fault = |h| inside((h, 1));
         if ended {
             return Err(fault(6));
         }
-        let Record { kind, offset, data } = record(line).map_err(fault)?;
+        let Record { kind, offset, data } = record(line).map_err(inside)?;
         match (kind, offset, &data[..]) {
             (0, _, _) => {
                 let addresses = (65_536 * upper + offset..).take(data.len());
@@ -93,6 +124,6 @@ fn data(text: &[u8], bank: RangeInclusive<usize>) -> Result<BTreeMap<usize, u8>,
     if ended {
         Ok(held)
     } else {
-        Err(Refusal::Fault(6, lines.len() + 1))
+        Err(Refusal::Fault(6, lines.len() + 1, 1))
     }
 }

@@ -31,6 +31,6 @@ fn sent(image: &[u8]) -> Vec<String> {
 pub fn refused(refusal: &Refusal) -> String {
     match refusal {
         Refusal::Number(number) => format!("refused {}", number),
-        Refusal::Fault(h, line) => format!("refused H{} line {}", h, line),
+        Refusal::Fault(h, line, byte) => format!("refused H{} line {} byte {}", h, line, byte),
     }
 }

@@ -27,15 +27,24 @@ fn all() -> Vec<Vec<u8>> {
     texts
 }
 
-/// Each fault at one place or another.
+/// Each fault at one place or another, with LF and CR LF.
 fn one_fault() -> Vec<Vec<u8>> {
     let lines = sound(0);
     let place = |(k, fault): (usize, String)| {
         let mut with = lines.clone();
         with.insert(k % (lines.len() + 1), fault);
-        in_lf(&with)
+        with_ends(&with, ["\n", "\r\n"][k % 2])
     };
-    faulty(0, 32).into_iter().enumerate().step_by(5).map(place).collect()
+    faulty(0, 32).into_iter().step_by(5).chain(places()).enumerate().map(place).collect()
+}
+
+/// In a line's first bytes, at its last, behind that and one past it.
+fn places() -> Vec<String> {
+    let longest = data(0x0B00, &[0x5A; 255]);
+    let most = &longest[..longest.len() - 1];
+    let mut lines = [":", ":0G", ":00000001FG", ":00000001FF00G", ":020000041000EB", most].map(str::to_string).to_vec();
+    lines.extend(["1", "G", "00", "0G"].map(|last| [most, last].concat()));
+    lines
 }
 
 /// Each one alone that shows a digit's case or the bank's end, both ends, the wrong order, all of them, one too many, and none.

@@ -7,7 +7,7 @@ use crate::texts::{in_lf, END, LISTING};
 use crate::{intel, packets, response, sender};
 
 pub fn all() -> Vec<Checks> {
-    vec![records(), faults(), numbers(), program(), requests(), sector_packets(), responses(), unreadable()]
+    vec![records(), faults(), places(), numbers(), program(), requests(), sector_packets(), responses(), unreadable()]
 }
 
 /// Lines that stand as examples in the pages on the format of Wikipedia ("Intel HEX") and of Keil ("General: Intel HEX file format"). Each is
@@ -36,8 +36,8 @@ fn records() -> Checks {
             let short = &line[..line.len() - 1];
             let other = [short, if line.ends_with('0') { "1" } else { "0" }].concat();
             let good = record(line.as_bytes()) == Ok(whole)
-                && record(short.as_bytes()) == Err(1)
-                && record(other.as_bytes()) == Err(2);
+                && record(short.as_bytes()) == Err((1, line.len()))
+                && record(other.as_bytes()) == Err((2, line.len() - 1));
             (format!("hex record {}", line), good)
         })
         .collect()
@@ -46,31 +46,96 @@ fn records() -> Checks {
 /// Example 10, and one of each fault, for bank 0 and N = 3; a refused text leaves 0xFF alone.
 fn faults() -> Checks {
     let [upper, first, second, end] = LISTING;
-    let texts: [(&str, &str, Option<(u8, usize)>); 14] = [
-        ("no text (example 10)", "", Some((6, 1))),
+    let texts: [(&str, &str, Option<(u8, usize, usize)>); 15] = [
+        ("no text (example 10)", "", Some((6, 1, 1))),
         ("an end record alone (example 10)", END, None),
         ("CR LF", &[upper, "\r\n", first, "\r\n", end, "\r\n"].concat(), None),
-        ("a blank line", &[upper, "\n\n", end].concat(), Some((1, 2))),
-        ("a lone CR", &[upper, "\n\r\n\r", end].concat(), Some((1, 2))),
-        ("a CR that ends the text", &[upper, "\n", end, "\r"].concat(), Some((1, 2))),
-        ("a wrong sum", &[upper, "\n", first, "\n:040E000001020304E5\n", end].concat(), Some((2, 3))),
-        ("type 02", &[upper, "\n:020000021200EA\n", end].concat(), Some((3, 2))),
-        ("an upper half of 0", &[first, "\n", end].concat(), Some((4, 1))),
-        ("data of a sector too far", &[upper, "\n:01100000FFF0\n", end].concat(), Some((4, 2))),
+        ("a blank line", &[upper, "\n\n", end].concat(), Some((1, 2, 1))),
+        ("a lone CR", &[upper, "\n\r\n\r", end].concat(), Some((1, 2, 1))),
+        ("a CR that ends the text", &[upper, "\n", end, "\r"].concat(), Some((1, 2, 12))),
+        ("a wrong sum", &[upper, "\n", first, "\n:040E000001020304E5\n", end].concat(), Some((2, 3, 18))),
+        ("type 02", &[upper, "\n:020000021200EA\n", end].concat(), Some((3, 2, 1))),
+        ("an upper half of 0", &[first, "\n", end].concat(), Some((4, 1, 1))),
+        ("data of a sector too far", &[upper, "\n:01100000FFF0\n", end].concat(), Some((4, 2, 1))),
         ("data of no bytes, anywhere", &[upper, "\n", second, "\n:0000000000\n:00FFFF0002\n", end].concat(), None),
-        ("data twice", &[upper, "\n", second, "\n", second, "\n", end].concat(), Some((5, 3))),
-        ("no end record", &[upper, "\n", first, "\n"].concat(), Some((6, 3))),
-        ("a blank line behind the end", &[upper, "\n", end, "\n\n"].concat(), Some((6, 3))),
+        ("data twice", &[upper, "\n", second, "\n", second, "\n", end].concat(), Some((5, 3, 1))),
+        ("no end record", &[upper, "\n", first, "\n"].concat(), Some((6, 3, 1))),
+        ("a blank line behind the end", &[upper, "\n", end, "\n\n"].concat(), Some((6, 3, 1))),
+        ("a faulty line behind the end", &[upper, "\n", end, "\n:0G"].concat(), Some((6, 3, 1))),
     ];
     texts
         .iter()
         .map(|(what, text, fault)| {
             let mut image = [0xA5; 3 * 512];
-            let wanted = fault.map_or(Ok(()), |(h, line)| Err(Refusal::Fault(h, line)));
+            let wanted = fault.map_or(Ok(()), |(h, line, byte)| Err(Refusal::Fault(h, line, byte)));
             let good = intel::read(text.as_bytes(), 0, 3, &mut image) == wanted;
             (format!("hex text: {}", what), good && (fault.is_none() || image == [0xFF; 3 * 512]))
         })
         .collect()
+}
+
+/// Lines at which the byte was counted by hand, as a text's first and as its second: before LF, before CR LF and at the text's end.
+fn places() -> Checks {
+    let zeros = |count: usize| "0".repeat(count);
+    // 255 bytes 0 from address 0 on: 0xFF + 0x01 is 0 as a byte.
+    let longest = [":FF000000", &zeros(510), "01"].concat();
+    let lines: [(&str, &str, u8, usize); 39] = [
+        ("no byte", "", 1, 1),
+        ("no colon", "00000001FF", 1, 1),
+        ("a blank before the colon", " :00000001FF", 1, 1),
+        ("a CR alone, before CR LF and LF", "\r\r", 1, 1),
+        ("a colon alone", ":", 1, 2),
+        ("two colons", "::00000001FF", 1, 2),
+        ("no digit first in the count", ":G", 1, 2),
+        ("no digit in the count, of a line as long as an end record", ":G0000001FF", 1, 2),
+        ("half a count", ":0", 1, 3),
+        ("no digit second in the count", ":0G", 1, 3),
+        ("a colon second in the count, and one behind it", ":0::", 1, 3),
+        ("a count of 0 alone", ":00", 1, 4),
+        ("a count of 255 alone", ":FF", 1, 4),
+        ("half an address", ":000", 1, 5),
+        ("no digit right behind the count, and too long", ":00G00001FF00", 1, 4),
+        ("no digit in the type", ":0000000g FF", 1, 9),
+        ("no type", ":000000", 1, 8),
+        ("no checksum", ":00000001", 1, 10),
+        ("half a checksum", ":00000001F", 1, 11),
+        ("no digit last in the checksum", ":00000001FG", 1, 11),
+        ("a digit behind the checksum", ":00000001FF0", 1, 12),
+        ("digits behind the checksum and then none", ":00000001FF00G", 1, 12),
+        ("no digit right behind the checksum", ":00000001FFG", 1, 12),
+        ("a CR that no LF follows, behind an end record", ":00000001FF\r ", 1, 12),
+        ("a digit behind the checksum, which is wrong", ":00000001FE0", 1, 12),
+        ("a count of one too many", ":01000001FF", 1, 12),
+        ("a count of one too few", ":000A0000005A9C", 1, 12),
+        ("no digit at the last byte that is counted", ":010A0000009G", 1, 13),
+        ("no digit right behind the last byte that is counted", ":010A000000F5G", 1, 14),
+        ("a count in lower case, of 10, and 40 digits", &[":0a", &zeros(40)].concat(), 1, 32),
+        ("255 bytes and a checksum of one digit", &longest[..520], 1, 521),
+        ("255 bytes and a digit too many", &[&longest, "0"].concat(), 1, 522),
+        ("255 bytes, and digits up to byte 600", &[&longest, &zeros(79)[..]].concat(), 1, 522),
+        ("another last digit (the paper's first record)", ":020000041000EB", 2, 14),
+        ("another data digit", ":020000041001EA", 2, 14),
+        ("another type, and a sum of before", ":00000002FF", 2, 10),
+        ("255 bytes and another checksum", &[&longest[..520], "2"].concat(), 2, 520),
+        ("255 bytes outside the bank", &longest, 4, 1),
+        ("type 02", ":020000021200EA", 3, 1),
+    ];
+    let mut checks = Vec::new();
+    for (what, line, h, byte) in lines {
+        for (end, behind) in [("LF", "\n"), ("CR LF", "\r\n"), ("no end", "")] {
+            // No byte at the text's end is no line.
+            if line.is_empty() && behind.is_empty() {
+                continue;
+            }
+            for (before, number) in [("", 1), (":0000000000\r\n", 2)] {
+                let mut image = [0xA5; 512];
+                let text = [before, line, behind].concat();
+                let good = intel::read(text.as_bytes(), 0, 1, &mut image) == Err(Refusal::Fault(h, number, byte));
+                checks.push((format!("hex text: {}, {}, line {}", what, end, number), good));
+            }
+        }
+    }
+    checks
 }
 
 /// 3 before 2, and the image as it was.
@@ -91,9 +156,9 @@ fn program() -> Checks {
     let wrong = String::from_utf8(text.clone()).expect("text").replace("E4", "E5");
     [
         ("the listing", text.clone(), vec!["0001 17", "0003 03", "sent 2"]),
-        ("a refusal", wrong.into_bytes(), vec!["refused H2 line 3"]),
+        ("a refusal", wrong.into_bytes(), vec!["refused H2 line 3 byte 18"]),
         ("an end record alone", END.into(), vec!["sent 0"]),
-        ("48 KiB", vec![b'\n'; 48 * 1024], vec!["refused H1 line 1"]),
+        ("48 KiB", vec![b'\n'; 48 * 1024], vec!["refused H1 line 1 byte 1"]),
         ("a byte more", vec![b'\n'; 48 * 1024 + 1], vec!["too long"]),
     ]
     .iter()

@@ -30,13 +30,21 @@ pub fn all() -> Vec<Trial> {
     cases.drawn_texts();
     cases.drawn_bytes();
     cases.full_banks();
+    cases.damaged_lines();
+    cases.each_count();
+    cases.long_lines();
     cases.trials
 }
 
 const NUMBERS: [usize; 5] = [1, 2, 3, 32, MOST_SECTORS];
 
-/// No digits, and what parts lines.
-const STRANGE: [u8; 8] = [0x00, b'\n', b'\r', b' ', b':', b'G', b'g', 0xFF];
+/// No digits, those next to a digit among them, and what parts lines.
+const STRANGE: [u8; 11] = [0x00, b'\n', b'\r', b' ', b'/', b':', b'@', b'G', b'`', b'g', 0xFF];
+
+const DIGITS: &[u8] = b"0123456789ABCDEFabcdef";
+
+/// LF, CR LF, and the text's end.
+const LINE_ENDS: [&str; 3] = ["\n", "\r\n", ""];
 
 /// Lines with one fault or two for a bank of at most 64 sectors, where the upper half is the bank's and there is data at offset 0x0A10 before.
 pub fn faulty(number: usize, n: usize) -> Vec<String> {
@@ -48,6 +56,7 @@ pub fn faulty(number: usize, n: usize) -> Vec<String> {
             .iter()
             .map(|line| line.to_string())
             .collect();
+    lines.push(END.to_string() + "00G");
     lines.push(inside[1..].to_string());
     lines.push(inside.clone() + " ");
     lines.push(inside.clone() + "\r");
@@ -525,7 +534,7 @@ impl Cases {
             let mut other = text.clone();
             match self.draw.below(4) {
                 0 => other[at] = self.draw.byte(),
-                1 => other[at] = self.one_of(b"0123456789ABCDEFabcdef"),
+                1 => other[at] = self.one_of(DIGITS),
                 2 => drop(other.remove(at)),
                 _ => other.insert(at, self.draw.byte()),
             }
@@ -571,6 +580,91 @@ impl Cases {
                 self.add_lines(&lines, number, n + 1);
             } else if row == 32 {
                 self.add_lines(&lines, number, n);
+            }
+        }
+    }
+
+    /// A faulty line as a text's first, its third or its last.
+    fn add_line(&mut self, line: &[u8], end: &str) {
+        let lines = sound(0);
+        let (before, behind) = self.one_of(&[(0, 5), (2, 5), (5, 6)]);
+        let behind = if end.is_empty() { &[] } else { &lines[behind..] };
+        self.add([&in_lf(&lines[..before]), line, end.as_bytes(), &in_lf(behind)].concat(), 0, 1);
+    }
+
+    fn add_ended(&mut self, line: &[u8]) {
+        let end = self.one_of(&LINE_ENDS);
+        self.add_line(line, end);
+    }
+
+    fn in_either_case(&mut self, line: &str) -> Vec<u8> {
+        let lower = self.draw.below(2) == 0;
+        if lower { line.to_ascii_lowercase() } else { line.to_string() }.into_bytes()
+    }
+
+    /// Lines of each form, with each byte another, away and twice, and cut before it; the longest with fewer others and ends.
+    fn damaged_lines(&mut self) {
+        let drawn = self.draw.bytes(255);
+        let forms = [upper(0x1000), END.to_string(), start(0x1000_0A00)];
+        let counts = [0, 1, 16, 255].map(|count| data(0x0B00, &drawn[..count]));
+        for form in forms.iter().chain(&counts) {
+            let long = form.len() > 100;
+            for at in 0..form.len() {
+                let line = self.in_either_case(form);
+                let digits = [self.one_of(DIGITS), self.one_of(DIGITS)];
+                let few = [self.one_of(&STRANGE), digits[0]];
+                let others = if long { few.to_vec() } else { [&STRANGE[..], &digits].concat() };
+                for other in others {
+                    let mut changed = line.clone();
+                    changed[at] = other;
+                    self.add_ended(&changed);
+                }
+                self.add_ended(&[&line[..at], &line[at + 1..]].concat());
+                self.add_ended(&[&line[..=at], &line[at..]].concat());
+                let one = [self.one_of(&LINE_ENDS)];
+                for end in if long { &one[..] } else { &LINE_ENDS } {
+                    self.add_line(&line[..at], end);
+                }
+            }
+        }
+    }
+
+    /// Data of every count: with a wrong sum, a digit less and one more, and digits on to byte 599 with a strange one behind them.
+    fn each_count(&mut self) {
+        for count in 0..=255 {
+            let bytes = self.draw.bytes(count);
+            let line = self.in_either_case(&data(0x0A40, &bytes));
+            let short = &line[..line.len() - 1];
+            let other = if line.ends_with(b"0") { b"1" } else { b"0" };
+            self.add_ended(&[short, other].concat());
+            self.add_ended(short);
+            self.add_ended(&[&line[..], b"0"].concat());
+            let strange = self.one_of(&STRANGE);
+            self.add_ended(&[&line[..], &vec![b'0'; 599 - line.len()], &[strange]].concat());
+        }
+    }
+
+    /// Lines of every length around the longest record's, and far above it, of digits alone; of 600 bytes that are one and the same; and of digits with a
+    /// strange byte among them, around the counted length and elsewhere.
+    fn long_lines(&mut self) {
+        for length in (510..=600).chain([1_023, 4_099]) {
+            let digits = vec![self.one_of(DIGITS); length - 3];
+            for count in [":FE", ":Ff"] {
+                self.add_ended(&[count.as_bytes(), &digits].concat());
+            }
+        }
+        for byte in STRANGE.iter().chain(b"09AFaf") {
+            self.add_ended(&[*byte; 600]);
+            self.add_ended(&[&b":"[..], &[*byte; 599]].concat());
+        }
+        for count in [0x00, 0x01, 0x0F, 0x10, 0x7F, 0x80, 0xF0, 0xFE, 0xFF] {
+            let good = data(0x0A40, &vec![0x5A; count]);
+            let drawn = self.draw.below(600);
+            for at in (0..6).chain(good.len() - 3..good.len() + 3).chain([300, drawn, 598, 599]) {
+                let mut line = self.in_either_case(&good);
+                line.resize(600, b'7');
+                line[at] = self.one_of(&STRANGE);
+                self.add_ended(&line);
             }
         }
     }

@@ -300,7 +300,7 @@ module _ (b : Board) (call again : LentCall) (sector m : ℕ) (p : Brings b call
 
 -- 10
 module _ (bank : Bank) (n : ℕ) (image : List ℕ) (g : goodN n ≡ true) (e : length image ≡ sectorSize * n) where
-  example-10 : textRead [] bank n image .answer ≡ Refused (record { kind = H6; line = 1 })
+  example-10 : textRead [] bank n image .answer ≡ Refused (record { kind = H6; line = 1; byte = 1 })
   unfolding textRead readLines lines
   example-10 = rw (g, eq-eqb (length image) (sectorSize * n) e)
 

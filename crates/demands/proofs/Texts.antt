@@ -1,4 +1,4 @@
--- The reader of hex text is as asked, and one that invents the line is shut out.
+-- The reader of hex text is as asked, and one that invents the line or the byte is shut out.
 -- Assumes nothing.
 use mathlib.Core.Path.{_≡_, refl, sym, _∙_}
 use mathlib.Core.Bool.{true}
@@ -18,10 +18,10 @@ use Rattle.hex.specs.declared.read.Answer.the-variants.{BadN, BadLength, Refuse
 use Rattle.digits.specs.Digit.{valueOf, isDigit}
 use Rattle.hex.specs.Spell.{byteOf, digitBytes}
 use Rattle.hex.specs.Meaning.{FirstBroken}
-use Rattle.hex.specs.Read.{readLines, answerSaid, readSays, textRead}
+use Rattle.hex.specs.Read.{readLines, kindNumber, answerSaid, readSays, textRead}
 use Rattle.hex.specs.Record.{digitsIn, digitsWhole, recordOf, total, dataAt, typed, foundOf}
 use Rattle.hex.proofs.Meaning.{answer-said, says-3, says-2, unread, kept-accepted, broken-refused, accepted-kept, refused-broken, read-length}
-use Rattle.demands.specs.Texts.{TextReader, MeetsHex, InventsLine, relined, inventor}
+use Rattle.demands.specs.Texts.{TextReader, MeetsHex, InventsLine, InventsByte, retold, lineInventor, byteInventor}
 
 pub texts-meet : MeetsHex textRead
 texts-meet text bank n image =
@@ -33,9 +33,9 @@ texts-meet text bank n image =
       keeps = λ g w k. said ∙ kept-accepted text bank n image g w k;
       kept = λ a. accepted-kept text bank n image (sym said ∙ a) .keeps;
       leaves = λ a. accepted-kept text bank n image (sym said ∙ a) .leaves;
-      breaks = λ g w k l b. said ∙ broken-refused text bank n image g w b;
-      broken = λ k l a. refused-broken text bank n image k l (sym said ∙ a) .breaks;
-      erased = λ k l a. refused-broken text bank n image k l (sym said ∙ a) .erased;
+      breaks = λ g w k l byte b. said ∙ broken-refused text bank n image g w b;
+      broken = λ k l byte a. refused-broken text bank n image k l byte (sym said ∙ a) .breaks;
+      erased = λ k l byte a. refused-broken text bank n image k l byte (sym said ∙ a) .erased;
       sized = read-length text bank n image;
     }
 
@@ -58,41 +58,64 @@ unfolding image
 size = length-replicate {A = ℕ} 512 0
 
 -- the empty text has H6 at line 1, the other at line 2
-empty-line : FirstBroken (startOf Zero) (sectorSize * 1) (lines []) 6 1
+empty-line : FirstBroken (startOf Zero) (sectorSize * 1) (lines []) 6 1 1
 unfolding readSays goodN image readLines lines
-empty-line = refused-broken [] Zero 1 image 6 1 refl .breaks
+empty-line = refused-broken [] Zero 1 image 6 1 1 refl .breaks
 
-second-line : FirstBroken (startOf Zero) (sectorSize * 1) (lines two-lines) 6 2
+second-line : FirstBroken (startOf Zero) (sectorSize * 1) (lines two-lines) 6 2 1
 unfolding two-lines readSays goodN image readLines lines foundOf recordOf digitsWhole digitsIn typed dataAt digitBytes byteOf isDigit valueOf total
-second-line = refused-broken two-lines Zero 1 image 6 2 refl .breaks
+second-line = refused-broken two-lines Zero 1 image 6 2 1 refl .breaks
 
--- what is said of a refusal is its line
-record RefusedAt (answer : Answer) (l : ℕ) : Type 0 where
+pub no-line-inventor : (read : TextReader) → InventsLine read → MeetsHex read → ⊥
+no-line-inventor read invents meets =
+    let first = meets [] Zero 1 image .breaks one-good size 6 1 1 empty-line in
+    let second = meets two-lines Zero 1 image .breaks one-good size 6 2 1 second-line in
+    let same : _≡_ {A = ℕ} 1 2 = invents [] two-lines Zero 1 image 6 1 1 6 2 1 first second in
+    omega arith
+
+-- what is said of a refusal that is told anew
+record Told (tells : Refusal → Refusal) (k l b : ℕ) : Type 0 where
   why : Refusal
-  refuses : answer ≡ Refused why
-  at : why .line ≡ l
+  kind-is : kindNumber (tells why .kind) ≡ k
+  line-is : tells why .line ≡ l
+  byte-is : tells why .byte ≡ b
 
-refused-at : (answer : Answer) (k l : ℕ) → answerSaid answer ≡ fault k l → RefusedAt answer l
-refused-at BadN k l e = no-way (cc)
-refused-at BadLength k l e = no-way (cc)
-refused-at (Refused r) k l e = record { why = r; refuses = refl; at = cc }
-refused-at Accepted k l e = no-way (cc)
-
-pub no-inventor : (read : TextReader) → InventsLine read → MeetsHex read → ⊥
-no-inventor read invents meets =
-    let first = refused-at _ 6 1 (meets [] Zero 1 image .breaks one-good size 6 1 empty-line) in
-    let second = refused-at _ 6 2 (meets two-lines Zero 1 image .breaks one-good size 6 2 second-line) in
-    let same = invents [] two-lines Zero 1 image (first .why) (second .why) (first .refuses) (second .refuses) in
-    omega (arith, first .at, second .at)
+told : (tells : Refusal → Refusal) (answer : Answer) {k l b : ℕ} → answerSaid (retold tells answer) ≡ fault k l b → Told tells k l b
+told tells BadN e = no-way (cc)
+told tells BadLength e = no-way (cc)
+told tells (Refused r) e = record { why = r; kind-is = cc; line-is = cc; byte-is = cc }
+told tells Accepted e = no-way (cc)
 
 -- one of that kind
-names-line : (l : ℕ) (answer : Answer) (r : Refusal) → relined l answer ≡ Refused r → r .line ≡ l
-names-line l BadN r e = no-way (cc)
-names-line l BadLength r e = no-way (cc)
-names-line l (Refused x) r e = let f : record { kind = x .kind; line = l } ≡ r = cc in rw (sym f)
-names-line l Accepted r e = no-way (cc)
+pub invents-line : (names : Bank → ℕ → List ℕ → ℕ) → InventsLine (lineInventor names)
+invents-line names text other bank n image k l a j m b e f =
+    let x = told _ (textRead text bank n image .answer) e in
+    let y = told _ (textRead other bank n image .answer) f in
+    sym (x .line-is) ∙ y .line-is
 
-pub invents-line : (names : Bank → ℕ → List ℕ → ℕ) → InventsLine (inventor names)
-invents-line names text other bank n image r s e f =
-    names-line (names bank n image) (textRead text bank n image .answer) r e
-    ∙ sym (names-line (names bank n image) (textRead other bank n image .answer) s f)
+-- ---- shut out: one that names the same byte for all texts that it refuses by the same fault at the same line
+
+-- a blank line has H1 at byte 1, a colon alone at byte 2
+blank-line : FirstBroken (startOf Zero) (sectorSize * 1) (lines (0x0A ∷ [])) 1 1 1
+unfolding readSays goodN image readLines lines foundOf recordOf
+blank-line = refused-broken (0x0A ∷ []) Zero 1 image 1 1 1 refl .breaks
+
+colon-alone : FirstBroken (startOf Zero) (sectorSize * 1) (lines (0x3A ∷ [])) 1 1 2
+unfolding readSays goodN image readLines lines foundOf recordOf digitsWhole digitsIn byteOf isDigit valueOf
+colon-alone = refused-broken (0x3A ∷ []) Zero 1 image 1 1 2 refl .breaks
+
+pub no-byte-inventor : (read : TextReader) → InventsByte read → MeetsHex read → ⊥
+no-byte-inventor read invents meets =
+    let first = meets (0x0A ∷ []) Zero 1 image .breaks one-good size 1 1 1 blank-line in
+    let second = meets (0x3A ∷ []) Zero 1 image .breaks one-good size 1 1 2 colon-alone in
+    let same : _≡_ {A = ℕ} 1 2 = invents (0x0A ∷ []) (0x3A ∷ []) Zero 1 image 1 1 1 2 first second in
+    omega arith
+
+-- one of that kind
+pub invents-byte : (names : Bank → ℕ → List ℕ → ℕ → ℕ → ℕ) → InventsByte (byteInventor names)
+invents-byte names text other bank n image k l a b e f =
+    let x = told _ (textRead text bank n image .answer) e in
+    let y = told _ (textRead other bank n image .answer) f in
+    let first : names bank n image k l ≡ a = rw (x .kind-is, x .line-is) at (x .byte-is) in
+    let second : names bank n image k l ≡ b = rw (y .kind-is, y .line-is) at (y .byte-is) in
+    sym first ∙ second

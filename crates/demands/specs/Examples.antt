@@ -136,7 +136,7 @@ rows =
     -- 9
     ∷ Again
     -- 10
-    ∷ Reads [] (Refused (record { kind = H6; line = 1 }))
+    ∷ Reads [] (Refused (record { kind = H6; line = 1; byte = 1 }))
     ∷ Reads (0x3A ∷ 48 ∷ 48 ∷ 48 ∷ 48 ∷ 48 ∷ 48 ∷ 48 ∷ 49 ∷ 70 ∷ 70 ∷ []) Accepted
     -- 11
     ∷ Sums 3 ((0x01 ∷ 0x02 ∷ 0x03 ∷ 0x04 ∷ []) ++ replicate 508 0xFF) 0xED

@@ -41,7 +41,7 @@ abbrev pub paperNumber : Said → ℕ
 paperNumber (number n) = n
 paperNumber (result r) = 0
 paperNumber (value n) = 0
-paperNumber (fault k line) = 0
+paperNumber (fault k line byte) = 0
 paperNumber accepted = 0
 
 -- it was read, and nothing of it was lost

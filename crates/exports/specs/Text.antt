@@ -1,4 +1,4 @@
--- What is told to C of a hex text for bank 0: a number, and the line (01, 'Hex text').
+-- What is told to C of a hex text for bank 0: a number, the line and the byte in it (01, 'Hex text'; 02 §1).
 -- Assumes nothing.
 use Prim.Native.Nat.{ℕ}
 use mathlib.Core.Path.{_≡_}
@@ -16,16 +16,24 @@ abbrev pub lineSaid : Said → ℕ
 lineSaid (number n) = 0
 lineSaid (result n) = 0
 lineSaid (value n) = 0
-lineSaid (fault k line) = line
+lineSaid (fault k line byte) = line
 lineSaid accepted = 0
 
--- the number and the line
-abbrev pub numbersOf : Said → List ℕ
-numbersOf said = code said ∷ lineSaid said ∷ []
+-- "the byte in the line", and 0 there too
+abbrev pub byteSaid : Said → ℕ
+byteSaid (number n) = 0
+byteSaid (result n) = 0
+byteSaid (value n) = 0
+byteSaid (fault k line byte) = byte
+byteSaid accepted = 0
 
--- whether there is room for both; if not, the text is not read
+-- the number, the line and the byte
+abbrev pub numbersOf : Said → List ℕ
+numbersOf said = code said ∷ lineSaid said ∷ byteSaid said ∷ []
+
+-- whether there is room for the three; if not, the text is not read
 abbrev pub roomToTell : List ℕ → Bool
-roomToTell told = leb 2 (length told)
+roomToTell told = leb 3 (length told)
 
 pub record ReadNumbers·Is (text : List ℕ) (n : ℕ) (image told : List ℕ) (r : ℕ) (image′ told′ : List ℕ) : Type 0 where
   pub number-is : r ≡ cond (roomToTell told) (code (readSays text Zero n image)) 2

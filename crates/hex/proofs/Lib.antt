@@ -2,7 +2,9 @@ pub mod Examples
 pub mod Images
 pub mod Meaning
 pub mod Pairs
+pub mod Placed
 pub mod Records
 pub mod Rules
 pub mod Says
 pub mod Steps
+pub mod Wrong

@@ -1,5 +1,5 @@
--- A text that keeps every rule is accepted and leaves its bytes; one whose first broken rule is Hk at a line is refused by Hk at that line; and
--- the other way round.
+-- A text that keeps every rule is accepted and leaves its bytes; one whose first broken rule is Hk at a line and byte is refused by Hk there; and the
+-- other way round.
 -- Assumes nothing.
 use mathlib.Core.Path.{_≡_, refl, sym, ap, _∙_}
 use mathlib.Core.Bool.{Bool, true, false}
@@ -60,14 +60,14 @@ module _ (base size : ℕ) (ls : List (List ℕ)) where
       }
 
   image-length : (line image : List ℕ) (d : Found) → length (imageAfter base line d image) ≡ length image
-  image-length line image (Fault k) = refl
+  image-length line image (Fault k byte) = refl
   image-length line image (Data start n) = length-sets image (start - base) (recordData n (lineBytes line))
   image-length line image (Upper u) = refl
   image-length line image End = refl
   image-length line image Other = refl
 
   -- a line that keeps the rules is gone on behind
-  goes-on : {i : ℕ} {d : Found} → KeptAs ls i d → (x : Kind → LinesRead) (y : LinesRead) → goes d x y ≡ y
+  goes-on : {i : ℕ} {d : Found} → KeptAs ls i d → (x : Kind → ℕ → LinesRead) (y : LinesRead) → goes d x y ≡ y
   goes-on (data-line h) x y = refl
   goes-on (upper-line t) x y = refl
   goes-on (end-line t) x y = refl
@@ -101,7 +101,7 @@ module _ (base size : ℕ) (ls : List (List ℕ)) where
         }
 
     -- one that breaks a rule stops it
-    stops : {k : ℕ} → Breaks base size ls i k → linesSay (lined .outcome) ≡ fault k (i + 1)
+    stops : {k byte : ℕ} → Breaks base size ls i k byte → linesSay (lined .outcome) ≡ fault k (i + 1) byte
     unfolding readLines
     stops b =
         let f = breaks-faulted base size ls i (r .state) (r .fits) b in
@@ -119,7 +119,7 @@ module _ (base size : ℕ) (ls : List (List ℕ)) where
     unfolding readLines
     at-end = r .reads ∙ rw (drop-length ls)
 
-    missing : NotEnded ls (length ls) → linesSay (lined .outcome) ≡ fault 6 (length ls + 1)
+    missing : NotEnded ls (length ls) → linesSay (lined .outcome) ≡ fault 6 (length ls + 1) 1
     missing n = rw (at-end, still-open (r .fits) n)
 
     ended : (m : ℕ) → m < length ls → lineType (lineAt ls m) ≡ 1 → lined ≡ record { outcome = Through; image = r .image }
@@ -127,8 +127,8 @@ module _ (base size : ℕ) (ls : List (List ℕ)) where
 
   -- THE RULES TELL WHAT IS SAID
 
-  pub broken-said : {k l : ℕ} → FirstBroken base size ls k l → linesSay (lined .outcome) ≡ fault k l
-  broken-said (at-line i k inside each b) = stops i inside (reach i (omega arith) each) b
+  pub broken-said : {k l byte : ℕ} → FirstBroken base size ls k l byte → linesSay (lined .outcome) ≡ fault k l byte
+  broken-said (at-line i k byte inside each b) = stops i inside (reach i (omega arith) each) b
   broken-said (no-end each n) = missing (reach (length ls) (omega arith) each) n
 
   -- what an accepted text comes to
@@ -146,7 +146,7 @@ module _ (base size : ℕ) (ls : List (List ℕ)) where
   -- and every text keeps the rules or breaks a first one
   pub data Verdict : Type 0 where
     keeps-all : KeepsAll base size ls → Verdict
-    breaks-first : (k l : ℕ) → FirstBroken base size ls k l → Verdict
+    breaks-first : (k l byte : ℕ) → FirstBroken base size ls k l byte → Verdict
 
   ends-last : ((m : ℕ) → m < length ls → Keeps base size ls m) → Ended ls (length ls) → KeepsAll base size ls
   ends-last each e = by (decLt (e .end + 1) (length ls))
@@ -163,7 +163,7 @@ module _ (base size : ℕ) (ls : List (List ℕ)) where
 
       by : (o : Bool) → r .state .over ≡ o → Verdict
       by true o = keeps-all (ends-last each (r .fits .is-over o))
-      by false o = breaks-first 6 (length ls + 1) (no-end each (r .fits .not-over o))
+      by false o = breaks-first 6 (length ls + 1) 1 (no-end each (r .fits .not-over o))
 
   verdict-at : (n i : ℕ) → i + n ≡ length ls → ((m : ℕ) → m < i → Keeps base size ls m) → Verdict
   verdict-at zero i e each = at-last (λ m l. each m (omega arith))
@@ -173,7 +173,7 @@ module _ (base size : ℕ) (ls : List (List ℕ)) where
     where
       by : (Keeps base size ls i → Verdict) → Judged base size ls i → Verdict
       by on (kept k) = on k
-      by on (broken k b) = breaks-first k (i + 1) (at-line i k (omega arith) each b)
+      by on (broken k byte b) = breaks-first k (i + 1) byte (at-line i k byte (omega arith) each b)
 
   pub verdict : Verdict
   verdict = verdict-at (length ls) 0 (omega arith) (λ m h. absurd (not-suc-le-zero h))
@@ -248,8 +248,8 @@ module _ (text : List ℕ) (bank : Bank) (n : ℕ) (before : List ℕ) where
       pub kept-accepted : KeepsAll base size (lines text) → readSays text bank n before ≡ accepted
       kept-accepted k = says-lines ∙ ap linesSay (kept-through base size (lines text) k .through)
 
-      -- and one that breaks one is refused by the first, at the first line that does
-      pub broken-refused : {k l : ℕ} → FirstBroken base size (lines text) k l → readSays text bank n before ≡ fault k l
+      -- and one that breaks one is refused by the first, at the first line that does and its byte
+      pub broken-refused : {k l byte : ℕ} → FirstBroken base size (lines text) k l byte → readSays text bank n before ≡ fault k l byte
       broken-refused b = says-lines ∙ broken-said base size (lines text) b
 
   -- the other way round
@@ -265,31 +265,32 @@ module _ (text : List ℕ) (bank : Bank) (n : ℕ) (before : List ℕ) where
       by : Way → Verdict base size (lines text) → IsAccepted
       by (bad-n e f) v = let z = sym f ∙ a in no-way (cc)
       by (bad-length e f) v = let z = sym f ∙ a in no-way (cc)
-      by (lined-up g w e f) (breaks-first k l b) = let z = sym (broken-refused g w b) ∙ a in no-way (cc)
+      by (lined-up g w e f) (breaks-first k l byte b) = let z = sym (broken-refused g w b) ∙ a in no-way (cc)
       by (lined-up g w e f) (keeps-all k) =
           let h = kept-through base size (lines text) k in
           record { good = g; fits = w; keeps = k; leaves = rw (e, h .through) (h .leaves) }
 
-  pub record IsRefused (k l : ℕ) : Type 0 where
-    pub breaks : FirstBroken base size (lines text) k l
+  pub record IsRefused (k l byte : ℕ) : Type 0 where
+    pub breaks : FirstBroken base size (lines text) k l byte
     pub erased : textRead text bank n before .image ≡ replicate (length before) 0xFF
 
-  pub refused-broken : (k l : ℕ) → readSays text bank n before ≡ fault k l → IsRefused k l
-  refused-broken k l a = by way (verdict base size (lines text))
+  pub refused-broken : (k l byte : ℕ) → readSays text bank n before ≡ fault k l byte → IsRefused k l byte
+  refused-broken k l byte a = by way (verdict base size (lines text))
     where
-      blank : (o : Outcome) (image : List ℕ) → linesSay o ≡ fault k l → readingOf size o image .image ≡ replicate size 0xFF
+      blank : (o : Outcome) (image : List ℕ) → linesSay o ≡ fault k l byte → readingOf size o image .image ≡ replicate size 0xFF
       blank (Stopped r) image e = refl
       blank Through image e = no-way (cc)
 
-      by : Way → Verdict base size (lines text) → IsRefused k l
+      by : Way → Verdict base size (lines text) → IsRefused k l byte
       by (bad-n e f) v = let z = sym f ∙ a in no-way (cc)
       by (bad-length e f) v = let z = sym f ∙ a in no-way (cc)
       by (lined-up g w e f) (keeps-all x) = let z = sym (kept-accepted g w x) ∙ a in no-way (cc)
-      by (lined-up g w e f) (breaks-first m o b) =
-          let z : fault m o ≡ fault k l = sym (broken-refused g w b) ∙ a in
+      by (lined-up g w e f) (breaks-first m o p b) =
+          let z : fault m o p ≡ fault k l byte = sym (broken-refused g w b) ∙ a in
           let x : m ≡ k = cc in
           let y : o ≡ l = cc in
-          record { breaks = rw (sym x, sym y) b; erased = rw e (blank outcome (linesRead text bank n .image) (sym f ∙ a) ∙ rw w) }
+          let q : p ≡ byte = cc in
+          record { breaks = rw (sym x, sym y, sym q) b; erased = rw e (blank outcome (linesRead text bank n .image) (sym f ∙ a) ∙ rw w) }
 
   -- the image keeps its length
   pub read-length : length (textRead text bank n before .image) ≡ length before
@@ -301,5 +302,5 @@ module _ (text : List ℕ) (bank : Bank) (n : ℕ) (before : List ℕ) where
       by (lined-up g w e f) (keeps-all x) =
           let h = kept-through base size (lines text) x in
           rw (e, h .through) (h .sized ∙ sym w)
-      by (lined-up g w e f) (breaks-first k l b) =
-          rw (refused-broken k l (broken-refused g w b) .erased) (length-replicate (length before) 0xFF)
+      by (lined-up g w e f) (breaks-first k l byte b) =
+          rw (refused-broken k l byte (broken-refused g w b) .erased) (length-replicate (length before) 0xFF)

@@ -19,7 +19,7 @@ use Rattle.hex.specs.Places.{pairAt, pairByte, bytesAt, allBytes, checkF
 -- ---- two digits
 
 module _ (a b : ℕ) where
-  pair-none : (isDigit a && isDigit b) ≡ false → byteOf a b ≡ 256
+  pub pair-none : (isDigit a && isDigit b) ≡ false → byteOf a b ≡ 256
   unfolding byteOf
   pair-none e = rw e
 

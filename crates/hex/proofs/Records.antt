@@ -2,10 +2,11 @@
 -- Assumes nothing.
 use mathlib.Core.Path.{_≡_, refl, sym, ap, _∙_}
 use mathlib.Core.List.{List, [], _∷_, _++_}
-use mathlib.Core.Bool.{Bool, true, false}
+use mathlib.Core.Bool.{Bool, true, false, cond}
 use Prim.Native.Nat.{ℕ, zero, suc, _+_, _*_, _/_, _%_, _<_, _≤_}
 use native.Mathlib.Nat.{zero-add, not-suc-le-zero, le-of-suc-le-suc}
 use native.Mathlib.Numerals.{add-one}
+use native.Mathlib.Decide.{decLt}
 use native.Mathlib.Omega.{arith}
 use lib.Dec.{eqb, ltb}
 use lib.ListN.{length, getD, take, drop, length-drop, drop-of-length-le, List·getD-append}
@@ -25,29 +26,49 @@ digit-is : (c : ℕ) → isDigit c ≡ true → valueOf c < 16
 unfolding isDigit
 digit-is c e = ltb-true (valueOf c) 16 e
 
+not-digit : (c : ℕ) → isDigit c ≡ false → valueOf c < 16 → ⊥
+unfolding isDigit
+not-digit c e v = let z = sym e ∙ lt-ltb (valueOf c) 16 v in no-way (cc)
+
+-- those found of as many as are due: up to the end, to what is none, or all
+pub record Run (due : ℕ) (l : List ℕ) (n : ℕ) : Type 0 where
+  pub within : n ≤ due
+  pub inside : n ≤ length l
+  pub digits : (i : ℕ) → i < n → valueOf (getD l i 0) < 16
+  pub stops : n < due → n < length l → valueOf (getD l n 0) < 16 → ⊥
+
+one-more :
+    (c : ℕ) (l : List ℕ) (n : ℕ) → valueOf c < 16 → ((i : ℕ) → i < n → valueOf (getD l i 0) < 16)
+    → (i : ℕ) → i < suc n → valueOf (getD (c ∷ l) i 0) < 16
+one-more c l n v f zero h = v
+one-more c l n v f (suc i) h = f i (le-of-suc-le-suc h)
+
+pub run : (due : ℕ) (l : List ℕ) → Run due l (digitsIn due l)
+unfolding digitsIn
+run zero l =
+    record { within = omega arith; inside = omega arith; digits = λ i h. absurd (not-suc-le-zero h); stops = λ h. absurd (not-suc-le-zero h) }
+run (suc due) [] =
+    record { within = omega arith; inside = omega arith; digits = λ i h. absurd (not-suc-le-zero h); stops = λ d h. absurd (not-suc-le-zero h) }
+run (suc due) (c ∷ l) = by (isDigit c) refl (run due l)
+  where
+    by : (b : Bool) → isDigit c ≡ b → Run due l (digitsIn due l) → Run (suc due) (c ∷ l) (cond b (suc (digitsIn due l)) 0)
+    by false e r =
+        record { within = omega arith; inside = omega arith; digits = λ i h. absurd (not-suc-le-zero h); stops = λ d h v. not-digit c e v }
+    by true e r =
+        record {
+          within = omega (arith, r .within);
+          inside = omega (arith, r .inside);
+          digits = one-more c l (digitsIn due l) (digit-is c e) (r .digits);
+          stops = λ d h. r .stops (le-of-suc-le-suc d) (le-of-suc-le-suc h);
+        }
+
 -- digits alone are all found
 digits-found : (n : ℕ) (ds : List ℕ) → n ≤ length ds → ((i : ℕ) → i < n → valueOf (getD ds i 0) < 16) → digitsIn n ds ≡ n
-unfolding digitsIn isDigit
-digits-found zero ds h f = refl
-digits-found (suc n) [] h f = absurd (not-suc-le-zero h)
-digits-found (suc n) (c ∷ ds) h f =
-    rw (lt-ltb (valueOf c) 16 (f 0 (omega arith))) (ap suc (digits-found n ds (le-of-suc-le-suc h) (λ i l. f (suc i) (omega arith))))
-
--- and what is found are digits
-digit-first : (n c : ℕ) (ds : List ℕ) → digitsIn (suc n) (c ∷ ds) ≡ suc n → (valueOf c < 16) × (digitsIn n ds ≡ n)
-unfolding digitsIn
-digit-first n c ds e = by (isDigit c) refl
+digits-found n ds h f = by (decLt (digitsIn n ds) n)
   where
-    by : (b : Bool) → isDigit c ≡ b → (valueOf c < 16) × (digitsIn n ds ≡ n)
-    by true d = let f = rw d at e in (digit-is c d, omega arith)
-    by false d = let f = rw d at e in absurd (omega arith)
-
-found-digits : (n : ℕ) (ds : List ℕ) → digitsIn n ds ≡ n → (i : ℕ) → i < n → valueOf (getD ds i 0) < 16
-unfolding digitsIn
-found-digits zero ds e i h = absurd (not-suc-le-zero h)
-found-digits (suc n) [] e i h = absurd (omega arith)
-found-digits (suc n) (c ∷ ds) e zero h = digit-first n c ds e .0
-found-digits (suc n) (c ∷ ds) e (suc i) h = found-digits n ds (digit-first n c ds e .1) i (le-of-suc-le-suc h)
+    by : Dec (digitsIn n ds < n) → digitsIn n ds ≡ n
+    by (yes l) = absurd (run n ds .stops l (omega arith) (f (digitsIn n ds) l))
+    by (no l) = omega (arith, run n ds .within)
 
 -- one byte in front of them
 behind :
@@ -127,6 +148,12 @@ module _ (line : List ℕ) (m : ℕ) (long : length line ≡ 2 * m + 1) where
         let two = two-digits (getD line (2 * j + 1) 0) (getD line (2 * j + 2) 0) high low in
         rw line-bytes (bytes-at line 1 m j h ∙ rw e (spelled _ _ two))
 
+-- two digits behind the colon spell the count
+pub due-is :
+    (ds : List ℕ) → valueOf (getD ds 0 0) < 16 → valueOf (getD ds 1 0) < 16
+    → digitsDue ds ≡ 2 * (valueOf (getD ds 0 0) * 16 + valueOf (getD ds 1 0) + 5)
+due-is ds a b = rw (spelled (getD ds 0 0) (getD ds 1 0) (two-digits (getD ds 0 0) (getD ds 1 0) a b))
+
 -- what the definition reads as whole is a record
 pub whole-record : (line bytes : List ℕ) → recordOf line ≡ Whole bytes → IsRecord line × (bytes ≡ lineBytes line)
 unfolding recordOf digitsWhole
@@ -142,9 +169,9 @@ whole-record (c ∷ ds) bytes e = by (eqb c 0x3A) (eqb (digitsIn (digitsDue ds) 
     by true true true p q r =
         let f : Whole (digitBytes ds) ≡ Whole bytes = rw (p, q, r) at e in
         let due : length ds ≡ digitsDue ds = eqb-true _ _ r in
-        let found = found-digits (digitsDue ds) ds (eqb-true _ _ q) in
-        let digits = behind c ds (λ i l. found i (omega arith)) in
-        let n = byte-spelled (c ∷ ds) (recordCount (digitBytes ds) + 5) (omega arith) digits 0 (omega arith) in
+        let found : digitsIn (digitsDue ds) ds ≡ digitsDue ds = eqb-true _ _ q in
+        let digits = behind c ds (λ i l. run (digitsDue ds) ds .digits i (omega arith)) in
+        let n = due-is ds (digits 1 (omega arith) (omega arith)) (digits 2 (omega arith) (omega arith)) in
         (record { colon = eqb-true c 0x3A p; digits = digits; counted = omega arith }, cc)
 
 -- and a record is read as whole
@@ -152,7 +179,7 @@ pub record-whole : (line : List ℕ) → IsRecord line → recordOf line ≡ Who
 unfolding recordOf digitsWhole
 record-whole [] r = absurd (omega (arith, r .colon))
 record-whole (c ∷ ds) r =
-    let n = byte-spelled (c ∷ ds) (lineCount (c ∷ ds) + 5) (r .counted) (r .digits) 0 (omega arith) in
+    let n = due-is ds (r .digits 1 (omega arith) (omega (arith, r .counted))) (r .digits 2 (omega arith) (omega (arith, r .counted))) in
     let due : length ds ≡ digitsDue ds = omega (arith, r .counted) in
     let found = digits-found (digitsDue ds) ds (omega arith) (λ i l. r .digits (suc i) (omega arith) (omega arith)) in
     rw (eq-eqb c 0x3A (r .colon), eq-eqb _ _ found, eq-eqb _ _ due)

@@ -19,14 +19,15 @@ use Rattle.hex.specs.declared.record.State.{State}
 use Rattle.hex.specs.declared.record.Found.{Found}
 use Rattle.hex.specs.declared.record.Found.the-variants.{Fault, Data, Upper, End, Other}
 use Rattle.hex.specs.Spell.{lineBytes}
-use Rattle.hex.specs.Record.{Spelled, Whole, Broken, recordCount, recordAddress, recordType, recordUpper, recordData, recordOf, total, inBank}
-use Rattle.hex.specs.Record.{dataAt, typed, foundOf}
+use Rattle.hex.specs.Record.{Spelled, Whole, Broken, recordCount, recordAddress, recordType, recordUpper, recordData, recordOf, total}
+use Rattle.hex.specs.Record.{recordChecksumPlace, colonPlace, inBank, dataAt, typed, foundOf}
 use Rattle.hex.specs.Read.{stateAfter, atStart, kindNumber}
-use Rattle.hex.specs.Meaning.{lineCount, lineAddress, lineType, lineData, lineUpper, sumTo, IsRecord, AddsUp, GoodType}
+use Rattle.hex.specs.Meaning.{lineCount, lineAddress, lineType, lineData, lineUpper, sumTo, IsRecord, AddsUp, checksumPlace, GoodType}
 use Rattle.hex.specs.Meaning.{data-record, end-record, upper-record, start-record}
 use Rattle.hex.specs.Meaning.{lineAt, upperAt, startAt, endAt, HasByte, InBank, AfterEarlier, NotEnded, Keeps, Breaks}
 use Rattle.hex.specs.Meaning.{behind-end, no-record, other-sum, other-type, outside, below-earlier}
 use Rattle.hex.proofs.Records.{whole-record, record-whole, record-length, byte-is}
+use Rattle.hex.proofs.Wrong.{goes-wrong, wrong-broken}
 use Rattle.hex.proofs.Says.{in-bank, found-over, found-1, found-2, found-typed, typed-data, typed-field, typed-end, typed-upper, typed-other, typed-bad}
 
 -- THE BYTES OF A RECORD, as the rules name them
@@ -163,8 +164,10 @@ module _ (base size : ℕ) (ls : List (List ℕ)) (i : ℕ) (s : State) (state :
   found = foundOf base size s line
 
   module _ (n : NotEnded ls i) (r : IsRecord line) where
-    found-sum : (AddsUp line → ⊥) → found ≡ Fault H2
-    found-sum a = found-2 base size s line (still-open state n) r (λ z. a (ap (λ (t : ℕ). t % 256) (sym (sum-is line r)) ∙ z))
+    found-sum : (AddsUp line → ⊥) → found ≡ Fault H2 (checksumPlace line)
+    found-sum a =
+        let e : recordChecksumPlace (lineBytes line) ≡ checksumPlace line = let c = count-is line r in omega arith in
+        found-2 base size s line (still-open state n) r (λ z. a (ap (λ (t : ℕ). t % 256) (sym (sum-is line r)) ∙ z)) ∙ ap (Fault H2) e
 
     module _ (a : AddsUp line) where
       found-is : found ≡ typed base size (upperAt ls i) (s .last) (lineBytes line)
@@ -189,7 +192,7 @@ module _ (base size : ℕ) (ls : List (List ℕ)) (i : ℕ) (s : State) (state :
         in-so : inBank base size (startAt ls i) (lineCount line) ≡ true → InBank base size ls i
         in-so e j b = let l = in-bank base size (startAt ls i) (lineCount line) e in (omega arith, omega (arith, b .1))
 
-        found-4 : (InBank base size ls i → ⊥) → found ≡ Fault H4
+        found-4 : (InBank base size ls i → ⊥) → found ≡ Fault H4 colonPlace
         unfolding dataAt
         found-4 x = found-data (h .0) ∙ rw (ne-eqb (lineCount line) 0 some, not-so _ (λ e. x (in-so e)))
 
@@ -197,7 +200,7 @@ module _ (base size : ℕ) (ls : List (List ℕ)) (i : ℕ) (s : State) (state :
           inside : inBank base size (startAt ls i) (lineCount line) ≡ true
           inside = in-bank-so base size (startAt ls i) (lineCount line) (h .1) (λ j l. b j (h .0, l))
 
-          found-5 : (AfterEarlier ls i → ⊥) → found ≡ Fault H5
+          found-5 : (AfterEarlier ls i → ⊥) → found ≡ Fault H5 colonPlace
           unfolding dataAt
           found-5 x =
               found-data (h .0)
@@ -223,10 +226,10 @@ module _ (base size : ℕ) (ls : List (List ℕ)) (i : ℕ) (s : State) (state :
         found-start : lineType line ≡ 5 → lineCount line ≡ 4 → lineAddress line ≡ 0 → found ≡ Other
         found-start e f z = found-is ∙ typed-other _ _ _ _ _ (sym (address-is line r)) other-typed z (type-is line r ∙ e) (count-is line r ∙ f)
 
-        found-3 : (GoodType line → ⊥) → found ≡ Fault H3
+        found-3 : (GoodType line → ⊥) → found ≡ Fault H3 colonPlace
         found-3 g = by (ℕ-discrete (lineAddress line) 0)
           where
-            by : Dec (lineAddress line ≡ 0) → found ≡ Fault H3
+            by : Dec (lineAddress line ≡ 0) → found ≡ Fault H3 colonPlace
             by (no z) = found-is ∙ typed-field _ _ _ _ _ (sym (address-is line r)) other-typed z
             by (yes z) =
                 found-is
@@ -249,7 +252,7 @@ has-byte? ls i = both? (ℕ-discrete (lineType (lineAt ls i)) 0) (decLt 0 (lineC
 -- whether a line keeps every rule, or breaks a first one
 pub data Judged (base size : ℕ) (ls : List (List ℕ)) (i : ℕ) : Type 0 where
   kept : Keeps base size ls i → Judged base size ls i
-  broken : (k : ℕ) → Breaks base size ls i k → Judged base size ls i
+  broken : (k byte : ℕ) → Breaks base size ls i k byte → Judged base size ls i
 
 -- a line without data keeps H4 and H5
 pub no-byte : (ls : List (List ℕ)) (i : ℕ) → (HasByte ls i 0 → ⊥) → (j : ℕ) → HasByte ls i j → ⊥
@@ -278,27 +281,27 @@ module _ (base size : ℕ) (ls : List (List ℕ)) (i : ℕ) (s : State) (state :
           (other-line (λ b. omega (arith, b .0)) (λ z. omega arith) (λ z. omega arith))
 
   -- and one that breaks one has that fault
-  pub record Faulted (k : ℕ) : Type 0 where
+  pub record Faulted (k byte : ℕ) : Type 0 where
     pub kind : Kind
-    pub is : foundOf base size s (lineAt ls i) ≡ Fault kind
+    pub is : foundOf base size s (lineAt ls i) ≡ Fault kind byte
     pub numbered : kindNumber kind ≡ k
 
-  pub breaks-faulted : {k : ℕ} → Breaks base size ls i k → Faulted k
+  pub breaks-faulted : {k byte : ℕ} → Breaks base size ls i k byte → Faulted k byte
   breaks-faulted (behind-end m h t) =
       record { kind = H6; is = found-over base size s (lineAt ls i) (seen state m h t); numbered = refl }
-  breaks-faulted (no-record n r) =
-      record { kind = H1; is = found-1 base size s (lineAt ls i) (still-open state n) r; numbered = refl }
+  breaks-faulted (no-record n r byte w) =
+      record { kind = H1; is = found-1 base size s (lineAt ls i) (still-open state n) (wrong-broken (lineAt ls i) r w); numbered = refl }
   breaks-faulted (other-sum n r a) = record { kind = H2; is = found-sum base size ls i s state n r a; numbered = refl }
   breaks-faulted (other-type n r a t) =
       record { kind = H3; is = found-3 base size ls i s state n r a (λ z. t (data-record z)) t; numbered = refl }
   breaks-faulted (outside n r a t x) = record { kind = H4; is = by (has-byte? ls i); numbered = refl }
     where
-      by : Dec (HasByte ls i 0) → foundOf base size s (lineAt ls i) ≡ Fault H4
+      by : Dec (HasByte ls i 0) → foundOf base size s (lineAt ls i) ≡ Fault H4 colonPlace
       by (yes h) = found-4 base size ls i s state n r a h x
       by (no h) = absurd (x (λ j b. absurd (no-byte ls i h j b)))
   breaks-faulted (below-earlier n r a t b x) = record { kind = H5; is = by (has-byte? ls i); numbered = refl }
     where
-      by : Dec (HasByte ls i 0) → foundOf base size s (lineAt ls i) ≡ Fault H5
+      by : Dec (HasByte ls i 0) → foundOf base size s (lineAt ls i) ≡ Fault H5 colonPlace
       by (yes h) = found-5 base size ls i s state n r a h b x
       by (no h) = absurd (x (λ g. absurd (h g)))
 
@@ -313,7 +316,7 @@ module _ (base size : ℕ) (ls : List (List ℕ)) (i : ℕ) (s : State) (state :
         by : Dec (HasByte ls i 0) → Dec (s .last ≤ startAt ls i) → Judged base size ls i
         by (no h) l = keeps (λ g. absurd (h g))
         by (yes h) (yes l) = keeps (after-so state l)
-        by (yes h) (no l) = broken 5 (below-earlier n r a t b (λ x. l (so-after state h x)))
+        by (yes h) (no l) = broken 5 1 (below-earlier n r a t b (λ x. l (so-after state h x)))
 
     judge-4 : Judged base size ls i
     judge-4 = by (has-byte? ls i) (inBank base size (startAt ls i) (lineCount (lineAt ls i))) refl
@@ -321,22 +324,22 @@ module _ (base size : ℕ) (ls : List (List ℕ)) (i : ℕ) (s : State) (state :
         by : Dec (HasByte ls i 0) → (b : Bool) → inBank base size (startAt ls i) (lineCount (lineAt ls i)) ≡ b → Judged base size ls i
         by (no h) b e = judge-5 (λ j x. absurd (no-byte ls i h j x))
         by (yes h) true e = judge-5 (in-so base size ls i s state n r a h e)
-        by (yes h) false e = broken 4 (outside n r a t (λ x. false≢true (sym e ∙ inside base size ls i s state n r a h x)))
+        by (yes h) false e = broken 4 1 (outside n r a t (λ x. false≢true (sym e ∙ inside base size ls i s state n r a h x)))
 
   judge-1 : NotEnded ls i → Judged base size ls i
   judge-1 n = by (is-record? (lineAt ls i)) (ℕ-discrete (sumTo (lineAt ls i) (lineCount (lineAt ls i) + 5) % 256) 0) (good-type? (lineAt ls i))
     where
       by : Dec (IsRecord (lineAt ls i)) → Dec (AddsUp (lineAt ls i)) → Dec (GoodType (lineAt ls i)) → Judged base size ls i
-      by (no r) a t = broken 1 (no-record n r)
-      by (yes r) (no a) t = broken 2 (other-sum n r a)
-      by (yes r) (yes a) (no t) = broken 3 (other-type n r a t)
+      by (no r) a t = let w = goes-wrong (lineAt ls i) r in broken 1 (w .place) (no-record n r (w .place) (w .wrong))
+      by (yes r) (no a) t = broken 2 (checksumPlace (lineAt ls i)) (other-sum n r a)
+      by (yes r) (yes a) (no t) = broken 3 1 (other-type n r a t)
       by (yes r) (yes a) (yes t) = judge-4 n r a t
 
   pub judge : Judged base size ls i
   judge = by (s .over) refl
     where
       by : (o : Bool) → s .over ≡ o → Judged base size ls i
-      by true o = let e = state .is-over o in broken 6 (behind-end (e .end) (e .before) (e .is-end))
+      by true o = let e = state .is-over o in broken 6 1 (behind-end (e .end) (e .before) (e .is-end))
       by false o = judge-1 (state .not-over o)
 
 -- THE STATE BEHIND A LINE THAT KEEPS THE RULES

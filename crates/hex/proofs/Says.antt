@@ -3,7 +3,7 @@
 use mathlib.Core.Path.{_≡_, refl, sym, ap, _∙_}
 use mathlib.Core.List.{List}
 use mathlib.Core.Bool.{Bool, true, false, _&&_}
-use Prim.Native.Nat.{ℕ, _+_, _*_, _/_, _%_, _<_, _≤_}
+use Prim.Native.Nat.{ℕ, _+_, _-_, _*_, _/_, _%_, _<_, _≤_}
 use native.Mathlib.Omega.{arith}
 use lib.Dec.{eqb, leb}
 use lib.ListN.{length, take, length-take, length-drop}
@@ -18,32 +18,26 @@ use Rattle.hex.specs.declared.record.State.{State}
 use Rattle.hex.specs.declared.record.Found.{Found}
 use Rattle.hex.specs.declared.record.Found.the-variants.{Fault, Data, Upper, End, Other}
 use Rattle.hex.specs.Spell.{lineBytes}
-use Rattle.hex.specs.Record.{Spelled, Whole, Broken, recordCount, recordAddress, recordType, recordUpper, recordData, recordOf, total, inBank, dataAt, typed, says, foundOf}
+use Rattle.hex.specs.Record.{Spelled, Whole, Broken, recordCount, recordAddress, recordType, recordUpper, recordData, recordOf, total}
+use Rattle.hex.specs.Record.{recordChecksumPlace, colonPlace, inBank, dataAt, typed, foundOf}
 use Rattle.hex.specs.Meaning.{IsRecord}
-use Rattle.hex.specs.Places.{Summed, Looked}
+use Rattle.hex.specs.Places.{Summed, Placed, Looked}
 use Rattle.hex.proofs.Records.{whole-record, record-whole, record-half, record-length, byte-is, byte-small, sum-some, sum-record, front-is, front-data}
 
 -- BY THE STATE, THE RECORD AND ITS SUM
 
 module _ (base size : ℕ) (s : State) (line : List ℕ) where
-  pub found-over : s .over ≡ true → foundOf base size s line ≡ Fault H6
+  pub found-over : s .over ≡ true → foundOf base size s line ≡ Fault H6 1
   unfolding foundOf
   found-over o = rw o
 
-  says-1 : (IsRecord line → ⊥) → says base size s (recordOf line) ≡ Fault H1
-  says-1 n = by (recordOf line) refl
-    where
-      by : (r : Spelled) → recordOf line ≡ r → says base size s r ≡ Fault H1
-      by (Whole bytes) e = absurd (n (whole-record line bytes e .0))
-      by (Broken place) e = refl
-
   module _ (o : s .over ≡ false) where
-    pub found-1 : (IsRecord line → ⊥) → foundOf base size s line ≡ Fault H1
+    pub found-1 : {place : ℕ} → recordOf line ≡ Broken place → foundOf base size s line ≡ Fault H1 place
     unfolding foundOf
-    found-1 n = rw (says-1 n, o)
+    found-1 e = rw (o, e)
 
     module _ (r : IsRecord line) where
-      pub found-2 : (total (lineBytes line) % 256 ≡ 0 → ⊥) → foundOf base size s line ≡ Fault H2
+      pub found-2 : (total (lineBytes line) % 256 ≡ 0 → ⊥) → foundOf base size s line ≡ Fault H2 (recordChecksumPlace (lineBytes line))
       unfolding foundOf
       found-2 n = rw (o, record-whole line r, ne-eqb (total (lineBytes line) % 256) 0 n)
 
@@ -71,7 +65,7 @@ module _ (base size upper last : ℕ) (r : List ℕ) {a : ℕ} (ea : a ≡ recor
   typed-data z = simp (eq-eqb (recordType r) 0 z, ea)
 
   module _ (nz : recordType r ≡ 0 → ⊥) where
-    pub typed-field : (a ≡ 0 → ⊥) → typed base size upper last r ≡ Fault H3
+    pub typed-field : (a ≡ 0 → ⊥) → typed base size upper last r ≡ Fault H3 colonPlace
     unfolding typed
     typed-field n = simp (ne-eqb (recordType r) 0 nz, ne-eqb (recordAddress r) 0 (λ z. n (ea ∙ z)))
 
@@ -112,7 +106,7 @@ module _ (base size upper last : ℕ) (r : List ℕ) {a : ℕ} (ea : a ≡ recor
 
       pub typed-bad :
           (recordType r ≡ 1 → recordCount r ≡ 0 → ⊥) → (recordType r ≡ 4 → recordCount r ≡ 2 → ⊥) → (recordType r ≡ 5 → recordCount r ≡ 4 → ⊥)
-          → typed base size upper last r ≡ Fault H3
+          → typed base size upper last r ≡ Fault H3 colonPlace
       unfolding typed
       typed-bad x y z =
           simp (
@@ -131,7 +125,7 @@ in-bank base size start n e =
     (leb-true base start low, leb-true (start + n) (base + size) high)
 
 -- what holds of each thing that a record may say holds of what it says
-module _ (P : Found → Type 0) (faulty : (k : Kind) → P (Fault k)) (other : P Other) (base size last : ℕ) where
+module _ (P : Found → Type 0) (faulty : (k : Kind) → P (Fault k colonPlace)) (other : P Other) (base size last : ℕ) where
   data-by :
       (start n : ℕ) → (base ≤ start → start + n ≤ base + size → last ≤ start → P (Data start n)) → P (dataAt base size last start n)
   unfolding dataAt
@@ -163,7 +157,7 @@ pub record DataIn (base size last : ℕ) (line : List ℕ) (start n : ℕ) : Typ
   pub whole : length (recordData n (lineBytes line)) ≡ n
 
 abbrev Told : ℕ → ℕ → ℕ → List ℕ → Found → Type 0
-Told base size last line (Fault k) = Unit {0}
+Told base size last line (Fault k byte) = Unit {0}
 Told base size last line (Data start n) = DataIn base size last line start n
 Told base size last line (Upper u) = u < 65536
 Told base size last line End = Unit {0}
@@ -186,7 +180,7 @@ told base size s line = by (s .over) refl (recordOf line) refl (eqb (total (line
         (o : Bool) → s .over ≡ o → (q : Spelled) → recordOf line ≡ q → (z : Bool) → eqb (total (lineBytes line) % 256) 0 ≡ z
         → Told base size (s .last) line (foundOf base size s line)
     by true o q e z f = rw (found-over base size s line o) tt
-    by false o (Broken place) e z f = rw (found-1 base size s line o (λ r. let x = sym e ∙ record-whole line r in no-way (cc))) tt
+    by false o (Broken place) e z f = rw (found-1 base size s line o e) tt
     by false o (Whole bytes) e false f = rw (found-2 base size s line o (whole-record line bytes e .0) (eqb-false _ 0 f)) tt
     by false o (Whole bytes) e true f =
         let r = whole-record line bytes e .0 in
@@ -202,15 +196,19 @@ upper-in base size s line u e = rw e at (told base size s line)
 -- WHAT WAS LOOKED AT, CASE BY CASE
 
 module _ (line : List ℕ) (base size : ℕ) (s : State) (held : List ℕ) where
-  looked-fault : (f : Kind) → foundOf base size s line ≡ Fault f → Looked line base size s held (Fault f)
-  looked-fault f e = record { is = sym e; holds = λ start n z. no-way (cc) }
+  looked-fault : (f : Kind) (byte : ℕ) → foundOf base size s line ≡ Fault f byte → Looked line base size s held (Fault f byte)
+  looked-fault f byte e = record { is = sym e; holds = λ start n z. no-way (cc) }
 
-  pub looked-over : s .over ≡ true → Looked line base size s held (Fault H6)
-  looked-over o = looked-fault H6 (found-over base size s line o)
+  pub looked-over : s .over ≡ true → Looked line base size s held (Fault H6 1)
+  looked-over o = looked-fault H6 1 (found-over base size s line o)
 
   module _ (o : s .over ≡ false) {before : List ℕ} {sum : ℕ} (summed : Summed line before held sum) where
-    pub looked-1 : sum ≡ 256 → Looked line base size s held (Fault H1)
-    looked-1 z = looked-fault H1 (found-1 base size s line o (λ r. sum-record line r (sym (summed .sum) ∙ z)))
+    pub looked-1 : sum ≡ 256 → {byte : ℕ} → Placed line byte → Looked line base size s held (Fault H1 byte)
+    looked-1 z {byte} placed = by (recordOf line) refl
+      where
+        by : (q : Spelled) → recordOf line ≡ q → Looked line base size s held (Fault H1 byte)
+        by (Whole bytes) e = absurd (sum-record line (whole-record line bytes e .0) (sym (summed .sum) ∙ z))
+        by (Broken place) e = looked-fault H1 byte (found-1 base size s line o e ∙ ap (Fault H1) (sym (placed place e)))
 
     module _ (some : sum ≡ 256 → ⊥) where
       is-record : IsRecord line
@@ -219,8 +217,14 @@ module _ (line : List ℕ) (base size : ℕ) (s : State) (held : List ℕ) where
       sum-is : sum ≡ total (lineBytes line) % 256
       sum-is = summed .sum ∙ rw (record-whole line is-record)
 
-      pub looked-2 : (sum ≡ 0 → ⊥) → Looked line base size s held (Fault H2)
-      looked-2 n = looked-fault H2 (found-2 base size s line o is-record (λ z. n (sum-is ∙ z)))
+      pub looked-some : 1 ≤ length line
+      looked-some = omega (arith, is-record .counted)
+
+      pub looked-2 : (sum ≡ 0 → ⊥) → Looked line base size s held (Fault H2 (length line - 1))
+      looked-2 n =
+          let c = byte-is line is-record 0 (omega arith) in
+          let last : recordChecksumPlace (lineBytes line) ≡ length line - 1 = omega (arith, is-record .counted) in
+          looked-fault H2 (length line - 1) (found-2 base size s line o is-record (λ z. n (sum-is ∙ z)) ∙ ap (Fault H2) last)
 
       module _ (room : 260 ≤ length before) where
         put : held ≡ sets before 0 (lineBytes line)

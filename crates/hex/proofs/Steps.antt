@@ -33,7 +33,7 @@ use Rattle.hex.proofs.Says.{upper-in, looked-in}
 -- A LINE TAKEN, by what it says
 
 module _ {line : List ℕ} {base : ℕ} {s : State} {image held : List ℕ} where
-  pub took-fault : {k : Kind} → Looked line base (length image) s held (Fault k) → Took base s line image image (Stop k)
+  pub took-fault : {k : Kind} {byte : ℕ} → Looked line base (length image) s held (Fault k byte) → Took base s line image image (Stop k byte)
   took-fault l = record { is = rw (sym (l .is)); image = rw (sym (l .is)) }
 
   pub took-data :
@@ -65,7 +65,7 @@ pub step-upper : (base size : ℕ) (s q : State) (line : List ℕ) → s .upper 
 step-upper base size s q line u e = by (foundOf base size s line) refl e
   where
     by : (d : Found) → foundOf base size s line ≡ d → stepBy d s ≡ On q → q .upper < 65536
-    by (Fault k) f z = no-way (cc)
+    by (Fault k byte) f z = no-way (cc)
     by (Data start n) f z = let g : stateAfter (Data start n) s ≡ q = cc in rw (sym g) u
     by (Upper x) f z = let g : stateAfter (Upper x) s ≡ q = cc in rw (sym g) (upper-in base size s line x f)
     by End f z = let g : stateAfter End s ≡ q = cc in rw (sym g) u
@@ -76,29 +76,30 @@ step-upper base size s q line u e = by (foundOf base size s line) refl e
 module _ (base size : ℕ) (s : State) (k : ℕ) (image : List ℕ) where
   go-on :
       (l : List ℕ) (ls : List (List ℕ)) (q : State) (d : Found) → stepBy d s ≡ On q
-      → goes d (λ f. stoppedAt f k image) (readLines base size (stateAfter d s) (k + 1) (imageAfter base l d image) ls)
+      → goes d (λ f byte. stoppedAt f k byte image) (readLines base size (stateAfter d s) (k + 1) (imageAfter base l d image) ls)
       ≡ readLines base size q (k + 1) (imageAfter base l d image) ls
-  go-on l ls q (Fault x) e = no-way (cc)
+  go-on l ls q (Fault x byte) e = no-way (cc)
   go-on l ls q (Data start n) e = let f : stateAfter (Data start n) s ≡ q = cc in rw f
   go-on l ls q (Upper u) e = let f : stateAfter (Upper u) s ≡ q = cc in rw f
   go-on l ls q End e = let f : stateAfter End s ≡ q = cc in rw f
   go-on l ls q Other e = let f : s ≡ q = cc in rw f
 
   go-stop :
-      (rest : LinesRead) (x : Kind) (d : Found) → stepBy d s ≡ Stop x → goes d (λ f. stoppedAt f k image) rest ≡ stoppedAt x k image
-  go-stop rest x (Fault y) e = let f : y ≡ x = cc in rw f
-  go-stop rest x (Data start n) e = no-way (cc)
-  go-stop rest x (Upper u) e = no-way (cc)
-  go-stop rest x End e = no-way (cc)
-  go-stop rest x Other e = no-way (cc)
+      (rest : LinesRead) (x : Kind) (at : ℕ) (d : Found) → stepBy d s ≡ Stop x at
+      → goes d (λ f byte. stoppedAt f k byte image) rest ≡ stoppedAt x k at image
+  go-stop rest x at (Fault y byte) e = let f : y ≡ x = cc in let b : byte ≡ at = cc in rw (f, b)
+  go-stop rest x at (Data start n) e = no-way (cc)
+  go-stop rest x at (Upper u) e = no-way (cc)
+  go-stop rest x at End e = no-way (cc)
+  go-stop rest x at Other e = no-way (cc)
 
   -- a fault leaves the image
-  stop-image : (l : List ℕ) (x : Kind) (d : Found) → stepBy d s ≡ Stop x → imageAfter base l d image ≡ image
-  stop-image l x (Fault y) e = refl
-  stop-image l x (Data start n) e = no-way (cc)
-  stop-image l x (Upper u) e = no-way (cc)
-  stop-image l x End e = no-way (cc)
-  stop-image l x Other e = no-way (cc)
+  stop-image : (l : List ℕ) (x : Kind) (at : ℕ) (d : Found) → stepBy d s ≡ Stop x at → imageAfter base l d image ≡ image
+  stop-image l x at (Fault y byte) e = refl
+  stop-image l x at (Data start n) e = no-way (cc)
+  stop-image l x at (Upper u) e = no-way (cc)
+  stop-image l x at End e = no-way (cc)
+  stop-image l x at Other e = no-way (cc)
 
   module _ {line : List ℕ} {ls rest : List (List ℕ)} (here : ls ≡ line ∷ rest) where
     pub read-on :
@@ -108,15 +109,16 @@ module _ (base size : ℕ) (s : State) (k : ℕ) (image : List ℕ) where
     read-on q e = rw here (go-on line rest q (foundOf base size s line) e)
 
     pub read-stop :
-        {d : LinesRead} {after : List ℕ} (x : Kind) → stepBy (foundOf base size s line) s ≡ Stop x → d ≡ readLines base size s k image ls
-        → after ≡ imageAfter base line (foundOf base size s line) image → Came d (Stopped (record { kind = x; line = k })) after
+        {d : LinesRead} {after : List ℕ} (x : Kind) (at : ℕ) → stepBy (foundOf base size s line) s ≡ Stop x at
+        → d ≡ readLines base size s k image ls
+        → after ≡ imageAfter base line (foundOf base size s line) image → Came d (Stopped (record { kind = x; line = k; byte = at })) after
     unfolding readLines
-    read-stop x e f i =
-        let stop : readLines base size s k image ls ≡ stoppedAt x k image = rw here (go-stop _ x (foundOf base size s line) e) in
+    read-stop x at e f i =
+        let stop : readLines base size s k image ls ≡ stoppedAt x k at image = rw here (go-stop _ x at (foundOf base size s line) e) in
         let g = f ∙ stop in
         record {
           outcome = sym (ap (λ (d : LinesRead). d .outcome) g);
-          image-is = i ∙ stop-image line x (foundOf base size s line) e ∙ sym (ap (λ (d : LinesRead). d .image) g);
+          image-is = i ∙ stop-image line x at (foundOf base size s line) e ∙ sym (ap (λ (d : LinesRead). d .image) g);
         }
 
   -- nothing is left: accepted, or H6

@@ -53,6 +53,10 @@ pub record Summed (line before after : List ℕ) (r : ℕ) : Type 0 where
   pub sum : r ≡ sumOf (recordOf line)
   pub put : (bytes : List ℕ) → recordOf line ≡ Whole bytes → after ≡ sets before 0 bytes
 
+-- where a line that is no record goes wrong
+abbrev pub Placed : List ℕ → ℕ → Type 0
+Placed line r = (place : ℕ) → recordOf line ≡ Broken place → r ≡ place
+
 -- what a line says; where it has data, they lie in the record
 pub record Looked (line : List ℕ) (base size : ℕ) (s : State) (held : List ℕ) (r : Found) : Type 0 where
   pub is : r ≡ foundOf base size s line
@@ -65,7 +69,7 @@ pub record LookFits (base size : ℕ) (s : State) : Type 0 where
 
 -- A LINE TAKEN
 abbrev pub stepBy : Found → State → Step
-stepBy (Fault k) s = Stop k
+stepBy (Fault k byte) s = Stop k byte
 stepBy (Data start n) s = On (stateAfter (Data start n) s)
 stepBy (Upper u) s = On (stateAfter (Upper u) s)
 stepBy End s = On (stateAfter End s)

@@ -25,7 +25,7 @@ use Rattle.hex.specs.Record.{recordData, foundOf}
 
 -- WHAT A LINE CHANGES: the upper half, the end of the data, whether the end record was seen
 abbrev pub stateAfter : Found → State → State
-stateAfter (Fault k) s = s
+stateAfter (Fault k byte) s = s
 stateAfter (Data start n) s = record { upper = s .upper; last = start + n; over = s .over }
 stateAfter (Upper u) s = record { upper = u; last = s .last; over = s .over }
 stateAfter End s = record { upper = s .upper; last = s .last; over = true }
@@ -33,7 +33,7 @@ stateAfter Other s = s
 
 -- and the image: the data go to their addresses
 abbrev pub imageAfter : ℕ → List ℕ → Found → List ℕ → List ℕ
-imageAfter base line (Fault k) image = image
+imageAfter base line (Fault k byte) image = image
 imageAfter base line (Data start n) image = sets image (start - base) (recordData n (lineBytes line))
 imageAfter base line (Upper u) image = image
 imageAfter base line End image = image
@@ -44,15 +44,15 @@ pub record LinesRead : Type 0 where
   pub outcome : Outcome
   pub image : List ℕ
 
-abbrev pub stoppedAt : Kind → ℕ → List ℕ → LinesRead
-stoppedAt k line image = record { outcome = Stopped (record { kind = k; line = line }); image = image }
+abbrev pub stoppedAt : Kind → ℕ → ℕ → List ℕ → LinesRead
+stoppedAt k line byte image = record { outcome = Stopped (record { kind = k; line = line; byte = byte }); image = image }
 
--- behind the last line: no end record, told with the number "one past the last"
+-- behind the last line: no end record, told with the number "one past the last" and byte 1
 abbrev pub afterLast : State → ℕ → Outcome
-afterLast s line = cond (s .over) Through (Stopped (record { kind = H6; line = line }))
+afterLast s line = cond (s .over) Through (Stopped (record { kind = H6; line = line; byte = 1 }))
 
-abbrev pub goes : Found → (Kind → LinesRead) → LinesRead → LinesRead
-goes (Fault k) stop d = stop k
+abbrev pub goes : Found → (Kind → ℕ → LinesRead) → LinesRead → LinesRead
+goes (Fault k byte) stop d = stop k byte
 goes (Data start n) stop d = d
 goes (Upper u) stop d = d
 goes End stop d = d
@@ -62,7 +62,7 @@ goes Other stop d = d
 unfoldable pub readLines : ℕ → ℕ → State → ℕ → List ℕ → List (List ℕ) → LinesRead
 readLines base size s k image [] = record { outcome = afterLast s k; image = image }
 readLines base size s k image (l ∷ ls) =
-    goes (foundOf base size s l) (λ f. stoppedAt f k image)
+    goes (foundOf base size s l) (λ f byte. stoppedAt f k byte image)
     (readLines base size (stateAfter (foundOf base size s l) s) (k + 1) (imageAfter base l (foundOf base size s l) image) ls)
 
 -- the upper half is 0 at first
@@ -107,7 +107,7 @@ KindNumber·Is kind r = r ≡ kindNumber kind
 abbrev pub answerSaid : Answer → Said
 answerSaid BadN = number 3
 answerSaid BadLength = number 2
-answerSaid (Refused r) = fault (kindNumber (r .kind)) (r .line)
+answerSaid (Refused r) = fault (kindNumber (r .kind)) (r .line) (r .byte)
 answerSaid Accepted = accepted
 
 abbrev pub AnswerNumber·Is : Answer → ℕ → Type 0
@@ -115,7 +115,7 @@ AnswerNumber·Is answer r = r ≡ code (answerSaid answer)
 
 -- what is said of a text, in their order: 3, 2, then the fault of the first faulty line
 abbrev pub linesSay : Outcome → Said
-linesSay (Stopped r) = fault (kindNumber (r .kind)) (r .line)
+linesSay (Stopped r) = fault (kindNumber (r .kind)) (r .line) (r .byte)
 linesSay Through = accepted
 
 unfoldable pub readSays : List ℕ → Bank → ℕ → List ℕ → Said

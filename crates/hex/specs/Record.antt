@@ -10,7 +10,7 @@ use Rattle.hex.specs.declared.record.State.{State}
 use Rattle.hex.specs.declared.record.Found.{Found}
 use Rattle.hex.specs.declared.record.Found.the-variants.{Fault, Data, Upper, End, Other}
 use Rattle.digits.specs.Digit.{isDigit}
-use Rattle.hex.specs.Spell.{digitBytes}
+use Rattle.hex.specs.Spell.{byteOf, digitBytes}
 
 -- A LINE, READ FROM LEFT TO RIGHT: a whole record's bytes, or the place, counted from 1, of the first byte that does not belong. A line
 -- that stops early has that place one past its end.
@@ -43,7 +43,7 @@ recordData n r = take n (drop 4 r)
 
 -- the digits "of the counted length" behind the colon (a count that isn't spelled says 256, and the digits stop within it)
 abbrev pub digitsDue : List ℕ → ℕ
-digitsDue digits = 2 * (recordCount (digitBytes digits) + 5)
+digitsDue digits = 2 * (byteOf (getD digits 0 0) (getD digits 1 0) + 5)
 
 -- all that are due, and nothing behind them
 unfoldable pub digitsWhole : List ℕ → Bool
@@ -61,6 +61,14 @@ unfoldable pub total : List ℕ → ℕ
 total [] = 0
 total (b ∷ bs) = b + total bs
 
+-- THE PLACE OF A FAULT in its line, counted from 1 (02 §1). That of H1 is the one above; of H2 "the first digit of the checksum", behind the colon
+-- and two digits for each byte before it; of H3 to H5 "the colon"; of H6 "it is 1"
+abbrev pub recordChecksumPlace : List ℕ → ℕ
+recordChecksumPlace r = 10 + 2 * recordCount r
+
+abbrev pub colonPlace : ℕ
+colonPlace = 1
+
 -- WHAT A RECORD SAYS to a bank of `size` bytes from address `base` on. Addresses are plain numbers: they "run on past offset 0xFFFF",
 -- nothing wraps, and a carry stays out of the upper half.
 unfoldable pub inBank : ℕ → ℕ → ℕ → ℕ → Bool
@@ -70,7 +78,7 @@ inBank base size start n = leb base start && leb (start + n) (base + size)
 unfoldable pub dataAt : ℕ → ℕ → ℕ → ℕ → ℕ → Found
 dataAt base size last start n =
     cond (eqb n 0) Other
-    (cond (inBank base size start n) (cond (leb last start) (Data start n) (Fault H5)) (Fault H4))
+    (cond (inBank base size start n) (cond (leb last start) (Data start n) (Fault H5 colonPlace)) (Fault H4 colonPlace))
 
 -- by its type; `upper` and `last` come from the lines before
 unfoldable pub typed : ℕ → ℕ → ℕ → ℕ → List ℕ → Found
@@ -79,14 +87,14 @@ typed base size upper last r =
     (cond (eqb (recordAddress r) 0)
     (cond (eqb (recordType r) 1 && eqb (recordCount r) 0) End
     (cond (eqb (recordType r) 4 && eqb (recordCount r) 2) (Upper (recordUpper r))
-    (cond (eqb (recordType r) 5 && eqb (recordCount r) 4) Other (Fault H3))))
-    (Fault H3))
+    (cond (eqb (recordType r) 5 && eqb (recordCount r) 4) Other (Fault H3 colonPlace))))
+    (Fault H3 colonPlace))
 
 -- H2: "add to 0 modulo 256"
 abbrev pub says : ℕ → ℕ → State → Spelled → Found
-says base size s (Whole r) = cond (eqb (total r % 256) 0) (typed base size (s .upper) (s .last) r) (Fault H2)
-says base size s (Broken place) = Fault H1
+says base size s (Whole r) = cond (eqb (total r % 256) 0) (typed base size (s .upper) (s .last) r) (Fault H2 (recordChecksumPlace r))
+says base size s (Broken place) = Fault H1 place
 
 -- what a line says: its first fault, or what it is to change; behind the end record it is H6 "without being read"
 unfoldable pub foundOf : ℕ → ℕ → State → List ℕ → Found
-foundOf base size s line = cond (s .over) (Fault H6) (says base size s (recordOf line))
+foundOf base size s line = cond (s .over) (Fault H6 1) (says base size s (recordOf line))

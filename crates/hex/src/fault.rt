@@ -24,8 +24,9 @@ pub fn kind_number(kind: Kind) -> u8
     }
 }
 
-// The first faulty line, counted from 1, and its fault.
+// The first faulty line, its fault, and the byte in the line at which it stands; line and byte are counted from 1.
 pub struct Refusal {
     pub kind: Kind,
     pub line: usize,
+    pub byte: usize,
 }

@@ -45,7 +45,7 @@ pub enum Outcome {
 
 // What came of a line.
 pub(crate) enum Step {
-    Stop(Kind),
+    Stop(Kind, usize),
     On(State),
 }
 
@@ -57,7 +57,7 @@ fn take_line(line: &[u8], base: usize, state: State, image: &mut [u8]) -> Step
     let mut bytes = [0u8; crate::record::LONGEST];
     let seen = crate::record::look(line, base, image.len(), state, &mut bytes);
     match seen {
-        Found::Fault(kind) => Step::Stop(kind),
+        Found::Fault(kind, byte) => Step::Stop(kind, byte),
         Found::Data { start, n } => {
             buffer::place::put_at(image, start - base, &bytes[4..4 + n]);
             Step::On(State {
@@ -90,6 +90,7 @@ fn finish(state: State, line: usize) -> Outcome
     Outcome::Stopped(Refusal {
         kind: Kind::H6,
         line,
+        byte: 1,
     })
 }
 
@@ -113,7 +114,9 @@ fn read_lines(text: &[u8], base: usize, image: &mut [u8]) -> Outcome
                 let end = l.end;
                 let step = take_line(&text[at..end], base, state, image);
                 match step {
-                    Step::Stop(kind) => return Outcome::Stopped(Refusal { kind, line }),
+                    Step::Stop(kind, byte) => {
+                        return Outcome::Stopped(Refusal { kind, line, byte })
+                    }
                     Step::On(s) => state = s,
                 }
                 at = l.next;

@@ -13,6 +13,9 @@ ghost use Rattle.hex.specs.Places.{bytesAt, SpelledAt, Summed, LookFits,
 // As many bytes as a record has at most: a count of 255, and 5 beside the data.
 pub(crate) const LONGEST: usize = 260;
 
+// The byte of a line that its colon is: there H3 to H5 are told, which are of the whole record.
+const COLON: usize = 1;
+
 // Stands for the sum of what is no record.
 const NO_SUM: usize = 256;
 
@@ -25,7 +28,8 @@ pub struct State {
 
 // What a line says.
 pub enum Found {
-    Fault(Kind),
+    // and the byte, counted from 1, at which it stands
+    Fault(Kind, usize),
     Data { start: usize, n: usize },
     Upper(usize),
     End,
@@ -97,13 +101,13 @@ fn data_at(base: usize, size: usize, last: usize, start: usize, count: usize) ->
         return Found::Other;
     }
     if start < base {
-        return Found::Fault(Kind::H4);
+        return Found::Fault(Kind::H4, COLON);
     }
     if base + size < start + count {
-        return Found::Fault(Kind::H4);
+        return Found::Fault(Kind::H4, COLON);
     }
     if start < last {
-        return Found::Fault(Kind::H5);
+        return Found::Fault(Kind::H5, COLON);
     }
     Found::Data { start, n: count }
 }
@@ -126,42 +130,43 @@ fn typed_at(bytes: &[u8], base: usize, size: usize, state: State) -> Found
         );
     }
     if address != 0 {
-        return Found::Fault(Kind::H3);
+        return Found::Fault(Kind::H3, COLON);
     }
     if kind == 1 {
         if n == 0 {
             return Found::End;
         }
-        return Found::Fault(Kind::H3);
+        return Found::Fault(Kind::H3, COLON);
     }
     if kind == 4 {
         if n == 2 {
             return Found::Upper(number2(bytes, 4) as usize);
         }
-        return Found::Fault(Kind::H3);
+        return Found::Fault(Kind::H3, COLON);
     }
     if kind == 5 {
         if n == 4 {
             return Found::Other;
         }
     }
-    Found::Fault(Kind::H3)
+    Found::Fault(Kind::H3, COLON)
 }
 
-// What a line says; its record's bytes go to the front of `bytes`.
+// What a line says; its record's bytes go to the front of `bytes`. Where a line that is no record goes wrong is looked for only then, so that good
+// text is not read twice. A checksum is a record's last two digits.
 pub(crate) fn look(line: &[u8], base: usize, size: usize, state: State, bytes: &mut [u8]) -> Found
     requires { ⌜ LookFits base size state × (260 ≤ length (now bytes)) ⌝ }
     ensures { λ r. ⌜ Looked (now (line .entry)) base size state (now (bytes .exit)) r ⌝ }
 {
     if state.over {
-        return Found::Fault(Kind::H6);
+        return Found::Fault(Kind::H6, 1);
     }
     let sum = record_sum(line, bytes);
     if sum == NO_SUM {
-        return Found::Fault(Kind::H1);
+        return Found::Fault(Kind::H1, crate::place::place_of(line));
     }
     if sum != 0 {
-        return Found::Fault(Kind::H2);
+        return Found::Fault(Kind::H2, line.len() - 1);
     }
     let k = line.len() / 2;
     typed_at(&bytes[..k], base, size, state)

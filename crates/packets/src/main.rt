@@ -76,7 +76,8 @@ fn list(image: &[u8]) {
 
 fn say_refusal(refusal: Refusal) {
     let kind = refusal.kind;
-    say::refused_line(hex::fault::kind_number(kind) as usize, refusal.line);
+    let number = hex::fault::kind_number(kind) as usize;
+    say::refused_place(number, refusal.line, refusal.byte);
     say::end();
     call::refused();
 }

@@ -112,10 +112,12 @@ pub fn refused(number: usize) {
     decimal(number);
 }
 
-// The same of a hex text: its fault, H1 to H6, and the line.
-pub fn refused_line(fault: usize, line: usize) {
+// The same of a hex text: its fault, H1 to H6, the line, and the byte in it.
+pub fn refused_place(fault: usize, line: usize, byte: usize) {
     text(b"refused H");
     decimal(fault);
     text(b" line ");
     decimal(line);
+    text(b" byte ");
+    decimal(byte);
 }

@@ -50,7 +50,8 @@ pub(crate) fn more(hex_text: &mut [u8], held: Held, fields: &[u8]) -> Answered {
 
 fn say_refusal(refusal: Refusal) {
     let kind = refusal.kind;
-    say::refused_line(hex::fault::kind_number(kind) as usize, refusal.line);
+    let number = hex::fault::kind_number(kind) as usize;
+    say::refused_place(number, refusal.line, refusal.byte);
 }
 
 fn say_read(answer: Answer, image: &[u8]) {

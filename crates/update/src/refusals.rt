@@ -16,7 +16,8 @@ pub(crate) fn number(number: usize) {
 
 pub(crate) fn line(refusal: Refusal) {
     let kind = refusal.kind;
-    say::refused_line(hex::fault::kind_number(kind) as usize, refusal.line);
+    let number = hex::fault::kind_number(kind) as usize;
+    say::refused_place(number, refusal.line, refusal.byte);
     end();
 }
 

@@ -100,7 +100,7 @@ returns-2 c =
     let m = ahead-line (a .text .now) (l .at) _ (sym (c11 .ahead-of .ensures) ∙ (c9 .found .given .1)) in
     let here = lines-here (a .text .now) (l .at) _ _ (m .0) (m .1) in
     let e = rw (v .2) at (sym (k .is) ∙ (c .before .step .given .1)) in
-    read-stop (a .base) (length (a .image .now)) (l .state) (l .line) (l .image) here _ e (v .4) (rw (v .2) at (k .image))
+    read-stop (a .base) (length (a .image .now)) (l .state) (l .line) (l .image) here _ _ e (v .4) (rw (v .2) at (k .image))
 
 enum-known-step-2 : tie.Need-enum-known-step-2 Inv-loop μ-loop
 enum-known-step-2 c = search needs

@@ -43,8 +43,8 @@ part-put-at-end c =
 put-at-requires : tie.Need-put-at-requires
 put-at-requires c κs = search needs
 
-add-t18 : tie.Need-add-t18
-add-t18 c =
+add-t19 : tie.Need-add-t19
+add-t19 c =
     let c7 = c .before .before .before .before .before .before .before in
     let c10 = c7 .before .before .before in
     let c14 = c10 .before .before .before .before in
@@ -95,7 +95,7 @@ take-line-spec =
     part-put-at-start
     part-put-at-end
     put-at-requires
-    add-t18
+    add-t19
     enum-known-seen-3
     enum-told
     enum-told-2

@@ -4,7 +4,7 @@ use mathlib.Core.Path.{sym}
 use native.Mathlib.Omega.{arith}
 use lib.Seq.{length-take-le}
 use borrow.Author.Needs.{needs}
-use Rattle.hex.proofs.Says.{looked-over, looked-1, looked-2, looked-fits, looked-counted, looked-typed}
+use Rattle.hex.proofs.Says.{looked-over, looked-1, looked-some, looked-2, looked-fits, looked-counted, looked-typed}
 use Rattle.hex.proofs.record.look.Statement.{statement}
 use Rattle.hex.proofs.record.look.Tie as tie
 
@@ -14,14 +14,25 @@ returns c = looked-over _ _ _ _ _ (c .if1 .taken)
 record-sum-requires : tie.Need-record-sum-requires
 record-sum-requires c κs = search needs
 
+place-of-requires : tie.Need-place-of-requires
+place-of-requires c κs = search needs
+
 same-length : tie.Need-same-length
 same-length c = search needs
 
 returns-2 : tie.Need-returns-2
 returns-2 c =
-    let c3 = c .before .before .before in
-    let c5 = c3 .before .before in
-    looked-1 _ _ _ _ _ (c5 .if1 .left) (c3 .record-sum .ensures) (c .if2 .taken)
+    let c4 = c .before .before .before .before in
+    let c6 = c4 .before .before in
+    looked-1 _ _ _ _ _ (c6 .if1 .left) (c4 .record-sum .ensures) (c .before .if2 .taken) (c .place-of .ensures)
+
+sub-t16 : tie.Need-sub-t16
+sub-t16 c =
+    let c4 = c .before .before .before .before in
+    let c6 = c4 .before .before in
+    let a = c6 .before .before .before .args in
+    let some = looked-some (a .line .now) (a .base) (a .size) (a .state) _ (c6 .if1 .left) (c4 .record-sum .ensures) (c .before .if2 .left) in
+    omega arith
 
 same-length-2 : tie.Need-same-length-2
 same-length-2 c = search needs
@@ -81,8 +92,10 @@ look-spec =
     (tie.spec
     returns
     record-sum-requires
+    place-of-requires
     same-length
     returns-2
+    sub-t16
     same-length-2
     returns-3
     slice-reshare-prefix-typed-at
