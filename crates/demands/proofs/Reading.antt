@@ -29,6 +29,7 @@ use Rattle.flash.specs.Sector.{paddedOf}
 use Rattle.layout.specs.declared.Bank.{Bank}
 use Rattle.layout.specs.Layout.{goodN, bankSize, bankNumber, otherOf, sectorOf}
 use Rattle.layout.specs.Pair.{bankIn}
+use Rattle.layout.specs.Said.{paperNumber}
 use Rattle.commands.specs.declared.Command.{Command}
 use Rattle.commands.specs.declared.Command.the-variants.{ModeStart, BankInfo, VersionInfo, WriteStart, WriteEnd, ModeEnd}
 use Rattle.commands.specs.Command.{responseCode as codeFor}
@@ -49,7 +50,7 @@ use Rattle.calls.specs.Call.{Board}
 use Rattle.demands.specs.Board.{LentCall, Datagram, Outcome, said, lentOf, lentTarget, stepMachine}
 use Rattle.demands.specs.Demand1.{Row, firstOf, responseCode, isFault, refused, answered, afterFrame, callRows}
 use Rattle.demands.specs.EndToEnd.{Readable, MeetsRead}
-use Rattle.demands.specs.Responses.{answerCode, spelled, paperNumber}
+use Rattle.demands.specs.Responses.{answerCode, spelled}
 use Rattle.demands.proofs.Demand1.{table}
 use Rattle.demands.proofs.Demand2.{said-back, control-short, written-short}
 use Rattle.demands.proofs.Rows.{given, comes}

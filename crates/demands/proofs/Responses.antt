@@ -22,7 +22,7 @@ use Rattle.frame.specs.declared.read.Read.the-variants.{Fault, Control, Write}
 use Rattle.frame.proofs.Parts.{parameters-lie, data-lie}
 use Rattle.frame.proofs.RoundTrip.{control-only, write-only}
 use Rattle.frame.proofs.Told.{Told, told}
-use Rattle.layout.specs.Said.{number, result}
+use Rattle.layout.specs.Said.{number, result, paperNumber}
 use Rattle.commands.specs.declared.Coded.{Coded}
 use Rattle.commands.specs.declared.Coded.the-variants.{Unknown, Is}
 use Rattle.commands.specs.declared.Command.{Command}
@@ -49,7 +49,7 @@ use Rattle.response.specs.Response.{
 use Rattle.response.specs.Said.{responseSaid, resultIn}
 use Rattle.response.proofs.Responses.{adds-none, adds-some}
 use Rattle.response.proofs.Six.{response-says}
-use Rattle.demands.specs.Responses.{answerCode, spelled, paperNumber, MeetsReader}
+use Rattle.demands.specs.Responses.{answerCode, spelled, MeetsReader}
 
 -- ---- the bytes of a short list
 

@@ -9,7 +9,7 @@ use Rattle.buffer.specs.Number.{bytesOf, byteAt}
 use Rattle.frame.specs.Frame.{controlFrame, writeFrame}
 use Rattle.frame.specs.declared.read.Footer.the-variants.{End}
 use Rattle.layout.specs.Layout.{bankNumber}
-use Rattle.layout.specs.Said.{Said, number, result, value, fault, accepted}
+use Rattle.layout.specs.Said.{number, paperNumber}
 use Rattle.commands.specs.declared.Command.{Command}
 use Rattle.commands.specs.declared.Command.the-variants.{ModeStart, BankInfo, VersionInfo, WriteStart, WriteEnd, ModeEnd}
 use Rattle.response.specs.declared.read.Response.{Response}
@@ -35,14 +35,6 @@ spelled (Error r) = controlFrame 0xE0 (r ∷ [])
 spelled (Target bank) = controlFrame 0x72 (0x06 ∷ bankNumber bank ∷ [])
 spelled (Firmware id major minor revision) = controlFrame 0x78 (0x06 ∷ bytesOf 2 id ++ major ∷ minor ∷ bytesOf 4 revision)
 spelled (Written sector response write crc) = writeFrame sector (writtenBytes response write crc) End
-
--- the paper's number of what was said, 0 where it says another thing
-abbrev pub paperNumber : Said → ℕ
-paperNumber (number n) = n
-paperNumber (result r) = 0
-paperNumber (value n) = 0
-paperNumber (fault k line byte) = 0
-paperNumber accepted = 0
 
 -- it was read, and nothing of it was lost
 pub record ReadBack (datagram : List ℕ) (r : Response) : Type 0 where

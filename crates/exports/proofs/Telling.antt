@@ -8,10 +8,10 @@ use lib.ListN.{length, set}
 use borrow.Author.Tests.{le-leb, lt-leb}
 use Rattle.buffer.specs.Place.{frontOf}
 use Rattle.layout.specs.declared.Bank.the-variants.{Zero}
-use Rattle.layout.specs.Said.{code}
+use Rattle.layout.specs.Said.{code, lineSaid, byteSaid}
 use Rattle.hex.specs.declared.read.Answer.{Answer}
 use Rattle.hex.specs.Read.{answerSaid, Read·Is}
-use Rattle.exports.specs.Text.{lineSaid, byteSaid, ReadNumbers·Is}
+use Rattle.exports.specs.Text.{ReadNumbers·Is}
 
 -- three numbers at the front of a list: stored where they fit, and else not
 all-stored : (l : List ℕ) (a b c : ℕ) → 3 ≤ length l → set (set (set l 0 a) 1 b) 2 c ≡ frontOf l (a ∷ b ∷ c ∷ [])

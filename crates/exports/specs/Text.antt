@@ -8,26 +8,10 @@ use lib.Dec.{leb}
 use lib.ListN.{length}
 use Rattle.buffer.specs.Place.{frontOf}
 use Rattle.layout.specs.declared.Bank.the-variants.{Zero}
-use Rattle.layout.specs.Said.{Said, number, result, value, fault, accepted, code}
+use Rattle.layout.specs.Said.{Said, code, lineSaid, byteSaid}
 use Rattle.hex.specs.Read.{readSays, textRead}
 
--- "The first faulty line", and 0 where no line is at fault
-abbrev pub lineSaid : Said → ℕ
-lineSaid (number n) = 0
-lineSaid (result n) = 0
-lineSaid (value n) = 0
-lineSaid (fault k line byte) = line
-lineSaid accepted = 0
-
--- "the byte in the line", and 0 there too
-abbrev pub byteSaid : Said → ℕ
-byteSaid (number n) = 0
-byteSaid (result n) = 0
-byteSaid (value n) = 0
-byteSaid (fault k line byte) = byte
-byteSaid accepted = 0
-
--- the number, the line and the byte
+-- the number, "The first faulty line" and "the byte in the line"
 abbrev pub numbersOf : Said → List ℕ
 numbersOf said = code said ∷ lineSaid said ∷ byteSaid said ∷ []
 

@@ -2,8 +2,9 @@
 use hex::read::Answer;
 use layout::Bank;
 ghost use mathlib.Core.Path.{_≡_};
+ghost use Rattle.layout.specs.Said.{lineSaid, byteSaid};
 ghost use Rattle.hex.specs.Read.{answerSaid};
-ghost use Rattle.exports.specs.Text.{lineSaid, byteSaid, ReadNumbers·Is};
+ghost use Rattle.exports.specs.Text.{ReadNumbers·Is};
 
 fn line_of(answer: Answer) -> usize
     ensures { λ r. ⌜ r ≡ lineSaid (answerSaid answer) ⌝ }

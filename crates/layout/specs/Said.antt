@@ -23,3 +23,26 @@ code (result n) = n
 code (value n) = n
 code (fault k line byte) = 10 + k
 code accepted = 0
+
+-- beside it the line of a fault and the byte in it, both counted from 1, and 0 of all else
+abbrev pub lineSaid : Said → ℕ
+lineSaid (number n) = 0
+lineSaid (result n) = 0
+lineSaid (value n) = 0
+lineSaid (fault k line byte) = line
+lineSaid accepted = 0
+
+abbrev pub byteSaid : Said → ℕ
+byteSaid (number n) = 0
+byteSaid (result n) = 0
+byteSaid (value n) = 0
+byteSaid (fault k line byte) = byte
+byteSaid accepted = 0
+
+-- the number of 01's table of refusals alone, 0 where another thing is said
+abbrev pub paperNumber : Said → ℕ
+paperNumber (number n) = n
+paperNumber (result n) = 0
+paperNumber (value n) = 0
+paperNumber (fault k line byte) = 0
+paperNumber accepted = 0
