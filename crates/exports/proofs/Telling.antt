@@ -8,7 +8,7 @@ use lib.ListN.{length, set}
 use borrow.Author.Tests.{le-leb, lt-leb}
 use Rattle.buffer.specs.Place.{frontOf}
 use Rattle.layout.specs.declared.Bank.the-variants.{Zero}
-use Rattle.layout.specs.Said.{code, lineSaid, byteSaid}
+use Rattle.layout.specs.Said.{Said, code, placeSaid}
 use Rattle.hex.specs.declared.read.Answer.{Answer}
 use Rattle.hex.specs.Read.{answerSaid, Read·Is}
 use Rattle.exports.specs.Text.{ReadNumbers·Is}
@@ -32,13 +32,13 @@ not-told {told = told} h =
 
 pub all-told : {text : List ℕ} {n : ℕ} {image told image′ : List ℕ} {answer : Answer} {number line byte : ℕ}
     → 3 ≤ length told → Read·Is text Zero n image image′ answer
-    → number ≡ code (answerSaid answer) → line ≡ lineSaid (answerSaid answer) → byte ≡ byteSaid (answerSaid answer)
+    → number ≡ code (answerSaid answer) → line ≡ placeSaid (answerSaid answer) .line → byte ≡ placeSaid (answerSaid answer) .byte
     → ReadNumbers·Is text n image told number image′ (set (set (set told 0 number) 1 line) 2 byte)
 all-told {told = told} {number = number} {line = line} {byte = byte} h r e f g =
     let yes = le-leb 3 (length told) h in
     let a = e ∙ ap code (r .said) in
-    let b = f ∙ ap lineSaid (r .said) in
-    let c = g ∙ ap byteSaid (r .said) in
+    let b = f ∙ ap (λ (s : Said). placeSaid s .line) (r .said) in
+    let c = g ∙ ap (λ (s : Said). placeSaid s .byte) (r .said) in
     record {
       number-is = rw yes a;
       image-is = rw yes (r .image);

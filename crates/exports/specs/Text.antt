@@ -8,12 +8,12 @@ use lib.Dec.{leb}
 use lib.ListN.{length}
 use Rattle.buffer.specs.Place.{frontOf}
 use Rattle.layout.specs.declared.Bank.the-variants.{Zero}
-use Rattle.layout.specs.Said.{Said, code, lineSaid, byteSaid}
+use Rattle.layout.specs.Said.{Said, code, placeSaid}
 use Rattle.hex.specs.Read.{readSays, textRead}
 
 -- the number, "The first faulty line" and "the byte in the line"
 abbrev pub numbersOf : Said → List ℕ
-numbersOf said = code said ∷ lineSaid said ∷ byteSaid said ∷ []
+numbersOf said = code said ∷ placeSaid said .line ∷ placeSaid said .byte ∷ []
 
 -- whether there is room for the three; if not, the text is not read
 abbrev pub roomToTell : List ℕ → Bool

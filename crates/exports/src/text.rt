@@ -2,29 +2,27 @@
 use hex::read::Answer;
 use layout::Bank;
 ghost use mathlib.Core.Path.{_≡_};
-ghost use Rattle.layout.specs.Said.{lineSaid, byteSaid};
+ghost use Rattle.layout.specs.Said.{placeSaid};
 ghost use Rattle.hex.specs.Read.{answerSaid};
 ghost use Rattle.exports.specs.Text.{ReadNumbers·Is};
 
-fn line_of(answer: Answer) -> usize
-    ensures { λ r. ⌜ r ≡ lineSaid (answerSaid answer) ⌝ }
-{
-    match answer {
-        Answer::BadN => 0,
-        Answer::BadLength => 0,
-        Answer::Refused(refusal) => refusal.line,
-        Answer::Accepted => 0,
-    }
+// Where a text is at fault, both counted from 1; 0 where it is not.
+struct Place {
+    line: usize,
+    byte: usize,
 }
 
-fn byte_of(answer: Answer) -> usize
-    ensures { λ r. ⌜ r ≡ byteSaid (answerSaid answer) ⌝ }
+fn place_of(answer: Answer) -> Place
+    ensures { λ r. ⌜ (r .line ≡ placeSaid (answerSaid answer) .line) × (r .byte ≡ placeSaid (answerSaid answer) .byte) ⌝ }
 {
     match answer {
-        Answer::BadN => 0,
-        Answer::BadLength => 0,
-        Answer::Refused(refusal) => refusal.byte,
-        Answer::Accepted => 0,
+        Answer::BadN => Place { line: 0, byte: 0 },
+        Answer::BadLength => Place { line: 0, byte: 0 },
+        Answer::Refused(refusal) => Place {
+            line: refusal.line,
+            byte: refusal.byte,
+        },
+        Answer::Accepted => Place { line: 0, byte: 0 },
     }
 }
 
@@ -38,8 +36,9 @@ pub extern "C" fn hex_read(text: &[u8], n: usize, image: &mut [u8], told: &mut [
     }
     let answer = hex::read::read(text, Bank::Zero, n, image);
     let number = hex::read::answer_number(answer);
+    let place = place_of(answer);
     told[0] = number;
-    told[1] = line_of(answer);
-    told[2] = byte_of(answer);
+    told[1] = place.line;
+    told[2] = place.byte;
     number
 }

@@ -9,7 +9,7 @@ use native.Mathlib.Omega.{arith}
 use lib.ListN.{length, getD, drop, drop-of-length-le, List·getD-eq-default}
 use lib.Seq.{drop-cons}
 use borrow.Author.Tests.{eq-eqb, ne-eqb}
-use Rattle.buffer.proofs.Bools.{no-way}
+use Rattle.buffer.proofs.Bools.{and-false, no-way}
 use Rattle.digits.specs.Digit.{valueOf, isDigit}
 use Rattle.hex.specs.Spell.{byteOf, digitBytes}
 use Rattle.hex.specs.Record.{Whole, Broken, digitsIn, digitsDue, digitsWhole, recordOf}
@@ -29,20 +29,14 @@ digit-inside l at e = by (decLt at (length l))
     by (yes h) = h
     by (no h) = let z = sym e ∙ none-past l at (omega arith) in no-way (cc)
 
--- THE DIGITS DUE
+-- THE DIGITS DUE: more than there can be, where no two spell the count
 
 module _ (l : List ℕ) where
-  pub due-first : isDigit (getD l 0 0) ≡ false → digitsDue l ≡ 522
-  unfolding byteOf
-  due-first e = rw e
+  pub due-none : pairAt l 0 ≡ false → digitsDue l ≡ 522
+  due-none e = let s = pair-none (getD l 0 0) (getD l 1 0) e in omega arith
 
-  module _ (first : isDigit (getD l 0 0) ≡ true) where
-    pub due-second : isDigit (getD l 1 0) ≡ false → digitsDue l ≡ 522
-    unfolding byteOf
-    due-second e = rw (first, e)
-
-    pub due-pair : isDigit (getD l 1 0) ≡ true → pairAt l 0 ≡ true
-    due-pair e = rw (first, e)
+  pub due-short : length l < 2 → digitsDue l ≡ 522
+  due-short h = due-none (rw (none-past l 1 (omega arith)) (and-false (isDigit (getD l 0 0))))
 
 -- THE DIGITS FOUND, from digit n on
 
@@ -77,7 +71,7 @@ due-few l = by (pairAt l 0) refl
   where
     by : (b : Bool) → pairAt l 0 ≡ b → digitsDue l ≤ 522
     by true e = let s = pair-small (getD l 0 0) (getD l 1 0) e in omega arith
-    by false e = let s = pair-none (getD l 0 0) (getD l 1 0) e in omega arith
+    by false e = omega (arith, due-none l e)
 
 pub found-small : (l : List ℕ) → digitsIn (digitsDue l) l ≤ 522
 found-small l = omega (arith, run (digitsDue l) l .within, due-few l)

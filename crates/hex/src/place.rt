@@ -1,4 +1,5 @@
 // Where a line that is no record goes wrong.
+use crate::pair::pair_at;
 use crate::pair::value_at;
 use crate::pair::wide;
 ghost use mathlib.Core.Path.{_≡_};
@@ -23,10 +24,10 @@ fn digit_at(text: &[u8], at: usize) -> bool
 fn digits_due(behind: &[u8]) -> usize
     ensures { λ r. ⌜ r ≡ digitsDue (now (behind .entry)) ⌝ }
 {
-    if !digit_at(behind, 0) {
+    if behind.len() < 2 {
         return NO_COUNT;
     }
-    if !digit_at(behind, 1) {
+    if !pair_at(behind, 0) {
         return NO_COUNT;
     }
     2 * (wide(value_at(behind, 0)) + 5)
