@@ -12,6 +12,8 @@ determined =
         p .number-is ∙ sym (q .number-is),
         (p .image-is ∙ sym (q .image-is), p .told-is ∙ sym (q .told-is)),
       );
+      length-number = λ image. once _;
+      write-number = λ image before x y u v p q. (p .number-is ∙ sym (q .number-is), p .stands ∙ sym (q .stands));
       packet-number = λ image n number before x y u v p q. (p .number-is ∙ sym (q .number-is), p .stands ∙ sym (q .stands));
       take-slots = λ n slots bank0 bank1 marks address buffer x y u v s t a b p q. (
         p .given ∙ sym (q .given),

@@ -8,10 +8,13 @@ use Rattle.exports.specs.Check.{CheckNumber·Is}
 use Rattle.exports.specs.Text.{ReadNumbers·Is}
 use Rattle.exports.specs.Packet.{PacketNumber·Is}
 use Rattle.exports.specs.Slots.{TakeSlots·Is}
+use Rattle.exports.specs.Written.{LengthNumber·Is, WriteNumber·Is}
 
 pub record Determined : Type 0 where
   pub check-number : (bank : List ℕ) → Once (CheckNumber·Is bank)
   pub read-numbers : (text : List ℕ) (n : ℕ) (image told : List ℕ) → Thrice (ReadNumbers·Is text n image told)
+  pub length-number : (image : List ℕ) → Once (LengthNumber·Is image)
+  pub write-number : (image before : List ℕ) → Twice (WriteNumber·Is image before)
   pub packet-number : (image : List ℕ) (n p : ℕ) (before : List ℕ) → Twice (PacketNumber·Is image n p before)
   pub take-slots : (n : ℕ) (slots bank0 bank1 marks address buffer : List ℕ)
       → Fourfold (TakeSlots·Is n slots bank0 bank1 marks address buffer)

@@ -3,3 +3,4 @@ pub mod Determined
 pub mod Packet
 pub mod Slots
 pub mod Text
+pub mod Written

@@ -5,3 +5,4 @@ pub mod crc32;
 pub mod packet;
 pub mod slots;
 pub mod text;
+pub mod written;

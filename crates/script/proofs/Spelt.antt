@@ -19,8 +19,10 @@ use Rattle.buffer.specs.Place.{frontOf}
 use Rattle.buffer.proofs.Bools.{and-left, and-right}
 use Rattle.buffer.proofs.Fold.{fold-done}
 use Rattle.buffer.proofs.Places.{place-fits, place-front, front-short}
-use Rattle.digits.specs.Digit.{valueOf, digitOf}
-use Rattle.script.specs.Spelt.{allDigits, withDigit, numberIn, noNumber, within32, bytesIn, spellsBytes, isDash, digitsSpelt, Bytes·Is, Spell·Is}
+use Rattle.digits.specs.Digit.{valueOf}
+use Rattle.digits.specs.Spelt.{digitsSpelt}
+use Rattle.digits.proofs.Spelt.{length-digits, spell-done}
+use Rattle.script.specs.Spelt.{allDigits, withDigit, numberIn, noNumber, within32, bytesIn, spellsBytes, isDash, Bytes·Is, Spell·Is}
 
 -- ---- digits of a base
 
@@ -106,26 +108,6 @@ module _ (text into : List ℕ) (i : ℕ) where
       let l : length (drop (2 * i) text) ≤ 1 = simp length-drop (omega arith) in
       rw (bytes-none (drop (2 * i) text) l)
 
--- ---- digits of bytes
-
-pub length-digits : (bytes : List ℕ) → length (digitsSpelt bytes) ≡ 2 * length bytes
-unfolding digitsSpelt
-length-digits [] = omega arith
-length-digits (b ∷ bytes) = let r = length-digits bytes in omega arith
-
-module _ (bytes into : List ℕ) (i : ℕ) where
-  pub spell-more :
-      (a b : ℕ) → i < length bytes → a ≡ digitOf (getD bytes i 0 / 16) → b ≡ digitOf (getD bytes i 0)
-      → sets (set (set into (2 * i) a) (2 * i + 1) b) (2 * (i + 1)) (digitsSpelt (drop (i + 1) bytes)) ≡ sets into (2 * i) (digitsSpelt (drop i bytes))
-  unfolding digitsSpelt
-  spell-more a b h d e =
-      let q : 2 * (i + 1) ≡ suc (suc (2 * i)) = omega arith in
-      rw (q, d, e, add-one (2 * i), add-one i, drop-cons bytes i 0 h)
-
-  pub spell-done : length bytes ≤ i → sets into (2 * i) (digitsSpelt (drop i bytes)) ≡ into
-  unfolding digitsSpelt
-  spell-done h = rw (drop-of-length-le bytes h)
-
 -- ---- stored from the front on
 
 pub front-is : (before bytes : List ℕ) → length bytes ≤ length before → sets before 0 bytes ≡ frontOf before bytes
@@ -172,7 +154,7 @@ module _ (bytes before : List ℕ) where
       let m : 2 * i ≡ length (digitsSpelt bytes) = omega arith in
       record {
         counted = rw (le-leb _ _ k) m;
-        stands = sym (spell-done bytes after i (omega arith)) ∙ e ∙ front-is before (digitsSpelt bytes) k;
+        stands = sym (spell-done bytes after i (2 * i) (omega arith)) ∙ e ∙ front-is before (digitsSpelt bytes) k;
       }
 
 -- ---- what is said of the bytes of a field

@@ -8,7 +8,8 @@ use lib.Dec.{eqb, ltb, leb}
 use lib.IntN.{ℤ, pos, negsuc}
 use lib.ListN.{length, getD}
 use Rattle.buffer.specs.Place.{frontOf}
-use Rattle.digits.specs.Digit.{valueOf, digitOf}
+use Rattle.digits.specs.Digit.{valueOf}
+use Rattle.digits.specs.Spelt.{digitsSpelt}
 
 -- ---- numbers
 
@@ -74,11 +75,6 @@ pub record Bytes·Is (text before after : List ℕ) (r : ℤ) : Type 0 where
   pub stands : after ≡ cond (spellsBytes text (length before)) (frontOf before (bytesIn text)) before
 
 -- ---- printed
-
--- the two digits of each byte, the higher first
-unfoldable pub digitsSpelt : List ℕ → List ℕ
-digitsSpelt [] = []
-digitsSpelt (b ∷ bytes) = digitOf (b / 16) ∷ digitOf b ∷ digitsSpelt bytes
 
 -- how many digits, at the front of what was lent; none where they have no room
 pub record Spell·Is (bytes before after : List ℕ) (r : ℕ) : Type 0 where

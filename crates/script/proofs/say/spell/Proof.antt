@@ -1,12 +1,13 @@
 -- `script::say::spell` meets its contract: two digits for each byte passed have room.
 -- Assumes nothing.
-use Prim.Native.Nat.{_≤_, _<_, _-_, _*_}
+use Prim.Native.Nat.{_≤_, _<_, _+_, _-_, _*_}
 use mathlib.Core.Path.{_≡_, refl, sym, _∙_}
 use native.Mathlib.Omega.{arith}
 use lib.ListN.{length, length-set, drop}
 use lib.Seq.{length-take-le, sets}
-use Rattle.script.specs.Spelt.{digitsSpelt}
-use Rattle.script.proofs.Spelt.{spell-more, spelt-none, spelt-all}
+use Rattle.digits.specs.Spelt.{digitsSpelt}
+use Rattle.digits.proofs.Spelt.{spell-more}
+use Rattle.script.proofs.Spelt.{spelt-none, spelt-all}
 use borrow.Author.Needs.{needs}
 use Rattle.script.proofs.say.spell.Statement.{statement}
 use Rattle.script.proofs.say.spell.Tie as tie
@@ -63,8 +64,9 @@ loop-again c =
     let t = a .bytes .now in
     let l = c .before .before .before .before .loop in
     let h : l .i < length t = omega arith in
-    let e = spell-more t (l .into) (l .i) _ _ h (c .before .digit .ensures) (c .digit2 .ensures) in
-    (omega arith, simp (length-set, length-set) (search needs), e ∙ l .inv .2)
+    let q : 2 * (l .i + 1) ≡ 2 * l .i + 2 = omega arith in
+    let e = spell-more t (l .into) (l .i) (2 * l .i) _ _ h (c .before .digit .ensures) (c .digit2 .ensures) in
+    (omega arith, simp (length-set, length-set) (search needs), rw q (e ∙ l .inv .2))
 
 mul-result : tie.Need-mul-result Inv-loop μ-loop
 mul-result c = search needs

@@ -1,0 +1,24 @@
+-- `exports::written::rows_write` meets its contract: the answer's number is given.
+-- Assumes nothing.
+use mathlib.Core.Path.{ap, _∙_}
+use Rattle.layout.specs.Said.{code}
+use borrow.Author.Needs.{needs}
+use Rattle.exports.proofs.written.rows_write.Statement.{statement}
+use Rattle.exports.proofs.written.rows_write.Tie as tie
+
+write-requires : tie.Need-write-requires
+write-requires c κs = search needs
+
+number-requires : tie.Need-number-requires
+number-requires c κs = search needs
+
+same-length : tie.Need-same-length
+same-length c = search needs
+
+returns : tie.Need-returns
+returns c =
+    let e = c .before .before .before .write .ensures in
+    record { number-is = c .number .ensures ∙ ap code (e .says); stands = e .stands }
+
+pub rows-write-spec : {M : Type 1} → statement M
+rows-write-spec = tie.close (tie.spec write-requires number-requires same-length returns)

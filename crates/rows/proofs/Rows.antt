@@ -1,0 +1,241 @@
+-- The text of rows, one after another: what a row adds to it, by the tests of the code.
+-- Assumes nothing.
+use mathlib.Core.Path.{_≡_, refl, sym, ap, _∙_}
+use mathlib.Core.Bool.{Bool, true, false}
+use mathlib.Core.List.{List, [], _∷_, _++_, append-nil}
+use Prim.Native.Nat.{ℕ, zero, suc, _+_, _-_, _*_, _/_, _%_, _<_, _≤_}
+use native.Mathlib.Numerals.{add-one}
+use native.Mathlib.Omega.{arith}
+use lib.Dec.{eqb}
+use lib.ListN.{length, take, drop, length-append}
+use lib.Seq.{sets, length-sets}
+use borrow.Author.Tests.{eq-eqb, ne-eqb, eqb-true, eqb-false}
+use Rattle.buffer.proofs.Numbers.{length-bytes, bytes-two}
+use Rattle.buffer.proofs.Parts.{part-out, part-length}
+use Rattle.buffer.specs.Compare.{blankOf}
+use Rattle.buffer.specs.Number.{bytesOf}
+use Rattle.rows.specs.declared.text.Reached.{Reached}
+use Rattle.rows.specs.Text.{rowSize, rowOf, rowAddress, rowUpper, dataLine, upperLine, toldBefore, upperText, rowText, rowsText, allRows}
+use Rattle.rows.specs.Record.{recordLine, besideData}
+use Rattle.rows.specs.Places.{reachedAt}
+use Rattle.rows.proofs.Records.{sets-next, line-length}
+
+-- AN UPPER HALF that was told last, and another
+module _ (told upper : ℕ) where
+  pub upper-same : upper ≡ told → upperText told upper ≡ []
+  unfolding upperText
+  upper-same e = rw (eq-eqb upper told e)
+
+  pub upper-other : (upper ≡ told → ⊥) → upperText told upper ≡ upperLine upper
+  unfolding upperText
+  upper-other n = rw (ne-eqb upper told n)
+
+  pub upper-length : length (upperLine upper) ≡ 17
+  upper-length = line-length 0 4 (bytesOf 2 upper) ∙ rw (length-bytes 2 upper)
+
+  pub upper-most : length (upperText told upper) ≤ 17
+  upper-most = by (eqb upper told) refl
+    where
+      by : (b : Bool) → eqb upper told ≡ b → length (upperText told upper) ≤ 17
+      by true e = rw (upper-same (eqb-true upper told e)) (omega arith)
+      by false e = rw (upper-other (eqb-false upper told e)) (omega (arith, upper-length))
+
+-- a row, as `[from..from + 16]` lends it, was seen to be blank or not
+pub row-seen :
+    (image : List ℕ) (k : ℕ) {r b : Bool} → r ≡ blankOf (take ((k * rowSize + rowSize) - k * rowSize) (drop (k * rowSize) image)) → r ≡ b
+    → blankOf (rowOf image k) ≡ b
+unfolding rowOf
+row-seen image k e f = ap blankOf (sym (part-out image (k * rowSize) rowSize)) ∙ sym e ∙ f
+
+-- A ROW behind the first k
+module _ (image : List ℕ) (base k : ℕ) where
+  abbrev told : ℕ
+  told = toldBefore image base k
+
+  -- blank
+  pub text-blank : blankOf (rowOf image k) ≡ true → rowText image base k ≡ []
+  unfolding rowText
+  text-blank b = rw b
+
+  reached-blank : blankOf (rowOf image k) ≡ true → reachedAt image base (k + 1) ≡ reachedAt image base k
+  unfolding toldBefore rowsText
+  reached-blank b = rw (add-one k, b, text-blank b, append-nil (rowsText image base k))
+
+  -- or within the image and with a line of its own
+  pub text-told : blankOf (rowOf image k) ≡ false → rowText image base k ≡ upperText told (rowUpper base k) ++ dataLine image base k
+  unfolding rowText
+  text-told b = rw b
+
+  pub told-next : blankOf (rowOf image k) ≡ false → toldBefore image base (k + 1) ≡ rowUpper base k
+  unfolding toldBefore
+  told-next b = rw (add-one k, b)
+
+  module _ (inside : suc k * rowSize ≤ length image) where
+    pub row-length : length (rowOf image k) ≡ rowSize
+    unfolding rowOf
+    row-length = part-length image (k * rowSize) rowSize (omega arith)
+
+    pub data-length : length (dataLine image base k) ≡ 45
+    data-length = line-length (rowAddress base k) 0 (rowOf image k) ∙ rw row-length
+
+    pub told-length :
+        blankOf (rowOf image k) ≡ false
+        → length (rowsText image base (k + 1)) ≡ length (rowsText image base k) + length (upperText told (rowUpper base k)) + 45
+    unfolding rowsText
+    told-length b =
+        let m = length-append (rowsText image base k) (rowText image base k) in
+        let n = length-append (upperText told (rowUpper base k)) (dataLine image base k) in
+        let t = ap length (text-told b) in
+        let d = data-length in
+        rw (add-one k) (omega arith)
+
+    -- whether it has one is seen by how long the text is
+    pub no-line : length (rowsText image base (k + 1)) ≡ length (rowsText image base k) → blankOf (rowOf image k) ≡ true
+    no-line e = by (blankOf (rowOf image k)) refl
+      where
+        by : (b : Bool) → blankOf (rowOf image k) ≡ b → blankOf (rowOf image k) ≡ true
+        by true b = b
+        by false b = absurd (let n = told-length b in omega arith)
+
+    pub a-line : (length (rowsText image base (k + 1)) ≡ length (rowsText image base k) → ⊥) → blankOf (rowOf image k) ≡ false
+    a-line n = by (blankOf (rowOf image k)) refl
+      where
+        by : (b : Bool) → blankOf (rowOf image k) ≡ b → blankOf (rowOf image k) ≡ false
+        by true b = absurd (n (ap (λ (r : Reached). r .at) (reached-blank b)))
+        by false b = b
+
+-- PASSED, by the tests of the code
+module _ (image : List ℕ) (base k : ℕ) {reached : Reached} (so-far : reached ≡ reachedAt image base k) where
+  pub so-long : reached .at ≡ length (rowsText image base k)
+  so-long = ap (λ (r : Reached). r .at) so-far
+
+  pub pass-blank : blankOf (rowOf image k) ≡ true → reached ≡ reachedAt image base (k + 1)
+  pass-blank b = so-far ∙ sym (reached-blank image base k b)
+
+  module _ (inside : suc k * rowSize ≤ length image) (b : blankOf (rowOf image k) ≡ false) where
+    abbrev upper : ℕ
+    upper = rowUpper base k
+
+    passed : {at : ℕ} → length (rowsText image base (k + 1)) ≡ at → record { told = upper; at = at } ≡ reachedAt image base (k + 1)
+    passed l = λ i. record { told = sym (told-next image base k b) i; at = sym l i }
+
+    pub pass-same : (upper ≡ reached .told) → record { told = upper; at = reached .at + 45 } ≡ reachedAt image base (k + 1)
+    pass-same e =
+        let m = ap length (upper-same (toldBefore image base k) upper (e ∙ ap (λ (r : Reached). r .told) so-far)) in
+        passed (omega (arith, so-long, told-length image base k inside b))
+
+    pub pass-other : (upper ≡ reached .told → ⊥) → record { told = upper; at = reached .at + 45 + 17 } ≡ reachedAt image base (k + 1)
+    pass-other n =
+        let m = ap length (upper-other (toldBefore image base k) upper (λ e. n (e ∙ sym (ap (λ (r : Reached). r .told) so-far)))) in
+        passed (omega (arith, so-long, upper-length (toldBefore image base k) upper, told-length image base k inside b))
+
+-- PUT, right behind what stands there
+module _ (told upper : ℕ) (text : List ℕ) (at : ℕ) where
+  pub put-none : upper ≡ told → text ≡ sets text at (upperText told upper)
+  put-none e = rw (upper-same told upper e)
+
+  pub put-told :
+      (upper ≡ told → ⊥) → {after : List ℕ} → after ≡ sets text at (recordLine 0 4 (upper / 256 % 256 ∷ upper % 256 ∷ []))
+      → after ≡ sets text at (upperText told upper)
+  put-told n e = e ∙ rw (upper-other told upper n, bytes-two upper)
+
+  pub told-fits : (upper ≡ told → ⊥) → at + length (upperText told upper) ≤ length text → at + 17 ≤ length text
+  told-fits n h = let e = ap length (upper-other told upper n) ∙ upper-length told upper in omega arith
+
+module _
+    (image : List ℕ) (base k : ℕ) {reached next : Reached} (so-far : reached ≡ reachedAt image base k)
+    (passed : next ≡ reachedAt image base (k + 1)) (inside : suc k * rowSize ≤ length image) where
+  -- a blank row
+  pub row-none : next .at ≡ reached .at → (text : List ℕ) → text ≡ sets text (reached .at) (rowText image base k)
+  row-none e text =
+      let b = no-line image base k inside (sym (so-long image base (k + 1) passed) ∙ e ∙ so-long image base k so-far) in
+      rw (text-blank image base k b)
+
+  -- and one with a line
+  module _ (more : next .at ≡ reached .at → ⊥) where
+    b : blankOf (rowOf image k) ≡ false
+    b = a-line image base k inside (λ e. more (so-long image base (k + 1) passed ∙ e ∙ sym (so-long image base k so-far)))
+
+    upper-is : upperText (reached .told) (next .told) ≡ upperText (toldBefore image base k) (rowUpper base k)
+    upper-is = rw (so-far, passed, told-next image base k b)
+
+    pub line-at : next .at ≡ reached .at + length (upperText (reached .told) (next .told)) + 45
+    line-at =
+        let u = ap length upper-is in
+        let l = told-length image base k inside b in
+        omega (arith, so-long image base (k + 1) passed, so-long image base k so-far)
+
+    pub line-fits : {room : ℕ} → length (rowsText image base (k + 1)) ≤ room → next .at ≤ room
+    line-fits h = omega (arith, so-long image base (k + 1) passed)
+
+    -- the row, as it is lent
+    abbrev part : List ℕ
+    part = take ((k * rowSize + rowSize) - k * rowSize) (drop (k * rowSize) image)
+
+    module _ (text : List ℕ) {first : List ℕ} (put : first ≡ sets text (reached .at) (upperText (reached .told) (next .told))) where
+      pub row-fits : length (rowsText image base (k + 1)) ≤ length text → (length part < 256) × (next .at - 45 + (besideData + 2 * length part) ≤ length first)
+      unfolding rowOf
+      row-fits h =
+          let l = ap length (part-out image (k * rowSize) rowSize) ∙ row-length image base k inside in
+          let f = ap length put ∙ length-sets text (reached .at) (upperText (reached .told) (next .told)) in
+          let n = line-fits h in
+          let m = line-at in
+          (omega arith, omega arith)
+
+      pub row-put : {after : List ℕ} → after ≡ sets first (next .at - 45) (recordLine (rowAddress base k) 0 part) → after ≡ sets text (reached .at) (rowText image base k)
+      unfolding rowOf
+      row-put e =
+          e
+          ∙ rw (put, part-out image (k * rowSize) rowSize, text-told image base k b, sym upper-is)
+          (sets-next text (upperText (reached .told) (next .told)) (dataLine image base k) (reached .at) (omega (arith, line-at)))
+
+-- THE FIRST ROWS
+module _ (image : List ℕ) (base : ℕ) where
+  pub reached-first : reachedAt image base 0 ≡ record { told = 0; at = 0 }
+  unfolding toldBefore rowsText
+  reached-first = refl
+
+  pub rows-next : (k : ℕ) → rowsText image base (k + 1) ≡ rowsText image base k ++ rowText image base k
+  unfolding rowsText
+  rows-next k = rw (add-one k)
+
+  -- the text of one more, right behind
+  pub rows-put :
+      (k : ℕ) (text : List ℕ) {so-far after : List ℕ} {at : ℕ} → so-far ≡ sets text 0 (rowsText image base k) → at ≡ length (rowsText image base k)
+      → after ≡ sets so-far at (rowText image base k) → after ≡ sets text 0 (rowsText image base (k + 1))
+  rows-put k text e l f =
+      f ∙ rw (e, rows-next k) (sets-next text (rowsText image base k) (rowText image base k) 0 (omega arith))
+
+  pub rows-none : (text : List ℕ) → text ≡ sets text 0 (rowsText image base 0)
+  unfolding rowsText
+  rows-none text = refl
+
+  -- as many bytes as they have at most
+  pub rows-most : (k : ℕ) → k * rowSize ≤ length image → length (rowsText image base k) ≤ k * 62
+  unfolding rowsText
+  rows-most zero h = omega arith
+  rows-most (suc k) h =
+      let m = length-append (rowsText image base k) (rowText image base k) in
+      let n = rows-most k (omega arith) in
+      let o = row-most in
+      omega arith
+    where
+      row-most : length (rowText image base k) ≤ 62
+      row-most = by (blankOf (rowOf image k)) refl
+        where
+          by : (b : Bool) → blankOf (rowOf image k) ≡ b → length (rowText image base k) ≤ 62
+          by true b = rw (text-blank image base k b) (omega arith)
+          by false b =
+              let n = length-append (upperText (toldBefore image base k) (rowUpper base k)) (dataLine image base k) in
+              let d = data-length image base k h in
+              let u = upper-most (toldBefore image base k) (rowUpper base k) in
+              rw (text-told image base k b) (omega arith)
+
+  -- more rows, no shorter text
+  pub rows-grow : (k m : ℕ) → length (rowsText image base k) ≤ length (rowsText image base (k + m))
+  rows-grow k zero = let e : k + zero ≡ k = omega arith in rw e (omega arith)
+  rows-grow k (suc m) =
+      let e : k + suc m ≡ k + m + 1 = omega arith in
+      let l = ap length (rows-next (k + m)) ∙ length-append (rowsText image base (k + m)) (rowText image base (k + m)) in
+      let n = rows-grow k m in
+      rw e (omega arith)
