@@ -15,3 +15,6 @@ size_t plain_packet(const uint8_t *image, size_t size, size_t n, size_t p, uint8
 size_t plain_take(crc_of *crc, size_t n, const uint8_t *slots, size_t length, uint8_t *bank0, size_t size0, uint8_t *bank1,
                   size_t size1, const uint8_t *marks, size_t mark_count, const uint8_t *address, size_t address_length,
                   uint8_t *buffer, size_t room);
+
+size_t plain_rows_length(const uint8_t *image, size_t size);
+size_t plain_rows_write(const uint8_t *image, size_t size, uint8_t *text, size_t room);

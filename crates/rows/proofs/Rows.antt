@@ -12,8 +12,10 @@ use lib.Seq.{sets, length-sets}
 use borrow.Author.Tests.{eq-eqb, ne-eqb, eqb-true, eqb-false}
 use Rattle.buffer.proofs.Numbers.{length-bytes, bytes-two}
 use Rattle.buffer.proofs.Parts.{part-out, part-length}
+use Rattle.buffer.proofs.Places.{front-whole}
 use Rattle.buffer.specs.Compare.{blankOf}
 use Rattle.buffer.specs.Number.{bytesOf}
+use Rattle.buffer.specs.Place.{frontOf}
 use Rattle.rows.specs.declared.text.Reached.{Reached}
 use Rattle.rows.specs.Text.{rowSize, rowOf, rowAddress, rowUpper, dataLine, upperLine, toldBefore, upperText, rowText, rowsText, allRows}
 use Rattle.rows.specs.Record.{recordLine, besideData}
@@ -40,12 +42,22 @@ module _ (told upper : ℕ) where
       by true e = rw (upper-same (eqb-true upper told e)) (omega arith)
       by false e = rw (upper-other (eqb-false upper told e)) (omega (arith, upper-length))
 
--- a row, as `[from..from + 16]` lends it, was seen to be blank or not
-pub row-seen :
-    (image : List ℕ) (k : ℕ) {r b : Bool} → r ≡ blankOf (take ((k * rowSize + rowSize) - k * rowSize) (drop (k * rowSize) image)) → r ≡ b
-    → blankOf (rowOf image k) ≡ b
-unfolding rowOf
-row-seen image k e f = ap blankOf (sym (part-out image (k * rowSize) rowSize)) ∙ sym e ∙ f
+-- A ROW AS IT IS LENT, by `[from..from + 16]`: seen to be blank or not, and copied
+module _ (image : List ℕ) (k : ℕ) where
+  abbrev part : List ℕ
+  part = take ((k * rowSize + rowSize) - k * rowSize) (drop (k * rowSize) image)
+
+  part-is : part ≡ rowOf image k
+  unfolding rowOf
+  part-is = part-out image (k * rowSize) rowSize
+
+  pub row-seen : {r b : Bool} → r ≡ blankOf part → r ≡ b → blankOf (rowOf image k) ≡ b
+  row-seen e f = ap blankOf (sym part-is) ∙ sym e ∙ f
+
+  pub row-copied : suc k * rowSize ≤ length image → (room : List ℕ) {row : List ℕ} → length room ≡ rowSize → row ≡ frontOf room part → row ≡ rowOf image k
+  row-copied inside room n e =
+      let l = part-length image (k * rowSize) rowSize (omega arith) in
+      e ∙ front-whole room part (ap length (part-out image (k * rowSize) rowSize) ∙ l ∙ sym n) ∙ part-is
 
 -- A ROW behind the first k
 module _ (image : List ℕ) (base k : ℕ) where
@@ -168,26 +180,22 @@ module _
     pub line-fits : {room : ℕ} → length (rowsText image base (k + 1)) ≤ room → next .at ≤ room
     line-fits h = omega (arith, so-long image base (k + 1) passed)
 
-    -- the row, as it is lent
-    abbrev part : List ℕ
-    part = take ((k * rowSize + rowSize) - k * rowSize) (drop (k * rowSize) image)
+    module _
+        (text : List ℕ) {first row : List ℕ} (put : first ≡ sets text (reached .at) (upperText (reached .told) (next .told))) (row-is : row ≡ rowOf image k)
+      where
+        pub row-fits : length (rowsText image base (k + 1)) ≤ length text → (length row < 256) × (next .at - 45 + (besideData + 2 * length row) ≤ length first)
+        row-fits h =
+            let l = ap length row-is ∙ row-length image base k inside in
+            let f = ap length put ∙ length-sets text (reached .at) (upperText (reached .told) (next .told)) in
+            let n = line-fits h in
+            let m = line-at in
+            (omega arith, omega arith)
 
-    module _ (text : List ℕ) {first : List ℕ} (put : first ≡ sets text (reached .at) (upperText (reached .told) (next .told))) where
-      pub row-fits : length (rowsText image base (k + 1)) ≤ length text → (length part < 256) × (next .at - 45 + (besideData + 2 * length part) ≤ length first)
-      unfolding rowOf
-      row-fits h =
-          let l = ap length (part-out image (k * rowSize) rowSize) ∙ row-length image base k inside in
-          let f = ap length put ∙ length-sets text (reached .at) (upperText (reached .told) (next .told)) in
-          let n = line-fits h in
-          let m = line-at in
-          (omega arith, omega arith)
-
-      pub row-put : {after : List ℕ} → after ≡ sets first (next .at - 45) (recordLine (rowAddress base k) 0 part) → after ≡ sets text (reached .at) (rowText image base k)
-      unfolding rowOf
-      row-put e =
-          e
-          ∙ rw (put, part-out image (k * rowSize) rowSize, text-told image base k b, sym upper-is)
-          (sets-next text (upperText (reached .told) (next .told)) (dataLine image base k) (reached .at) (omega (arith, line-at)))
+        pub row-put : {after : List ℕ} → after ≡ sets first (next .at - 45) (recordLine (rowAddress base k) 0 row) → after ≡ sets text (reached .at) (rowText image base k)
+        row-put e =
+            e
+            ∙ rw (put, row-is, text-told image base k b, sym upper-is)
+            (sets-next text (upperText (reached .told) (next .told)) (dataLine image base k) (reached .at) (omega (arith, line-at)))
 
 -- THE FIRST ROWS
 module _ (image : List ℕ) (base : ℕ) where

@@ -99,13 +99,10 @@ fn put_row(image: &[u8], base: usize, k: usize, reached: Reached, text: &mut [u8
     }
     put_upper(text, reached.at, reached.told, next.told);
     let from = k * ROW;
-    put_line(
-        text,
-        next.at - DATA_LINE,
-        base + from,
-        0,
-        &image[from..from + ROW],
-    );
+    // A copy, so that the compiler knows that no store into the text changes it, and takes many bytes at once.
+    let mut row = [0u8; ROW];
+    buffer::place::put_front(&mut row, &image[from..from + ROW]);
+    put_line(text, next.at - DATA_LINE, base + from, 0, &row);
     next
 }
 

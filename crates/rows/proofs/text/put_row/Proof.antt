@@ -1,8 +1,9 @@
 -- `rows::text::put_row` meets its contract: nothing for a blank row; else its upper half, unless that was told last, and its line.
 -- Assumes nothing.
+use mathlib.Core.Path.{refl}
 use native.Mathlib.Omega.{arith}
 use borrow.Author.Needs.{needs}
-use Rattle.rows.proofs.Rows.{row-none, line-at, line-fits, row-fits, row-put}
+use Rattle.rows.proofs.Rows.{row-copied, row-none, line-at, line-fits, row-fits, row-put}
 use Rattle.rows.proofs.text.put_row.Statement.{statement}
 use Rattle.rows.proofs.text.put_row.Tie as tie
 
@@ -28,45 +29,56 @@ put-upper-requires c κs =
 mul-from : tie.Need-mul-from
 mul-from c = search needs
 
+slice-aggregate-put-front : tie.Need-slice-aggregate-put-front
+slice-aggregate-put-front c = search needs
+
+add-put-front : tie.Need-add-put-front
+add-put-front c = search needs
+
+sub-put-front : tie.Need-sub-put-front
+sub-put-front c = search needs
+
+part-put-front-start : tie.Need-part-put-front-start
+part-put-front-start c = search needs
+
+part-put-front-end : tie.Need-part-put-front-end
+part-put-front-end c = search needs
+
+put-front-requires : tie.Need-put-front-requires
+put-front-requires c κs = search needs
+
 sub-put-line : tie.Need-sub-put-line
 sub-put-line c =
-    let a = c .before .before .before .before .before .before .before .before .before .before .before .before .args in
-    let p = c .before .before .before .before .before .before .before .before .before .before .before .before .pre .0 in
-    let passed = c .before .before .before .before .before .before .before .before .before .pass .ensures in
-    let l = line-at (a .image .now) (a .base) (a .k) (p .so-far) passed (p .inside) (c .before .before .before .before .before .before .if1 .left) in
+    let a = c .before .before .before .before .before .before .before .before .before .before .before .before .before .before .before .before .args in
+    let p = c .before .before .before .before .before .before .before .before .before .before .before .before .before .before .before .before .pre .0 in
+    let passed = c .before .before .before .before .before .before .before .before .before .before .before .before .before .pass .ensures in
+    let l = line-at (a .image .now) (a .base) (a .k) (p .so-far) passed (p .inside) (c .before .before .before .before .before .before .before .before .before .before .if1 .left) in
     omega arith
 
 add-put-line : tie.Need-add-put-line
 add-put-line c = search needs
 
-add-put-line-2 : tie.Need-add-put-line-2
-add-put-line-2 c = search needs
-
-sub-put-line-2 : tie.Need-sub-put-line-2
-sub-put-line-2 c = search needs
-
-part-put-line-start : tie.Need-part-put-line-start
-part-put-line-start c = search needs
-
-part-put-line-end : tie.Need-part-put-line-end
-part-put-line-end c = search needs
+slice-aggregate-put-line : tie.Need-slice-aggregate-put-line
+slice-aggregate-put-line c = search needs
 
 put-line-requires : tie.Need-put-line-requires
 put-line-requires c κs =
-    let a = c .before .before .before .before .before .before .before .before .before .before .before .before .before .args in
-    let p = c .before .before .before .before .before .before .before .before .before .before .before .before .before .pre .0 in
-    let passed = c .before .before .before .before .before .before .before .before .before .before .pass .ensures in
-    row-fits (a .image .now) (a .base) (a .k) (p .so-far) passed (p .inside) (c .before .before .before .before .before .before .before .if1 .left) (a .text .now) (c .before .before .before .before .before .put-upper .ensures) (c .before .before .before .before .before .before .before .before .before .before .before .before .before .pre .1)
+    let a = c .before .before .before .before .before .before .before .before .before .before .before .before .before .before .before .before .before .args in
+    let p = c .before .before .before .before .before .before .before .before .before .before .before .before .before .before .before .before .before .pre .0 in
+    let passed = c .before .before .before .before .before .before .before .before .before .before .before .before .before .before .pass .ensures in
+    let row = row-copied (a .image .now) (a .k) (p .inside) _ refl (c .before .before .before .before .put-front .ensures) in
+    row-fits (a .image .now) (a .base) (a .k) (p .so-far) passed (p .inside) (c .before .before .before .before .before .before .before .before .before .before .before .if1 .left) (a .text .now) (c .before .before .before .before .before .before .before .before .before .put-upper .ensures) row (c .before .before .before .before .before .before .before .before .before .before .before .before .before .before .before .before .before .pre .1)
 
 same-length : tie.Need-same-length
 same-length c = search needs
 
 returns-2 : tie.Need-returns-2
 returns-2 c =
-    let a = c .before .before .before .before .before .before .before .before .before .before .before .before .before .before .before .before .args in
-    let p = c .before .before .before .before .before .before .before .before .before .before .before .before .before .before .before .before .pre .0 in
-    let passed = c .before .before .before .before .before .before .before .before .before .before .before .before .before .pass .ensures in
-    (passed, row-put (a .image .now) (a .base) (a .k) (p .so-far) passed (p .inside) (c .before .before .before .before .before .before .before .before .before .before .if1 .left) (a .text .now) (c .before .before .before .before .before .before .before .before .put-upper .ensures) (c .before .before .put-line .ensures))
+    let a = c .before .before .before .before .before .before .before .before .before .before .before .before .before .before .before .before .before .before .before .before .args in
+    let p = c .before .before .before .before .before .before .before .before .before .before .before .before .before .before .before .before .before .before .before .before .pre .0 in
+    let passed = c .before .before .before .before .before .before .before .before .before .before .before .before .before .before .before .before .before .pass .ensures in
+    let row = row-copied (a .image .now) (a .k) (p .inside) _ refl (c .before .before .before .before .before .before .before .put-front .ensures) in
+    (passed, row-put (a .image .now) (a .base) (a .k) (p .so-far) passed (p .inside) (c .before .before .before .before .before .before .before .before .before .before .before .before .before .before .if1 .left) (a .text .now) (c .before .before .before .before .before .before .before .before .before .before .before .before .put-upper .ensures) row (c .before .before .put-line .ensures))
 
 pub put-row-spec : {M : Type 1} → statement M
 put-row-spec =
@@ -76,12 +88,15 @@ put-row-spec =
     returns
     put-upper-requires
     mul-from
+    slice-aggregate-put-front
+    add-put-front
+    sub-put-front
+    part-put-front-start
+    part-put-front-end
+    put-front-requires
     sub-put-line
     add-put-line
-    add-put-line-2
-    sub-put-line-2
-    part-put-line-start
-    part-put-line-end
+    slice-aggregate-put-line
     put-line-requires
     same-length
     returns-2)
