@@ -60,6 +60,8 @@ contracts =
       check = λ p. sym (p .verdict);
       next-body = λ c bank0 bank1 i p. sym p;
       read-text = λ p. λ k. record { answer = sym (p .answer) k; image = sym (p .image) k };
+      text-length = λ p. sym (p .answered);
+      write-text = λ p. λ k. record { answer = sym (p .answered) k; buffer = sym (p .stands) k };
       count = λ p. sym (p .answered);
       packet = λ p. λ k. record { answer = sym (p .answered) k; buffer = sym (p .stands) k };
       request = λ p. λ k. record { answer = sym (p .answered) k; buffer = sym (p .stands) k };

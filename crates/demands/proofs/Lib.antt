@@ -19,6 +19,7 @@ pub mod Packets
 pub mod Reading
 pub mod Requests
 pub mod Responses
+pub mod RoundTrip
 pub mod Rows
 pub mod Sessions
 pub mod ShutOut
@@ -28,3 +29,6 @@ pub mod TextWitness
 pub mod Texts
 pub mod Unstored
 pub mod Witness
+pub mod Written
+pub mod WrittenLines
+pub mod WrongWriters

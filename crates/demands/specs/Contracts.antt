@@ -14,6 +14,8 @@ use Rattle.bank.specs.Sound.{verdictOf}
 use Rattle.hex.specs.declared.read.Answer.{Answer}
 use Rattle.hex.specs.Read.{textRead}
 use Rattle.hex.specs.Read.{Read·Is as ReadText·Is}
+use Rattle.rows.specs.declared.text.Written.{Written}
+use Rattle.rows.specs.Text.{lengthOf, Length·Is, Write·Is}
 use Rattle.sender.specs.declared.made.Made.{Made}
 use Rattle.sender.specs.declared.packet.Tally.{Tally}
 use Rattle.sender.specs.declared.request.Request.{Request}
@@ -34,6 +36,7 @@ use Rattle.calls.specs.Call.{Board, board}
 use Rattle.demands.specs.Board.{LentCall, Initiate, Terminate, Datagram, Outcome, lentOf, backIn, lentTarget, hostOutcome, callOutcome, stepMachine}
 use Rattle.demands.specs.Packets.{out, packetMaker}
 use Rattle.demands.specs.Requests.{requestMaker}
+use Rattle.demands.specs.Written.{wrote, textWriter}
 
 -- what the contracts of `step` and `take` allow for a call on a board
 abbrev pub StepAllows : Board → LentCall → Stepped → List ℕ → List ℕ → List ℕ → Type 0
@@ -80,6 +83,9 @@ pub record Contracts : Type 0 where
   -- hex text
   pub read-text : {text : List ℕ} {bank : Bank} {n : ℕ} {before after : List ℕ} {r : Answer}
       → ReadText·Is text bank n before after r → textRead text bank n before ≡ record { answer = r; image = after }
+  pub text-length : {image : List ℕ} {bank : Bank} {r : Written} → Length·Is image bank r → lengthOf image bank ≡ r
+  pub write-text : {image : List ℕ} {bank : Bank} {before : List ℕ} {r : Written} {after : List ℕ}
+      → Write·Is image bank before r after → textWriter image bank before ≡ wrote r after
   -- the sender
   pub count : {image : List ℕ} {n : ℕ} {r : Tally} → Count·Is image n r → tallyOf image n ≡ r
   pub packet : {image : List ℕ} {n p : ℕ} {before : List ℕ} {r : Made} {after : List ℕ}

@@ -12,6 +12,7 @@ use Rattle.layout.specs.declared.Bank.{Bank}
 use Rattle.lines.specs.declared.line.LineReader.{LineReader}
 use Rattle.hex.specs.declared.fault.Kind.{Kind}
 use Rattle.hex.specs.declared.read.Answer.{Answer as ReadAnswer}
+use Rattle.rows.specs.declared.text.Written.{Written}
 use Rattle.sender.specs.declared.made.Made.{Made}
 use Rattle.sender.specs.declared.packet.Tally.{Tally}
 use Rattle.sender.specs.declared.request.Request.{Request}
@@ -47,6 +48,7 @@ use Rattle.bank.specs.Sound.{Body·Is}
 use Rattle.lines.specs.Places.{Ahead·Is, Reader·Is, Next·Is}
 use Rattle.hex.specs.Read.{KindNumber·Is, AnswerNumber·Is}
 use Rattle.hex.specs.Read.{Read·Is as ReadText·Is}
+use Rattle.rows.specs.Text.{WrittenNumber·Is, Length·Is, Write·Is}
 use Rattle.sender.specs.Made.{MadeNumber·Is}
 use Rattle.sender.specs.Packet.{TallyNumber·Is, Count·Is, Packet·Is}
 use Rattle.sender.specs.Request.{CommandOf·Is, Request·Is}
@@ -116,6 +118,9 @@ pub record Determined : Type 0 where
   pub tally-number : (tally : Tally) → Once (TallyNumber·Is tally)
   pub response-number : (response : Response) → Once (ResponseNumber·Is response)
   pub read-text : (text : List ℕ) (bank : Bank) (n : ℕ) (before : List ℕ) → Twice (ReadText·Is text bank n before)
+  pub written-number : (written : Written) → Once (WrittenNumber·Is written)
+  pub text-length : (image : List ℕ) (bank : Bank) → Once (Length·Is image bank)
+  pub write-text : (image : List ℕ) (bank : Bank) (before : List ℕ) → Twice (Write·Is image bank before)
   -- the sender
   pub count : (image : List ℕ) (n : ℕ) → Once (Count·Is image n)
   pub packet : (image : List ℕ) (n p : ℕ) (before : List ℕ) → Twice (Packet·Is image n p before)

@@ -16,3 +16,4 @@ pub mod Responses
 pub mod Session
 pub mod ShutOut
 pub mod Texts
+pub mod Written

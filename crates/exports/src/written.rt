@@ -7,7 +7,7 @@ pub extern "C" fn rows_length(image: &[u8]) -> usize
     ensures { λ r. ⌜ LengthNumber·Is (now (image .entry)) r ⌝ }
 {
     let written = rows::text::length(image, Bank::Zero);
-    rows::text::number(written)
+    rows::text::written_number(written)
 }
 
 #[no_mangle]
@@ -15,5 +15,5 @@ pub extern "C" fn rows_write(image: &[u8], text: &mut [u8]) -> usize
     ensures { λ r. ⌜ WriteNumber·Is (now (image .entry)) (now (text .entry)) r (now (text .exit)) ⌝ }
 {
     let written = rows::text::write(image, Bank::Zero, text);
-    rows::text::number(written)
+    rows::text::written_number(written)
 }

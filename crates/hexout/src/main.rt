@@ -29,7 +29,7 @@ fn write_into(image: &[u8], bank: Bank, hex_text: &mut [u8]) {
     let written = rows::text::write(image, bank, hex_text);
     match written {
         Written::Text(size) => say_text(hex_text, size),
-        _ => say_refused(rows::text::number(written)),
+        _ => say_refused(rows::text::written_number(written)),
     }
 }
 

@@ -1,3 +1,4 @@
+pub mod Longest
 pub mod Records
 pub mod Rows
 pub mod Texts

@@ -14,7 +14,7 @@ use Rattle.buffer.proofs.Bools.{and-left, no-way}
 use Rattle.buffer.proofs.Places.{front-fits}
 use Rattle.buffer.specs.Place.{frontOf}
 use Rattle.layout.specs.declared.Bank.{Bank}
-use Rattle.layout.specs.Layout.{sectorSize, goodN, wholeLength, startOf}
+use Rattle.layout.specs.Layout.{sectorSize, mostSectors, goodN, wholeLength, startOf}
 use Rattle.layout.proofs.Layouts.{whole-good, good-high}
 use Rattle.rows.specs.declared.text.Written.{Written}
 use Rattle.rows.specs.declared.text.Written.the-variants.{BadLength, Text}
@@ -23,13 +23,13 @@ use Rattle.rows.specs.Text.{rowSize, allRows, endLine, textOf, lengthOf,
 use Rattle.rows.proofs.Records.{sets-next, line-length}
 use Rattle.rows.proofs.Rows.{rows-most}
 
--- a bank's length is no large number
-pub whole-small : (n : ℕ) → wholeLength n ≡ true → n < 4294967296
+-- a bank's length: whole sectors, and not many
+pub whole-most : (n : ℕ) → wholeLength n ≡ true → (n % sectorSize ≡ 0) × (n / sectorSize ≤ mostSectors)
 unfolding wholeLength
-whole-small n e =
-    let m = eqb-true (n % sectorSize) 0 (and-left (eqb (n % sectorSize) 0) (goodN (n / sectorSize)) e) in
-    let h = good-high (n / sectorSize) (whole-good n e) in
-    omega arith
+whole-most n e = (eqb-true (n % sectorSize) 0 (and-left (eqb (n % sectorSize) 0) (goodN (n / sectorSize)) e), good-high (n / sectorSize) (whole-good n e))
+
+pub whole-small : (n : ℕ) → wholeLength n ≡ true → n < 4294967296
+whole-small n e = let m = whole-most n e in omega (arith, m .0, m .1)
 
 pub rows-small : (image : List ℕ) (base : ℕ) → length (allRows image base) ≤ length image * 4
 rows-small image base = let m = rows-most image base (length image / rowSize) (omega arith) in omega arith

@@ -86,8 +86,8 @@ abbrev pub writtenSaid : Written → Said
 writtenSaid BadLength = number 2
 writtenSaid (Text size) = value size
 
-abbrev pub Number·Is : Written → ℕ → Type 0
-Number·Is written r = r ≡ code (writtenSaid written)
+abbrev pub WrittenNumber·Is : Written → ℕ → Type 0
+WrittenNumber·Is written r = r ≡ code (writtenSaid written)
 
 unfoldable pub lengthSays : List ℕ → Bank → Said
 lengthSays image bank = cond (wholeLength (length image)) (value (length (textOf image bank))) (number 2)

@@ -8,7 +8,7 @@ ghost use Prim.Native.Nat.{_+_, _<_, _≤_};
 ghost use lib.ListN.{length};
 ghost use lib.Seq.{sets};
 ghost use Rattle.buffer.specs.Place.{frontOf};
-ghost use Rattle.rows.specs.Text.{upperText, rowText, rowsText, allRows, textOf, Number·Is, Length·Is, Write·Is};
+ghost use Rattle.rows.specs.Text.{upperText, rowText, rowsText, allRows, textOf, WrittenNumber·Is, Length·Is, Write·Is};
 ghost use Rattle.rows.specs.Places.{RowFits, ImageFits, Room, reachedAt};
 
 // The bytes of a row.
@@ -28,8 +28,8 @@ pub enum Written {
 }
 
 // What it says as one number: 2, or how long the text is, which is never that short.
-pub fn number(written: Written) -> usize
-    ensures { λ r. ⌜ Number·Is written r ⌝ }
+pub fn written_number(written: Written) -> usize
+    ensures { λ r. ⌜ WrittenNumber·Is written r ⌝ }
 {
     match written {
         Written::BadLength => 2,

@@ -9,11 +9,11 @@ use Rattle.exports.proofs.written.rows_length.Tie as tie
 length-requires : tie.Need-length-requires
 length-requires c κs = search needs
 
-number-requires : tie.Need-number-requires
-number-requires c κs = search needs
+written-number-requires : tie.Need-written-number-requires
+written-number-requires c κs = search needs
 
 returns : tie.Need-returns
-returns c = c .number .ensures ∙ ap code (c .before .length .ensures .says)
+returns c = c .written-number .ensures ∙ ap code (c .before .length .ensures .says)
 
 pub rows-length-spec : {M : Type 1} → statement M
-rows-length-spec = tie.close (tie.spec length-requires number-requires returns)
+rows-length-spec = tie.close (tie.spec length-requires written-number-requires returns)

@@ -9,8 +9,8 @@ use Rattle.exports.proofs.written.rows_write.Tie as tie
 write-requires : tie.Need-write-requires
 write-requires c κs = search needs
 
-number-requires : tie.Need-number-requires
-number-requires c κs = search needs
+written-number-requires : tie.Need-written-number-requires
+written-number-requires c κs = search needs
 
 same-length : tie.Need-same-length
 same-length c = search needs
@@ -18,7 +18,7 @@ same-length c = search needs
 returns : tie.Need-returns
 returns c =
     let e = c .before .before .before .write .ensures in
-    record { number-is = c .number .ensures ∙ ap code (e .says); stands = e .stands }
+    record { number-is = c .written-number .ensures ∙ ap code (e .says); stands = e .stands }
 
 pub rows-write-spec : {M : Type 1} → statement M
-rows-write-spec = tie.close (tie.spec write-requires number-requires same-length returns)
+rows-write-spec = tie.close (tie.spec write-requires written-number-requires same-length returns)

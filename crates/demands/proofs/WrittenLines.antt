@@ -1,0 +1,199 @@
+-- The lines that the writer of hex text writes, as the reader takes them: each is a line by itself, its record has the very bytes, they add up to 0,
+-- and it says its data, its upper half or the end.
+-- Assumes nothing.
+use mathlib.Core.Path.{_≡_, refl, sym, ap, ap₂, _∙_}
+use mathlib.Core.Bool.{Bool, true, false, _&&_, cond}
+use mathlib.Core.List.{List, [], _∷_, _++_, append-assoc}
+use Prim.Native.Nat.{ℕ, zero, suc, _+_, _-_, _*_, _/_, _%_, _<_, _≤_}
+use native.Mathlib.Nat.{le-of-suc-le-suc}
+use native.Mathlib.Omega.{arith}
+use lib.Dec.{eqb, leb, ltb}
+use lib.ListN.{length, getD, take, drop, length-append}
+use lib.Seq.{take-at}
+use borrow.Author.Tests.{eq-eqb, ne-eqb, lt-ltb, le-leb}
+use Rattle.buffer.specs.Number.{byteAt, bytesOf}
+use Rattle.buffer.proofs.Bools.{and-both, split}
+use Rattle.buffer.proofs.Numbers.{bytes-two}
+use Rattle.digits.specs.Digit.{valueOf, isDigit, digitOf}
+use Rattle.digits.specs.Spelt.{digitsSpelt}
+use Rattle.digits.proofs.Digits.{value-of-digit}
+use Rattle.digits.proofs.Spelt.{length-digits}
+use Rattle.lines.specs.Line.{front, lfNext, lines}
+use Rattle.hex.specs.declared.record.State.{State}
+use Rattle.hex.specs.declared.record.Found.the-variants.{Data, Upper, End}
+use Rattle.hex.specs.Spell.{byteOf, digitBytes, lineBytes}
+use Rattle.hex.specs.Record.{Whole, digitsIn, digitsDue, digitsWhole, recordData, recordOf, total, inBank, dataAt, typed, foundOf}
+use Rattle.rows.specs.Record.{sumOf, checksumOf, recordBody, recordLine}
+
+-- BYTES, each below 256
+abbrev pub Bytes : List ℕ → Type 0
+Bytes l = (i : ℕ) → byteAt l i < 256
+
+pub bytes-cons : (x : ℕ) (l : List ℕ) → x < 256 → Bytes l → Bytes (x ∷ l)
+bytes-cons x l h f zero = h
+bytes-cons x l h f (suc i) = f i
+
+pub bytes-none : Bytes []
+bytes-none i = omega arith
+
+pub bytes-append : (a b : List ℕ) → Bytes a → Bytes b → Bytes (a ++ b)
+bytes-append [] b f g = g
+bytes-append (x ∷ a) b f g = bytes-cons x (a ++ b) (f 0) (bytes-append a b (λ i. f (suc i)) g)
+
+-- DIGITS, read as what they were written for
+
+digit-low : (v : ℕ) → 48 ≤ digitOf v
+unfolding digitOf
+digit-low v = split (λ (c : ℕ). 48 ≤ c) (ltb (v % 16) 10) (λ e. omega arith) (λ e. omega arith)
+
+digit-is : (v : ℕ) → isDigit (digitOf v) ≡ true
+unfolding isDigit
+digit-is v = rw (value-of-digit v) (lt-ltb (v % 16) 16 (omega arith))
+
+byte-back : (b : ℕ) → b < 256 → byteOf (digitOf (b / 16)) (digitOf b) ≡ b
+unfolding byteOf
+byte-back b h = rw (digit-is (b / 16), digit-is b, value-of-digit (b / 16), value-of-digit b) (omega arith)
+
+bytes-back : (l : List ℕ) → Bytes l → digitBytes (digitsSpelt l) ≡ l
+unfolding digitBytes digitsSpelt
+bytes-back [] f = refl
+bytes-back (b ∷ l) f = ap₂ (λ (x : ℕ) (r : List ℕ). x ∷ r) (byte-back b (f 0)) (bytes-back l (λ i. f (suc i)))
+
+all-digits : (l : List ℕ) → digitsIn (length (digitsSpelt l)) (digitsSpelt l) ≡ length (digitsSpelt l)
+unfolding digitsIn digitsSpelt
+all-digits [] = refl
+all-digits (b ∷ l) = rw (digit-is (b / 16), digit-is b, all-digits l)
+
+-- A LINE BY ITSELF, with its end
+
+plain : (c : ℕ) (text : List ℕ) → 48 ≤ c → lines (c ∷ text) ≡ front c (lines text)
+unfolding lines
+plain c text h = rw (ne-eqb c 0x0A (λ e. omega arith), ne-eqb c 0x0D (λ e. omega arith))
+
+ended : (text : List ℕ) → lines (0x0D ∷ 0x0A ∷ text) ≡ [] ∷ lines text
+unfolding lines
+ended text = refl
+
+spelt-line : (l text : List ℕ) → lines (digitsSpelt l ++ 0x0D ∷ 0x0A ∷ text) ≡ digitsSpelt l ∷ lines text
+unfolding digitsSpelt
+spelt-line [] text = ended text
+spelt-line (b ∷ l) text =
+    plain (digitOf (b / 16)) _ (digit-low (b / 16)) ∙ rw (plain (digitOf b) _ (digit-low b), spelt-line l text)
+
+-- THE SUM, as the reader and as the writer say it
+
+total-sum : (l : List ℕ) → total l ≡ sumOf l
+unfolding total sumOf
+total-sum [] = refl
+total-sum (b ∷ l) = rw (total-sum l)
+
+total-append : (a b : List ℕ) → total (a ++ b) ≡ total a + total b
+unfolding total
+total-append [] b = omega arith
+total-append (x ∷ a) b = let e = total-append a b in omega arith
+
+total-one : (b : ℕ) → total (b ∷ []) ≡ b
+unfolding total
+total-one b = omega arith
+
+-- THE RECORD of a line: its bytes with the checksum
+abbrev pub recordBytes : ℕ → ℕ → List ℕ → List ℕ
+recordBytes address type bytes = recordBody address type bytes ++ checksumOf (recordBody address type bytes) ∷ []
+
+abbrev pub lineIn : ℕ → ℕ → List ℕ → List ℕ
+lineIn address type bytes = 0x3A ∷ digitsSpelt (recordBytes address type bytes)
+
+module _ (address type : ℕ) (bytes : List ℕ) where
+  pub line-first : (text : List ℕ) → lines (recordLine address type bytes ++ text) ≡ lineIn address type bytes ∷ lines text
+  unfolding recordLine
+  line-first text =
+      let all : List ℕ = digitsSpelt (recordBytes address type bytes) in
+      let e : (all ++ 0x0D ∷ 0x0A ∷ []) ++ text ≡ all ++ 0x0D ∷ 0x0A ∷ text = append-assoc all (0x0D ∷ 0x0A ∷ []) text in
+      plain 0x3A _ (omega arith) ∙ rw (e, spelt-line (recordBytes address type bytes) text)
+
+  abbrev head : List ℕ
+  head = length bytes ∷ address / 256 % 256 ∷ address % 256 ∷ type ∷ []
+
+  body-is : recordBody address type bytes ≡ head ++ bytes
+  unfolding recordBody
+  body-is = rw (bytes-two address)
+
+  -- as it is read: count, address, type, and behind them the data and the checksum
+  abbrev check : ℕ
+  check = checksumOf (head ++ bytes)
+
+  bytes-are : recordBytes address type bytes ≡ head ++ (bytes ++ check ∷ [])
+  bytes-are = rw body-is
+
+  module _ (few : length bytes < 256) (kind : type < 256) (are : Bytes bytes) where
+    check-small : check < 256
+    unfolding checksumOf
+    check-small = omega arith
+
+    all-bytes : Bytes (head ++ (bytes ++ check ∷ []))
+    all-bytes =
+        let rest : List ℕ = bytes ++ check ∷ [] in
+        let high : ℕ = address / 256 % 256 in
+        let low : ℕ = address % 256 in
+        bytes-cons (length bytes) (high ∷ low ∷ type ∷ rest) few (bytes-cons high (low ∷ type ∷ rest) (omega arith)
+        (bytes-cons low (type ∷ rest) (omega arith) (bytes-cons type rest kind
+        (bytes-append bytes (check ∷ []) are (bytes-cons check [] check-small bytes-none)))))
+
+    bytes-length : length (head ++ (bytes ++ check ∷ [])) ≡ length bytes + 5
+    bytes-length = let n = length-append bytes (check ∷ []) in omega arith
+
+    due-is : digitsDue (digitsSpelt (head ++ (bytes ++ check ∷ []))) ≡ 2 * (length bytes + 5)
+    unfolding digitsSpelt
+    due-is = rw (byte-back (length bytes) few)
+
+    pub record-is : recordOf (lineIn address type bytes) ≡ Whole (head ++ (bytes ++ check ∷ []))
+    unfolding recordOf digitsWhole
+    record-is =
+        let n = length-digits (head ++ (bytes ++ check ∷ [])) in
+        let m = bytes-length in
+        let d : digitsDue (digitsSpelt (head ++ (bytes ++ check ∷ []))) ≡ length (digitsSpelt (head ++ (bytes ++ check ∷ []))) = due-is ∙ omega arith in
+        rw (bytes-are, d, all-digits (head ++ (bytes ++ check ∷ [])), bytes-back (head ++ (bytes ++ check ∷ [])) all-bytes, eq-eqb (length (digitsSpelt (head ++ (bytes ++ check ∷ [])))) _ refl)
+
+    -- its data
+    pub data-is : recordData (length bytes) (lineBytes (lineIn address type bytes)) ≡ bytes
+    data-is =
+        rw (bytes-are, bytes-back (head ++ (bytes ++ check ∷ [])) all-bytes) (take-at bytes (check ∷ []) (length bytes) refl)
+
+    -- H2: it adds up to 0
+    pub adds-up : total (head ++ (bytes ++ check ∷ [])) % 256 ≡ 0
+    unfolding checksumOf
+    adds-up =
+        let e = append-assoc head bytes (check ∷ []) in
+        let n = total-append (head ++ bytes) (check ∷ []) in
+        let m = total-sum (head ++ bytes) in
+        let k : check ≡ (256 - sumOf (head ++ bytes) % 256) % 256 = refl in
+        let o = total-one check in
+        rw (sym e) (omega arith)
+
+    says-is : (base size : ℕ) (s : State) → s .over ≡ false
+        → foundOf base size s (lineIn address type bytes) ≡ typed base size (s .upper) (s .last) (head ++ (bytes ++ check ∷ []))
+    unfolding foundOf
+    says-is base size s o = rw (o, record-is, adds-up)
+
+-- WHAT IT SAYS, before the end record was seen
+module _ (base size : ℕ) (s : State) (goes : s .over ≡ false) where
+  pub found-end : foundOf base size s (lineIn 0 1 []) ≡ End
+  unfolding typed
+  found-end = says-is 0 1 [] (omega arith) (omega arith) bytes-none base size s goes
+
+  pub found-upper : (upper : ℕ) → upper < 65536 → foundOf base size s (lineIn 0 4 (bytesOf 2 upper)) ≡ Upper upper
+  unfolding typed
+  found-upper upper h =
+      let e : upper / 256 % 256 * 256 + upper % 256 ≡ upper = omega arith in
+      let b : Bytes (upper / 256 % 256 ∷ upper % 256 ∷ []) =
+      bytes-cons (upper / 256 % 256) (upper % 256 ∷ []) (omega arith) (bytes-cons (upper % 256) [] (omega arith) bytes-none) in
+      rw (bytes-two upper) (says-is 0 4 (upper / 256 % 256 ∷ upper % 256 ∷ []) (omega arith) (omega arith) b base size s goes ∙ ap Upper e)
+
+  pub found-data :
+      (address : ℕ) (bytes : List ℕ) → Bytes bytes → 0 < length bytes → length bytes < 256 → s .upper ≡ address / 65536 → base ≤ address
+      → address + length bytes ≤ base + size → s .last ≤ address → foundOf base size s (lineIn address 0 bytes) ≡ Data address (length bytes)
+  unfolding typed dataAt inBank
+  found-data address bytes b some few u low high after =
+      let start : s .upper * 65536 + (address / 256 % 256 * 256 + address % 256) ≡ address = omega arith in
+      says-is address 0 bytes few (omega arith) b base size s goes
+      ∙ rw (start, ne-eqb (length bytes) 0 (λ e. omega arith), le-leb base address low, le-leb (address + length bytes) (base + size) high, le-leb (s .last) address after)
