@@ -6,8 +6,8 @@ ghost use Rattle.exports.specs.Written.{LengthNumber·Is, WriteNumber·I
 pub extern "C" fn rows_length(image: &[u8]) -> usize
     ensures { λ r. ⌜ LengthNumber·Is (now (image .entry)) r ⌝ }
 {
-    let written = rows::text::length(image, Bank::Zero);
-    rows::text::written_number(written)
+    let told = rows::text::length(image, Bank::Zero);
+    rows::text::written_number(told)
 }
 
 #[no_mangle]
