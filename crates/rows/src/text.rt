@@ -83,7 +83,9 @@ fn put_upper(text: &mut [u8], at: usize, told: usize, upper: usize)
     if upper == told {
         return;
     }
-    let bytes = [(upper / 256 % 256) as u8, (upper % 256) as u8];
+    let high = (upper / 256 % 256) as u8;
+    let low = (upper % 256) as u8;
+    let bytes = [high, low];
     put_line(text, at, 0, 4, &bytes);
 }
 

@@ -11,11 +11,11 @@ returns c =
     let a = c .before .before .args in
     put-none (a .told) (a .upper) (a .text .now) (a .at) (c .if1 .taken)
 
-cast-t9 : tie.Need-cast-t9
-cast-t9 c = search needs
+cast-high : tie.Need-cast-high
+cast-high c = search needs
 
-cast-t11 : tie.Need-cast-t11
-cast-t11 c = search needs
+cast-low : tie.Need-cast-low
+cast-low c = search needs
 
 slice-aggregate-put-line : tie.Need-slice-aggregate-put-line
 slice-aggregate-put-line c = search needs
@@ -39,8 +39,8 @@ put-upper-spec =
     tie.close
     (tie.spec
     returns
-    cast-t9
-    cast-t11
+    cast-high
+    cast-low
     slice-aggregate-put-line
     put-line-requires
     same-length
