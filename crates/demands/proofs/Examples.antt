@@ -10,6 +10,7 @@ use lib.Seq.{take-at}
 use borrow.Author.Tests.{not-true, eq-eqb}
 use Rattle.buffer.specs.Compare.{sameOf, blankOf}
 use Rattle.buffer.specs.Number.{bytesOf, byteAt}
+use Rattle.buffer.specs.Total.{total}
 use Rattle.buffer.proofs.Comparing.{same-self}
 use Rattle.crc.specs.Crc.{crcOf}
 use Rattle.frame.specs.Checksum.{takenAway, checksumOf}
@@ -35,7 +36,7 @@ use Rattle.hex.specs.declared.fault.Kind.the-variants.{H6}
 use Rattle.hex.specs.declared.read.Answer.the-variants.{Refused, Accepted}
 use Rattle.digits.specs.Digit.{valueOf, isDigit}
 use Rattle.hex.specs.Spell.{byteOf, digitBytes}
-use Rattle.hex.specs.Record.{digitsIn, digitsWhole, recordOf, total, dataAt, typed, foundOf}
+use Rattle.hex.specs.Record.{digitsIn, digitsWhole, recordOf, dataAt, typed, foundOf}
 use Rattle.hex.specs.Read.{readLines, textRead}
 use Rattle.exchange.specs.declared.state.State.{State}
 use Rattle.exchange.specs.declared.state.State.the-variants as state

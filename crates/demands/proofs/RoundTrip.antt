@@ -25,24 +25,25 @@ use Rattle.hex.specs.declared.read.Outcome.the-variants.{Through}
 use Rattle.hex.specs.Read.{LinesRead, stateAfter, readLines, atStart}
 use Rattle.rows.specs.Text.{rowSize, rowOf, rowAddress, rowUpper, dataLine, upperLine, endLine, toldBefore, upperText, rowText, rowsText, textOf}
 use Rattle.rows.proofs.Rows.{upper-same, upper-other, text-blank, text-told, told-next, row-length, told-stays}
-use Rattle.demands.proofs.WrittenLines.{Bytes, bytes-none, bytes-cons, lineIn, line-first, data-is, found-data, found-upper, found-end}
+use Rattle.demands.specs.Written.{AreBytes}
+use Rattle.demands.proofs.WrittenLines.{bytes-none, bytes-cons, lineIn, line-first, data-is, found-data, found-upper, found-end}
 
-bytes-take : (n : ℕ) (l : List ℕ) → Bytes l → Bytes (take n l)
+bytes-take : (n : ℕ) (l : List ℕ) → AreBytes l → AreBytes (take n l)
 bytes-take zero l f = bytes-none
 bytes-take (suc n) [] f = bytes-none
 bytes-take (suc n) (x ∷ l) f = bytes-cons x (take n l) (f 0) (bytes-take n l (λ i. f (suc i)))
 
-bytes-drop : (n : ℕ) (l : List ℕ) → Bytes l → Bytes (drop n l)
+bytes-drop : (n : ℕ) (l : List ℕ) → AreBytes l → AreBytes (drop n l)
 bytes-drop n l f i = rw (getD-drop n l i 0) (f (n + i))
 
-module _ (image : List ℕ) (bank : Bank) (n : ℕ) (long : length image ≡ sectorSize * n) (few : n ≤ mostSectors) (are : Bytes image) where
+module _ (image : List ℕ) (bank : Bank) (n : ℕ) (long : length image ≡ sectorSize * n) (few : n ≤ mostSectors) (are : AreBytes image) where
   abbrev base : ℕ
   base = startOf bank
 
   abbrev size : ℕ
   size = sectorSize * n
 
-  row-bytes : (k : ℕ) → Bytes (rowOf image k)
+  row-bytes : (k : ℕ) → AreBytes (rowOf image k)
   unfolding rowOf
   row-bytes k = bytes-take rowSize (drop (k * rowSize) image) (bytes-drop (k * rowSize) image are)
 

@@ -5,6 +5,7 @@ use mathlib.Core.Bool.{true}
 use mathlib.Core.List.{List, [], _∷_, _++_}
 use Prim.Native.Nat.{ℕ, _*_}
 use lib.ListN.{length, replicate}
+use Rattle.buffer.specs.Total.{total}
 use Rattle.layout.specs.declared.Bank.the-variants.{Zero, One}
 use Rattle.layout.specs.Layout.{sectorSize, goodN, startOf}
 use Rattle.layout.specs.Pair.{bankIn}
@@ -13,7 +14,7 @@ use Rattle.digits.specs.Digit.{valueOf, isDigit}
 use Rattle.hex.specs.declared.read.Answer.the-variants.{Accepted}
 use Rattle.hex.specs.Meaning.{Leaves}
 use Rattle.hex.specs.Spell.{byteOf, digitBytes}
-use Rattle.hex.specs.Record.{digitsIn, digitsWhole, recordOf, total, inBank, dataAt, typed, foundOf}
+use Rattle.hex.specs.Record.{digitsIn, digitsWhole, recordOf, inBank, dataAt, typed, foundOf}
 use Rattle.hex.specs.Read.{Reading, readLines, textRead}
 use Rattle.sender.specs.declared.request.Request.the-variants.{WriteStart, WriteEnd}
 use Rattle.sender.specs.Packet.{packetCount}

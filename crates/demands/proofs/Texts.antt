@@ -6,6 +6,7 @@ use mathlib.Core.List.{List, [], _∷_}
 use Prim.Native.Nat.{ℕ, _*_}
 use native.Mathlib.Omega.{arith}
 use lib.ListN.{length, replicate, length-replicate}
+use Rattle.buffer.specs.Total.{total}
 use Rattle.buffer.proofs.Bools.{no-way}
 use Rattle.layout.specs.declared.Bank.{Bank}
 use Rattle.layout.specs.declared.Bank.the-variants.{Zero}
@@ -19,7 +20,7 @@ use Rattle.digits.specs.Digit.{valueOf, isDigit}
 use Rattle.hex.specs.Spell.{byteOf, digitBytes}
 use Rattle.hex.specs.Meaning.{FirstBroken}
 use Rattle.hex.specs.Read.{readLines, kindNumber, answerSaid, readSays, textRead}
-use Rattle.hex.specs.Record.{digitsIn, digitsWhole, recordOf, total, dataAt, typed, foundOf}
+use Rattle.hex.specs.Record.{digitsIn, digitsWhole, recordOf, dataAt, typed, foundOf}
 use Rattle.hex.proofs.Meaning.{answer-said, says-3, says-2, unread, kept-accepted, broken-refused, accepted-kept, refused-broken, read-length}
 use Rattle.demands.specs.Texts.{TextReader, MeetsHex, InventsLine, InventsByte, retold, lineInventor, byteInventor}
 

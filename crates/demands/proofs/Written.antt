@@ -26,8 +26,9 @@ use Rattle.rows.specs.Text.{textOf, lengthOf, writtenOf, bufferAfter, writtenSa
 use Rattle.rows.proofs.Texts.{whole-most}
 use Rattle.rows.proofs.Longest.{text-longest}
 use Rattle.demands.specs.Texts.{TextReader, MeetsHex}
-use Rattle.demands.specs.Written.{TextWriter, WriteRight, MeetsWriter, LengthRight, MeetsLength, AreBytes, textBy, RoundTrip, TextsTell, textWriter}
+use Rattle.demands.specs.Written.{TextWriter, WriteRight, MeetsWriter, LengthRight, MeetsLength, Enough, AreBytes, textBy, RoundTrip, TextsTell, textWriter}
 use Rattle.demands.proofs.RoundTrip.{text-back}
+use Rattle.demands.proofs.Texts.{texts-meet}
 
 -- THE WRITER, by the two tests: what it says, and the buffer
 module _ (image : List ℕ) (bank : Bank) (before : List ℕ) where
@@ -89,6 +90,16 @@ length-meets image bank = by (wholeLength (length image)) refl
           most = λ size q. let z : length (textOf image bank) ≡ size = cc in rw (sym z) (text-longest image bank w);
         }
     by false w = record { bad-length = λ _. refl; told = λ f. let z = sym w ∙ f in no-way (cc); most = λ size q. no-way (cc) }
+
+pub enough : (tell : List ℕ → Bank → Written) (write : TextWriter) → MeetsLength tell → MeetsWriter write → Enough tell write
+enough tell write tells writes image bank before size said h = by (wholeLength (length image)) refl
+  where
+    by : (w : Bool) → wholeLength (length image) ≡ w → writtenSaid (write image bank before .answer) ≡ value size
+    by false w = let z = sym (tells image bank .bad-length w) ∙ said in no-way (cc)
+    by true w =
+        let z : value (length (textOf image bank)) ≡ value size = sym (tells image bank .told w) ∙ said in
+        let e : length (textOf image bank) ≡ size = cc in
+        writes image bank before .told w (omega arith) ∙ ap value e
 
 -- READ AGAIN
 
@@ -165,3 +176,7 @@ texts-tell write writes image other bank before buffer size long are too l said 
     let a = back image bank are w n refl in
     let b = back other bank too v n (ap (λ (m : ℕ). m / sectorSize) l) in
     ap (λ (d : LinesRead). d .image) (sym a ∙ ap (λ (text : List ℕ). linesRead text bank n) t ∙ b)
+
+-- of the writer and the reader of the contracts
+pub text-round-trip : RoundTrip textWriter textRead
+text-round-trip = round-trip textWriter textRead writer-meets texts-meet

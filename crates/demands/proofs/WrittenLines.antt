@@ -12,8 +12,10 @@ use lib.ListN.{length, getD, take, drop, length-append}
 use lib.Seq.{take-at}
 use borrow.Author.Tests.{eq-eqb, ne-eqb, lt-ltb, le-leb}
 use Rattle.buffer.specs.Number.{byteAt, bytesOf}
+use Rattle.buffer.specs.Total.{total}
 use Rattle.buffer.proofs.Bools.{and-both, split}
 use Rattle.buffer.proofs.Numbers.{bytes-two}
+use Rattle.buffer.proofs.Totals.{total-append}
 use Rattle.digits.specs.Digit.{valueOf, isDigit, digitOf}
 use Rattle.digits.specs.Spelt.{digitsSpelt}
 use Rattle.digits.proofs.Digits.{value-of-digit}
@@ -22,21 +24,20 @@ use Rattle.lines.specs.Line.{front, lfNext, lines}
 use Rattle.hex.specs.declared.record.State.{State}
 use Rattle.hex.specs.declared.record.Found.the-variants.{Data, Upper, End}
 use Rattle.hex.specs.Spell.{byteOf, digitBytes, lineBytes}
-use Rattle.hex.specs.Record.{Whole, digitsIn, digitsDue, digitsWhole, recordData, recordOf, total, inBank, dataAt, typed, foundOf}
-use Rattle.rows.specs.Record.{sumOf, checksumOf, recordBody, recordLine}
+use Rattle.hex.specs.Record.{Whole, digitsIn, digitsDue, digitsWhole, recordData, recordOf, inBank, dataAt, typed, foundOf}
+use Rattle.rows.specs.Record.{recordBody, recordChecksum, recordBytes, recordLine}
+use Rattle.rows.proofs.Records.{head, body-is}
+use Rattle.demands.specs.Written.{AreBytes}
 
--- BYTES, each below 256
-abbrev pub Bytes : List ℕ → Type 0
-Bytes l = (i : ℕ) → byteAt l i < 256
-
-pub bytes-cons : (x : ℕ) (l : List ℕ) → x < 256 → Bytes l → Bytes (x ∷ l)
+-- BYTES, one by one
+pub bytes-cons : (x : ℕ) (l : List ℕ) → x < 256 → AreBytes l → AreBytes (x ∷ l)
 bytes-cons x l h f zero = h
 bytes-cons x l h f (suc i) = f i
 
-pub bytes-none : Bytes []
+pub bytes-none : AreBytes []
 bytes-none i = omega arith
 
-pub bytes-append : (a b : List ℕ) → Bytes a → Bytes b → Bytes (a ++ b)
+pub bytes-append : (a b : List ℕ) → AreBytes a → AreBytes b → AreBytes (a ++ b)
 bytes-append [] b f g = g
 bytes-append (x ∷ a) b f g = bytes-cons x (a ++ b) (f 0) (bytes-append a b (λ i. f (suc i)) g)
 
@@ -54,7 +55,7 @@ byte-back : (b : ℕ) → b < 256 → byteOf (digitOf (b / 16)) (digitOf b) ≡ 
 unfolding byteOf
 byte-back b h = rw (digit-is (b / 16), digit-is b, value-of-digit (b / 16), value-of-digit b) (omega arith)
 
-bytes-back : (l : List ℕ) → Bytes l → digitBytes (digitsSpelt l) ≡ l
+bytes-back : (l : List ℕ) → AreBytes l → digitBytes (digitsSpelt l) ≡ l
 unfolding digitBytes digitsSpelt
 bytes-back [] f = refl
 bytes-back (b ∷ l) f = ap₂ (λ (x : ℕ) (r : List ℕ). x ∷ r) (byte-back b (f 0)) (bytes-back l (λ i. f (suc i)))
@@ -80,26 +81,11 @@ spelt-line [] text = ended text
 spelt-line (b ∷ l) text =
     plain (digitOf (b / 16)) _ (digit-low (b / 16)) ∙ rw (plain (digitOf b) _ (digit-low b), spelt-line l text)
 
--- THE SUM, as the reader and as the writer say it
-
-total-sum : (l : List ℕ) → total l ≡ sumOf l
-unfolding total sumOf
-total-sum [] = refl
-total-sum (b ∷ l) = rw (total-sum l)
-
-total-append : (a b : List ℕ) → total (a ++ b) ≡ total a + total b
-unfolding total
-total-append [] b = omega arith
-total-append (x ∷ a) b = let e = total-append a b in omega arith
-
 total-one : (b : ℕ) → total (b ∷ []) ≡ b
 unfolding total
 total-one b = omega arith
 
--- THE RECORD of a line: its bytes with the checksum
-abbrev pub recordBytes : ℕ → ℕ → List ℕ → List ℕ
-recordBytes address type bytes = recordBody address type bytes ++ checksumOf (recordBody address type bytes) ∷ []
-
+-- THE RECORD of a line
 abbrev pub lineIn : ℕ → ℕ → List ℕ → List ℕ
 lineIn address type bytes = 0x3A ∷ digitsSpelt (recordBytes address type bytes)
 
@@ -111,26 +97,22 @@ module _ (address type : ℕ) (bytes : List ℕ) where
       let e : (all ++ 0x0D ∷ 0x0A ∷ []) ++ text ≡ all ++ 0x0D ∷ 0x0A ∷ text = append-assoc all (0x0D ∷ 0x0A ∷ []) text in
       plain 0x3A _ (omega arith) ∙ rw (e, spelt-line (recordBytes address type bytes) text)
 
-  abbrev head : List ℕ
-  head = length bytes ∷ address / 256 % 256 ∷ address % 256 ∷ type ∷ []
-
-  body-is : recordBody address type bytes ≡ head ++ bytes
-  unfolding recordBody
-  body-is = rw (bytes-two address)
+  abbrev opening : List ℕ
+  opening = head address type bytes
 
   -- as it is read: count, address, type, and behind them the data and the checksum
   abbrev check : ℕ
-  check = checksumOf (head ++ bytes)
+  check = recordChecksum (opening ++ bytes)
 
-  bytes-are : recordBytes address type bytes ≡ head ++ (bytes ++ check ∷ [])
-  bytes-are = rw body-is
+  bytes-are : recordBytes address type bytes ≡ opening ++ (bytes ++ check ∷ [])
+  bytes-are = rw (body-is address type bytes)
 
-  module _ (few : length bytes < 256) (kind : type < 256) (are : Bytes bytes) where
+  module _ (few : length bytes < 256) (kind : type < 256) (are : AreBytes bytes) where
     check-small : check < 256
-    unfolding checksumOf
+    unfolding recordChecksum
     check-small = omega arith
 
-    all-bytes : Bytes (head ++ (bytes ++ check ∷ []))
+    all-bytes : AreBytes (opening ++ (bytes ++ check ∷ []))
     all-bytes =
         let rest : List ℕ = bytes ++ check ∷ [] in
         let high : ℕ = address / 256 % 256 in
@@ -139,39 +121,38 @@ module _ (address type : ℕ) (bytes : List ℕ) where
         (bytes-cons low (type ∷ rest) (omega arith) (bytes-cons type rest kind
         (bytes-append bytes (check ∷ []) are (bytes-cons check [] check-small bytes-none)))))
 
-    bytes-length : length (head ++ (bytes ++ check ∷ [])) ≡ length bytes + 5
+    bytes-length : length (opening ++ (bytes ++ check ∷ [])) ≡ length bytes + 5
     bytes-length = let n = length-append bytes (check ∷ []) in omega arith
 
-    due-is : digitsDue (digitsSpelt (head ++ (bytes ++ check ∷ []))) ≡ 2 * (length bytes + 5)
+    due-is : digitsDue (digitsSpelt (opening ++ (bytes ++ check ∷ []))) ≡ 2 * (length bytes + 5)
     unfolding digitsSpelt
     due-is = rw (byte-back (length bytes) few)
 
-    pub record-is : recordOf (lineIn address type bytes) ≡ Whole (head ++ (bytes ++ check ∷ []))
+    pub record-is : recordOf (lineIn address type bytes) ≡ Whole (opening ++ (bytes ++ check ∷ []))
     unfolding recordOf digitsWhole
     record-is =
-        let n = length-digits (head ++ (bytes ++ check ∷ [])) in
+        let n = length-digits (opening ++ (bytes ++ check ∷ [])) in
         let m = bytes-length in
-        let d : digitsDue (digitsSpelt (head ++ (bytes ++ check ∷ []))) ≡ length (digitsSpelt (head ++ (bytes ++ check ∷ []))) = due-is ∙ omega arith in
-        rw (bytes-are, d, all-digits (head ++ (bytes ++ check ∷ [])), bytes-back (head ++ (bytes ++ check ∷ [])) all-bytes, eq-eqb (length (digitsSpelt (head ++ (bytes ++ check ∷ [])))) _ refl)
+        let d : digitsDue (digitsSpelt (opening ++ (bytes ++ check ∷ []))) ≡ length (digitsSpelt (opening ++ (bytes ++ check ∷ []))) = due-is ∙ omega arith in
+        rw (bytes-are, d, all-digits (opening ++ (bytes ++ check ∷ [])), bytes-back (opening ++ (bytes ++ check ∷ [])) all-bytes, eq-eqb (length (digitsSpelt (opening ++ (bytes ++ check ∷ [])))) _ refl)
 
     -- its data
     pub data-is : recordData (length bytes) (lineBytes (lineIn address type bytes)) ≡ bytes
     data-is =
-        rw (bytes-are, bytes-back (head ++ (bytes ++ check ∷ [])) all-bytes) (take-at bytes (check ∷ []) (length bytes) refl)
+        rw (bytes-are, bytes-back (opening ++ (bytes ++ check ∷ [])) all-bytes) (take-at bytes (check ∷ []) (length bytes) refl)
 
     -- H2: it adds up to 0
-    pub adds-up : total (head ++ (bytes ++ check ∷ [])) % 256 ≡ 0
-    unfolding checksumOf
+    pub adds-up : total (opening ++ (bytes ++ check ∷ [])) % 256 ≡ 0
+    unfolding recordChecksum
     adds-up =
-        let e = append-assoc head bytes (check ∷ []) in
-        let n = total-append (head ++ bytes) (check ∷ []) in
-        let m = total-sum (head ++ bytes) in
-        let k : check ≡ (256 - sumOf (head ++ bytes) % 256) % 256 = refl in
-        let o = total-one check in
+        let e = append-assoc opening bytes (check ∷ []) in
+        let n = total-append (opening ++ bytes) (check ∷ []) in
+        let k : check ≡ (256 - total (opening ++ bytes) % 256) % 256 = refl in
+        let o : total (check ∷ []) ≡ check = total-one check in
         rw (sym e) (omega arith)
 
     says-is : (base size : ℕ) (s : State) → s .over ≡ false
-        → foundOf base size s (lineIn address type bytes) ≡ typed base size (s .upper) (s .last) (head ++ (bytes ++ check ∷ []))
+        → foundOf base size s (lineIn address type bytes) ≡ typed base size (s .upper) (s .last) (opening ++ (bytes ++ check ∷ []))
     unfolding foundOf
     says-is base size s o = rw (o, record-is, adds-up)
 
@@ -185,12 +166,12 @@ module _ (base size : ℕ) (s : State) (goes : s .over ≡ false) where
   unfolding typed
   found-upper upper h =
       let e : upper / 256 % 256 * 256 + upper % 256 ≡ upper = omega arith in
-      let b : Bytes (upper / 256 % 256 ∷ upper % 256 ∷ []) =
+      let b : AreBytes (upper / 256 % 256 ∷ upper % 256 ∷ []) =
       bytes-cons (upper / 256 % 256) (upper % 256 ∷ []) (omega arith) (bytes-cons (upper % 256) [] (omega arith) bytes-none) in
       rw (bytes-two upper) (says-is 0 4 (upper / 256 % 256 ∷ upper % 256 ∷ []) (omega arith) (omega arith) b base size s goes ∙ ap Upper e)
 
   pub found-data :
-      (address : ℕ) (bytes : List ℕ) → Bytes bytes → 0 < length bytes → length bytes < 256 → s .upper ≡ address / 65536 → base ≤ address
+      (address : ℕ) (bytes : List ℕ) → AreBytes bytes → 0 < length bytes → length bytes < 256 → s .upper ≡ address / 65536 → base ≤ address
       → address + length bytes ≤ base + size → s .last ≤ address → foundOf base size s (lineIn address 0 bytes) ≡ Data address (length bytes)
   unfolding typed dataAt inBank
   found-data address bytes b some few u low high after =

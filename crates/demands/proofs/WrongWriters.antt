@@ -1,4 +1,4 @@
--- A writer of hex text that drops a row, and one that forgets the bank, are shut out.
+-- A writer of hex text that drops a row, and one that forgets where the bank starts, are shut out.
 -- Assumes nothing.
 use mathlib.Core.Path.{_≡_, refl, sym, ap, _∙_}
 use mathlib.Core.Bool.{Bool, true, false}
@@ -11,7 +11,9 @@ use lib.Seq.{ext-getD, getD-set-same, getD-set-other, getD-take, getD-drop}
 use borrow.Author.Tests.{eqb-true, eqb-false}
 use Rattle.buffer.specs.Compare.{blankOf}
 use Rattle.buffer.specs.Number.{byteAt, bytesOf}
+use Rattle.buffer.specs.Total.{total}
 use Rattle.buffer.specs.Place.{placeOf}
+use Rattle.buffer.proofs.Comparing.{blank-at}
 use Rattle.buffer.proofs.Places.{place-fits}
 use Rattle.digits.specs.Digit.{digitOf}
 use Rattle.digits.specs.Spelt.{digitsSpelt}
@@ -19,10 +21,11 @@ use Rattle.flash.specs.Sector.{blanks}
 use Rattle.layout.specs.declared.Bank.the-variants.{Zero, One}
 use Rattle.layout.specs.Layout.{sectorSize, mostSectors, goodN, wholeLength}
 use Rattle.layout.specs.Said.{value}
-use Rattle.rows.specs.Record.{sumOf, checksumOf, recordBody, recordLine}
-use Rattle.rows.specs.Text.{rowSize, rowOf, toldBefore, upperText, rowText, rowsText, textOf, writtenSaid}
+use Rattle.rows.specs.Record.{recordBody, recordChecksum, recordLine}
+use Rattle.rows.specs.Text.{rowSize, rowOf, toldBefore, upperText, rowText, rowsText, textOf, longestText, writtenSaid}
 use Rattle.rows.proofs.Longest.{text-longest}
-use Rattle.demands.specs.Written.{Written·Out, TextWriter, MeetsWriter, AreBytes, DropsRow, rowDropper, ForgetsBank, bankForgetter, textWriter}
+use Rattle.rows.proofs.Rows.{row-length}
+use Rattle.demands.specs.Written.{Written·Out, TextWriter, MeetsWriter, AreBytes, DropsRow, rowDropper, ForgetsStart, startForgetter, textWriter}
 use Rattle.demands.proofs.WrittenLines.{bytes-cons, bytes-none}
 use Rattle.demands.proofs.Written.{texts-tell}
 
@@ -31,7 +34,7 @@ unfoldable zeros : List ℕ
 zeros = replicate (sectorSize * mostSectors) 0
 
 unfoldable room : List ℕ
-room = replicate 707121 0
+room = replicate longestText 0
 
 abbrev other : ℕ → List ℕ
 other at = set zeros at 1
@@ -40,9 +43,9 @@ zeros-length : length zeros ≡ sectorSize * mostSectors
 unfolding zeros
 zeros-length = length-replicate {A = ℕ} (sectorSize * mostSectors) 0
 
-room-length : length room ≡ 707121
+room-length : length room ≡ longestText
 unfolding room
-room-length = length-replicate {A = ℕ} 707121 0
+room-length = length-replicate {A = ℕ} longestText 0
 
 zeros-at : (i : ℕ) → i < sectorSize * mostSectors → byteAt zeros i ≡ 0
 unfolding zeros
@@ -86,16 +89,30 @@ module _ (at : ℕ) (h : at < sectorSize * mostSectors) where
       let b : byteAt zeros at ≡ 1 = ap (λ (l : List ℕ). byteAt l at) one ∙ at-is in
       omega arith
 
+-- a row whose first byte is other than 0xFF
+filled : (image : List ℕ) (k : ℕ) → suc k * rowSize ≤ length image → (byteAt image (k * rowSize) ≡ 0xFF → ⊥) → blankOf (rowOf image k) ≡ false
+unfolding rowOf
+filled image k h n = by (blankOf (rowOf image k)) refl
+  where
+    by : (b : Bool) → blankOf (rowOf image k) ≡ b → blankOf (rowOf image k) ≡ false
+    by true b =
+        let e : k * rowSize + 0 ≡ k * rowSize = omega arith in
+        let l = row-length image 0 k h in
+        absurd (n (rw e at (sym (getD-drop (k * rowSize) image 0 0) ∙ sym (getD-take rowSize (drop (k * rowSize) image) 0 0 (omega arith)) ∙ blank-at (rowOf image k) b 0 (omega arith))))
+    by false b = b
+
 pub no-row-dropper : (k : ℕ) → suc k * rowSize ≤ sectorSize * mostSectors → (write : TextWriter) → DropsRow k write → MeetsWriter write → ⊥
 no-row-dropper k h write drops writes =
     let at : ℕ = k * rowSize in
     told-apart at (omega arith) write writes
     (drops zeros (other at) Zero room (zeros-length ∙ sym (other-length at (omega arith))) (rw zeros-length h)
+    (filled zeros k (rw zeros-length h) (λ e. omega (arith, zeros-at at (omega arith))))
+    (filled (other at) k (rw (other-length at (omega arith)) h) (λ e. omega (arith, at-is at (omega arith))))
     (λ i n. sym (getD-set-other zeros at i 1 0 (λ e. n (omega arith)))))
 
 -- one of that kind
 pub drops-row : (k : ℕ) → DropsRow k (rowDropper k)
-drops-row k image other bank before l h f = ap (λ (x : List ℕ). textWriter x bank before) blanked
+drops-row k image other bank before l h a b f = ap (λ (x : List ℕ). textWriter x bank before) blanked
   where
     first : take (k * rowSize) image ≡ take (k * rowSize) other
     first =
@@ -112,7 +129,7 @@ drops-row k image other bank before l h f = ap (λ (x : List ℕ). textWriter x 
     blanked =
         place-fits image (k * rowSize) (blanks rowSize) (omega arith) ∙ rw (first, last) (sym (place-fits other (k * rowSize) (blanks rowSize) (omega arith)))
 
--- ONE THAT FORGETS THE BANK. An image of one sector with one byte other than 0xFF
+-- ONE THAT FORGETS WHERE THE BANK STARTS. An image of one sector with one byte other than 0xFF
 unfoldable small : List ℕ
 small = 0 ∷ blanks 511
 
@@ -122,15 +139,15 @@ small-room = refl
 
 -- the third digit of the upper half
 half-zero : getD (textOf small Zero) 10 0 ≡ 0x30
-unfolding small textOf rowsText rowText toldBefore upperText rowOf blankOf recordLine recordBody checksumOf sumOf digitsSpelt digitOf bytesOf
+unfolding small textOf rowsText rowText toldBefore upperText rowOf blankOf recordLine recordBody recordChecksum total digitsSpelt digitOf bytesOf
 half-zero = refl
 
 half-one : getD (textOf small One) 10 0 ≡ 0x34
-unfolding small textOf rowsText rowText toldBefore upperText rowOf blankOf recordLine recordBody checksumOf sumOf digitsSpelt digitOf bytesOf
+unfolding small textOf rowsText rowText toldBefore upperText rowOf blankOf recordLine recordBody recordChecksum total digitsSpelt digitOf bytesOf
 half-one = refl
 
-pub no-bank-forgetter : (write : TextWriter) → ForgetsBank write → MeetsWriter write → ⊥
-no-bank-forgetter write forgets writes =
+pub no-start-forgetter : (write : TextWriter) → ForgetsStart write → MeetsWriter write → ⊥
+no-start-forgetter write forgets writes =
     let fits : (bank : _) → length (textOf small bank) ≤ length room = λ bank. rw room-length (text-longest small bank small-room) in
     let said = writes small Zero room .told small-room (fits Zero) in
     let zero-text = writes small Zero room .text _ said in
@@ -141,5 +158,5 @@ no-bank-forgetter write forgets writes =
     omega arith
 
 -- one of that kind
-pub forgets-bank : ForgetsBank bankForgetter
-forgets-bank image before = refl
+pub forgets-start : ForgetsStart startForgetter
+forgets-start image before = refl

@@ -2,11 +2,12 @@
 -- Assumes nothing.
 use mathlib.Core.Path.{_≡_}
 use mathlib.Core.Bool.{true, false}
-use mathlib.Core.List.{List}
+use mathlib.Core.List.{List, _++_}
 use Prim.Native.Nat.{ℕ, suc, _*_, _/_, _≤_, _<_}
 use lib.ListN.{length, take, drop}
+use Rattle.buffer.specs.Compare.{blankOf}
 use Rattle.buffer.specs.Number.{byteAt}
-use Rattle.buffer.specs.Place.{placeOf}
+use Rattle.buffer.specs.Place.{placeOf, frontOf}
 use Rattle.flash.specs.Sector.{blanks}
 use Rattle.layout.specs.declared.Bank.{Bank}
 use Rattle.layout.specs.declared.Bank.the-variants.{Zero, One}
@@ -14,7 +15,8 @@ use Rattle.layout.specs.Layout.{sectorSize, wholeLength}
 use Rattle.layout.specs.Said.{number, value, accepted}
 use Rattle.hex.specs.Read.{Reading, answerSaid}
 use Rattle.rows.specs.declared.text.Written.{Written}
-use Rattle.rows.specs.Text.{rowSize, textOf, lengthOf, writtenOf, bufferAfter, writtenSaid}
+use Rattle.rows.specs.declared.text.Written.the-variants.{Text}
+use Rattle.rows.specs.Text.{rowSize, rowOf, allRows, endLine, textOf, longestText, writtenOf, bufferAfter, writtenSaid}
 use Rattle.demands.specs.Texts.{TextReader}
 
 -- what a writer gives back, and the buffer then
@@ -43,14 +45,20 @@ pub record WriteRight (image : List ℕ) (bank : Bank) (before : List ℕ) (o : 
 abbrev pub MeetsWriter : TextWriter → Type 0
 MeetsWriter write = (image : List ℕ) (bank : Bank) (before : List ℕ) → WriteRight image bank before (write image bank before)
 
--- of one that tells the length alone: 2, or the text's, for which 707,121 bytes are enough
+-- of one that tells the length alone: 2, or the text's, and 707,121 bytes at most
 pub record LengthRight (image : List ℕ) (bank : Bank) (r : Written) : Type 0 where
   pub bad-length : wholeLength (length image) ≡ false → writtenSaid r ≡ number 2
   pub told : wholeLength (length image) ≡ true → writtenSaid r ≡ value (length (textOf image bank))
-  pub most : (size : ℕ) → writtenSaid r ≡ value size → size ≤ 707121
+  pub most : (size : ℕ) → writtenSaid r ≡ value size → size ≤ longestText
 
 abbrev pub MeetsLength : (List ℕ → Bank → Written) → Type 0
 MeetsLength tell = (image : List ℕ) (bank : Bank) → LengthRight image bank (tell image bank)
+
+-- so a caller can lend enough
+abbrev pub Enough : (List ℕ → Bank → Written) → TextWriter → Type 0
+Enough tell write =
+    (image : List ℕ) (bank : Bank) (before : List ℕ) (size : ℕ) → writtenSaid (tell image bank) ≡ value size → size ≤ length before
+    → writtenSaid (write image bank before .answer) ≡ value size
 
 -- THE TEXT READ AGAIN, for the same bank and N, into an image of its length
 
@@ -87,20 +95,21 @@ abbrev pub textWriter : TextWriter
 textWriter image bank before =
     wrote (writtenOf image bank (length before)) (bufferAfter (writtenOf image bank (length before)) before (textOf image bank))
 
--- one that drops row k: of two images that differ in that row alone it makes the same
+-- one that drops row k: of two images that differ in that row alone, where it is not blank, it makes the same
 abbrev pub DropsRow : ℕ → TextWriter → Type 0
 DropsRow k write =
     (image other : List ℕ) (bank : Bank) (before : List ℕ) → length image ≡ length other → suc k * rowSize ≤ length image
-    → ((i : ℕ) → (i / rowSize ≡ k → ⊥) → byteAt image i ≡ byteAt other i) → write image bank before ≡ write other bank before
+    → blankOf (rowOf image k) ≡ false → blankOf (rowOf other k) ≡ false → ((i : ℕ) → (i / rowSize ≡ k → ⊥) → byteAt image i ≡ byteAt other i)
+    → write image bank before ≡ write other bank before
 
 -- one of them: it takes the row for a blank one
 abbrev pub rowDropper : ℕ → TextWriter
 rowDropper k image bank before = textWriter (placeOf image (k * rowSize) (blanks rowSize)) bank before
 
 -- one that forgets where the bank starts: it makes the same of an image for either bank
-abbrev pub ForgetsBank : TextWriter → Type 0
-ForgetsBank write = (image before : List ℕ) → write image Zero before ≡ write image One before
+abbrev pub ForgetsStart : TextWriter → Type 0
+ForgetsStart write = (image before : List ℕ) → write image Zero before ≡ write image One before
 
--- one of them: it takes every image for bank 0's
-abbrev pub bankForgetter : TextWriter
-bankForgetter image bank before = textWriter image Zero before
+-- one of them: its rows' addresses count from 0
+abbrev pub startForgetter : TextWriter
+startForgetter image bank before = wrote (Text (length (allRows image 0 ++ endLine))) (frontOf before (allRows image 0 ++ endLine))

@@ -4,6 +4,7 @@ use mathlib.Core.Path.{_≡_, refl}
 use mathlib.Core.List.{List, [], _∷_, _++_}
 use Prim.Native.Nat.{ℕ}
 use lib.ListN.{replicate}
+use Rattle.buffer.specs.Total.{total}
 use Rattle.layout.specs.declared.Bank.the-variants.{Zero}
 use Rattle.layout.specs.Layout.{goodN}
 use Rattle.lines.specs.Line.{lines}
@@ -11,7 +12,7 @@ use Rattle.hex.specs.declared.fault.Kind.the-variants.{H1, H2}
 use Rattle.hex.specs.declared.read.Answer.the-variants.{Refused}
 use Rattle.digits.specs.Digit.{valueOf, isDigit}
 use Rattle.hex.specs.Spell.{byteOf, digitBytes}
-use Rattle.hex.specs.Record.{Broken, digitsIn, digitsWhole, recordOf, total, foundOf}
+use Rattle.hex.specs.Record.{Broken, digitsIn, digitsWhole, recordOf, foundOf}
 use Rattle.hex.specs.Read.{Reading, readLines, textRead}
 
 -- for bank 0 of one sector

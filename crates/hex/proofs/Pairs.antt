@@ -10,10 +10,10 @@ use native.Mathlib.Omega.{arith}
 use lib.ListN.{getD, set}
 use lib.Seq.{sets}
 use borrow.Author.Tests.{lt-ltb, le-ltb, ltb-true}
+use Rattle.buffer.specs.Total.{total}
 use Rattle.buffer.proofs.Bools.{and-left, and-right}
 use Rattle.digits.specs.Digit.{valueOf, isDigit}
 use Rattle.hex.specs.Spell.{byteOf}
-use Rattle.hex.specs.Record.{total}
 use Rattle.hex.specs.Places.{pairAt, pairByte, bytesAt, allBytes, checkFrom}
 
 -- ---- two digits

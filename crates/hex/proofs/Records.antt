@@ -12,10 +12,11 @@ use lib.Dec.{eqb, ltb}
 use lib.ListN.{length, getD, take, drop, length-drop, drop-of-length-le, List·getD-append}
 use lib.Seq.{drop-cons, take-append-le, drop-append-le, take-at, sets, sets-eq}
 use borrow.Author.Tests.{eq-eqb, eqb-true, eqb-false, lt-ltb, ltb-true}
+use Rattle.buffer.specs.Total.{total}
 use Rattle.buffer.proofs.Bools.{and-left, and-right, and-both, no-way}
 use Rattle.digits.specs.Digit.{valueOf, isDigit}
 use Rattle.hex.specs.Spell.{byteOf, digitBytes, lineBytes}
-use Rattle.hex.specs.Record.{Spelled, Whole, Broken, digitsIn, recordCount, recordData, digitsDue, digitsWhole, recordOf, total}
+use Rattle.hex.specs.Record.{Spelled, Whole, Broken, digitsIn, recordCount, recordData, digitsDue, digitsWhole, recordOf}
 use Rattle.hex.specs.Meaning.{spells, lineCount, IsRecord}
 use Rattle.hex.specs.Places.{pairByte, bytesAt, allBytes, checkFrom, sumOf, Summed}
 use Rattle.hex.proofs.Pairs.{first-small, second-small, spelled, pair-small, two-digits, pair-so}

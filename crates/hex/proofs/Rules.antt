@@ -12,6 +12,7 @@ use lib.ListN.{getD, take}
 use lib.Seq.{take-suc, take-length, getD-take, getD-drop}
 use borrow.Author.Count.{below-more}
 use borrow.Author.Tests.{eq-eqb, ne-eqb, le-leb, leb-true}
+use Rattle.buffer.specs.Total.{total}
 use Rattle.buffer.proofs.Bools.{and-both, not-so, no-way}
 use Rattle.hex.specs.declared.fault.Kind.{Kind}
 use Rattle.hex.specs.declared.fault.Kind.the-variants.{H1, H2, H3, H4, H5, H6}
@@ -19,7 +20,7 @@ use Rattle.hex.specs.declared.record.State.{State}
 use Rattle.hex.specs.declared.record.Found.{Found}
 use Rattle.hex.specs.declared.record.Found.the-variants.{Fault, Data, Upper, End, Other}
 use Rattle.hex.specs.Spell.{lineBytes}
-use Rattle.hex.specs.Record.{Spelled, Whole, Broken, recordCount, recordAddress, recordType, recordUpper, recordData, recordOf, total}
+use Rattle.hex.specs.Record.{Spelled, Whole, Broken, recordCount, recordAddress, recordType, recordUpper, recordData, recordOf}
 use Rattle.hex.specs.Record.{recordChecksumPlace, colonPlace, inBank, dataAt, typed, foundOf}
 use Rattle.hex.specs.Read.{stateAfter, atStart, kindNumber}
 use Rattle.hex.specs.Meaning.{lineCount, lineAddress, lineType, lineData, lineUpper, sumTo, IsRecord, AddsUp, checksumPlace, GoodType}

@@ -12,13 +12,14 @@ use borrow.Author.Tests.{eq-eqb, ne-eqb, eqb-true, eqb-false, leb-true}
 use Rattle.buffer.proofs.Bools.{and-left, and-right, not-so, split, no-way}
 use Rattle.buffer.proofs.Numbers.{number-two}
 use Rattle.buffer.specs.Number.{numberAt}
+use Rattle.buffer.specs.Total.{total}
 use Rattle.hex.specs.declared.fault.Kind.{Kind}
 use Rattle.hex.specs.declared.fault.Kind.the-variants.{H1, H2, H3, H4, H5, H6}
 use Rattle.hex.specs.declared.record.State.{State}
 use Rattle.hex.specs.declared.record.Found.{Found}
 use Rattle.hex.specs.declared.record.Found.the-variants.{Fault, Data, Upper, End, Other}
 use Rattle.hex.specs.Spell.{lineBytes}
-use Rattle.hex.specs.Record.{Spelled, Whole, Broken, recordCount, recordAddress, recordType, recordUpper, recordData, recordOf, total}
+use Rattle.hex.specs.Record.{Spelled, Whole, Broken, recordCount, recordAddress, recordType, recordUpper, recordData, recordOf}
 use Rattle.hex.specs.Record.{recordChecksumPlace, colonPlace, inBank, dataAt, typed, foundOf}
 use Rattle.hex.specs.Meaning.{IsRecord}
 use Rattle.hex.specs.Places.{Summed, Placed, Looked}

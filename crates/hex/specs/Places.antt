@@ -7,6 +7,7 @@ use mathlib.Core.Bool.{Bool, true, _&&_, cond}
 use lib.ListN.{length, getD}
 use lib.Seq.{sets}
 use lib.Dec.{ltb}
+use Rattle.buffer.specs.Total.{total}
 use Rattle.hex.specs.declared.record.State.{State}
 use Rattle.hex.specs.declared.record.Found.{Found}
 use Rattle.hex.specs.declared.record.Found.the-variants.{Fault, Data, Upper, End, Other}
@@ -15,7 +16,7 @@ use Rattle.hex.specs.declared.read.Step.{Step}
 use Rattle.hex.specs.declared.read.Step.the-variants.{Stop, On}
 use Rattle.digits.specs.Digit.{isDigit}
 use Rattle.hex.specs.Spell.{byteOf, lineBytes}
-use Rattle.hex.specs.Record.{Spelled, Whole, Broken, recordData, recordOf, total, foundOf}
+use Rattle.hex.specs.Record.{Spelled, Whole, Broken, recordData, recordOf, foundOf}
 use Rattle.hex.specs.Read.{stateAfter, imageAfter, LinesRead}
 
 -- DIGITS. Whether two stand at i, and the byte that they spell

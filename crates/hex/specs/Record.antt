@@ -5,6 +5,7 @@ use mathlib.Core.List.{List, [], _∷_}
 use mathlib.Core.Bool.{Bool, _&&_, cond}
 use lib.ListN.{length, getD, take, drop}
 use lib.Dec.{eqb, leb}
+use Rattle.buffer.specs.Total.{total}
 use Rattle.hex.specs.declared.fault.Kind.the-variants.{H1, H2, H3, H4, H5, H6}
 use Rattle.hex.specs.declared.record.State.{State}
 use Rattle.hex.specs.declared.record.Found.{Found}
@@ -56,10 +57,6 @@ recordOf (c ∷ digits) =
     cond (eqb c 0x3A)
     (cond (digitsWhole digits) (Whole (digitBytes digits)) (Broken (digitsIn (digitsDue digits) digits + 2)))
     (Broken 1)
-
-unfoldable pub total : List ℕ → ℕ
-total [] = 0
-total (b ∷ bs) = b + total bs
 
 -- THE PLACE OF A FAULT in its line, counted from 1 (02 §1). That of H1 is the one above; of H2 "the first digit of the checksum", behind the colon
 -- and two digits for each byte before it; of H3 to H5 "the colon"; of H6 "it is 1"

@@ -1,3 +1,5 @@
+pub mod Examples
+pub mod Laws
 pub mod Longest
 pub mod Records
 pub mod Rows

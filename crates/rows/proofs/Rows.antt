@@ -16,11 +16,8 @@ use Rattle.buffer.proofs.Places.{front-whole}
 use Rattle.buffer.specs.Compare.{blankOf}
 use Rattle.buffer.specs.Number.{bytesOf}
 use Rattle.buffer.specs.Place.{frontOf}
-use Rattle.layout.specs.declared.Bank.{Bank}
-use Rattle.layout.specs.declared.Bank.the-variants.{Zero, One}
-use Rattle.layout.specs.Layout.{startOf}
 use Rattle.rows.specs.declared.text.Reached.{Reached}
-use Rattle.rows.specs.Text.{rowSize, rowOf, rowAddress, rowUpper, dataLine, upperLine, toldBefore, upperText, rowText, rowsText, allRows}
+use Rattle.rows.specs.Text.{rowSize, rowOf, rowAddress, rowUpper, dataLine, upperLine, toldBefore, upperText, rowText, rowsText}
 use Rattle.rows.specs.Record.{recordLine, besideData}
 use Rattle.rows.specs.Places.{reachedAt}
 use Rattle.rows.proofs.Records.{sets-next, line-length}
@@ -256,30 +253,3 @@ module _ (image : List ℕ) (base : ℕ) where
       let l = ap length (rows-next (k + m)) ∙ length-append (rowsText image base (k + m)) (rowText image base (k + m)) in
       let n = rows-grow k m in
       rw e (omega arith)
-
--- THE UPPER HALF of a row: each byte of the row has it, and it is never 0, so the first row is told one
-module _ (bank : Bank) (k : ℕ) where
-  pub row-within : (j : ℕ) → j < rowSize → (rowAddress (startOf bank) k + j) / 65536 ≡ rowUpper (startOf bank) k
-  row-within j h = by bank
-    where
-      by : (bank : Bank) → (rowAddress (startOf bank) k + j) / 65536 ≡ rowUpper (startOf bank) k
-      by Zero = omega arith
-      by One = omega arith
-
-  pub upper-some : 0 < rowUpper (startOf bank) k
-  upper-some = by bank
-    where
-      by : (bank : Bank) → 0 < rowUpper (startOf bank) k
-      by Zero = omega arith
-      by One = omega arith
-
-  -- before the first row with a byte other than 0xFF none was told
-  pub first-told : (image : List ℕ) → toldBefore image (startOf bank) k ≡ 0 → blankOf (rowOf image k) ≡ false
-      → rowText image (startOf bank) k ≡ upperLine (rowUpper (startOf bank) k) ++ dataLine image (startOf bank) k
-  first-told image t b =
-      text-told image (startOf bank) k b ∙ rw (upper-other (toldBefore image (startOf bank) k) (rowUpper (startOf bank) k) (λ e. omega (arith, upper-some)))
-
-pub none-told : (image : List ℕ) (base k : ℕ) → ((j : ℕ) → j < k → blankOf (rowOf image j) ≡ true) → toldBefore image base k ≡ 0
-unfolding toldBefore
-none-told image base zero f = refl
-none-told image base (suc k) f = rw (f k (omega arith)) (none-told image base k (λ j h. f j (omega arith)))

@@ -1,7 +1,7 @@
 -- The hex text of an image (02 §2), and what comes back of it.
 -- Assumes nothing.
 use mathlib.Core.Path.{_≡_}
-use mathlib.Core.Bool.{Bool, _&&_, cond}
+use mathlib.Core.Bool.{_&&_, cond}
 use mathlib.Core.List.{List, [], _++_}
 use Prim.Native.Nat.{ℕ, zero, suc, _+_, _*_, _/_}
 use lib.Dec.{eqb, leb}
@@ -39,8 +39,8 @@ upperLine upper = recordLine 0 4 (bytesOf 2 upper)
 abbrev pub endLine : List ℕ
 endLine = recordLine 0 1 []
 
--- "only rows with a byte other than 0xFF" are told, so the upper half told last behind the first k is that of the last of these; before the first
--- it is 0, which no row of a bank has
+-- "only rows with a byte other than 0xFF" have a line, so the upper half told last behind the first k is that of the last of these. Before the first it
+-- is the reader's own, 0 (01, "The upper half is 0 until a type 04 record"), which no row of a bank has: proofs/Laws.antt, `upper-some`
 unfoldable pub toldBefore : List ℕ → ℕ → ℕ → ℕ
 toldBefore image base zero = 0
 toldBefore image base (suc k) = cond (blankOf (rowOf image k)) (toldBefore image base k) (rowUpper base k)
@@ -67,6 +67,10 @@ allRows image base = rowsText image base (length image / rowSize)
 -- THE TEXT, "then the end record"
 unfoldable pub textOf : List ℕ → Bank → List ℕ
 textOf image bank = allRows image (startOf bank) ++ endLine
+
+-- the longest, that of a bank of 491 sectors without a blank row: proofs/Longest.antt
+abbrev pub longestText : ℕ
+longestText = 707121
 
 -- WHAT COMES BACK: 2 "for image length or an output buffer too short for the whole text", and else how long the text is
 unfoldable pub lengthOf : List ℕ → Bank → Written

@@ -9,6 +9,13 @@ ghost use Rattle.rows.specs.Places.{Spelt};
 // The bytes of a line beside the digits of its data: the colon, two digits for each of five bytes, CR LF.
 pub(crate) const BESIDE: usize = 13;
 
+// The types of the records that a text has.
+pub(crate) const DATA: u8 = 0x00;
+
+pub(crate) const END: u8 = 0x01;
+
+pub(crate) const UPPER: u8 = 0x04;
+
 // Bytes as digits from a place on. What comes back is the sum so far and theirs, modulo 256.
 fn spell(bytes: &[u8], sum: u8, text: &mut [u8], at: usize) -> u8
     requires { ⌜ at + 2 * length (now bytes) ≤ length (now text) ⌝ }

@@ -1,5 +1,8 @@
 // The text of an image: how long it is, and the text itself.
 use crate::record::BESIDE;
+use crate::record::DATA;
+use crate::record::END;
+use crate::record::UPPER;
 use crate::record::put_line;
 use layout::Bank;
 use layout::Counted;
@@ -10,6 +13,9 @@ ghost use lib.Seq.{sets};
 ghost use Rattle.buffer.specs.Place.{frontOf};
 ghost use Rattle.rows.specs.Text.{upperText, rowText, rowsText, allRows, textOf, WrittenNumber·Is, Length·Is, Write·Is};
 ghost use Rattle.rows.specs.Places.{RowFits, ImageFits, Room, reachedAt};
+
+// The longest text: room for it is enough for every image.
+pub const LONGEST: usize = 707_121;
 
 // The bytes of a row.
 const ROW: usize = 16;
@@ -43,7 +49,7 @@ pub(crate) struct Reached {
     pub(crate) at: usize,
 }
 
-// The row behind the first k passed. It has a line if it has a byte other than 0xFF, and one before that if its upper half was not told last.
+// Row k measured, behind the first k. It has a line if it has a byte other than 0xFF, and one before that if its upper half was not told last.
 fn pass(image: &[u8], base: usize, k: usize, reached: Reached) -> Reached
     requires { ⌜ RowFits (now image) base k reached ⌝ }
     ensures { λ r. ⌜ r ≡ reachedAt (now (image .entry)) base (k + 1) ⌝ }
@@ -60,7 +66,7 @@ fn pass(image: &[u8], base: usize, k: usize, reached: Reached) -> Reached
     Reached { told, at }
 }
 
-// All rows passed, lowest first: how long their text is.
+// All rows measured, lowest first: how long their text is.
 fn measure(image: &[u8], base: usize) -> usize
     requires { ⌜ ImageFits (now image) base ⌝ }
     ensures { λ r. ⌜ r ≡ length (allRows (now (image .entry)) base) ⌝ }
@@ -86,7 +92,7 @@ fn put_upper(text: &mut [u8], at: usize, told: usize, upper: usize)
     let high = (upper / 256 % 256) as u8;
     let low = (upper % 256) as u8;
     let bytes = [high, low];
-    put_line(text, at, 0, 4, &bytes);
+    put_line(text, at, 0, UPPER, &bytes);
 }
 
 // The text of the row behind the first k, right behind theirs.
@@ -96,6 +102,7 @@ fn put_row(image: &[u8], base: usize, k: usize, reached: Reached, text: &mut [u8
     ensures { λ r. ⌜ (r ≡ reachedAt (now (image .entry)) base (k + 1)) × (now (text .exit) ≡ sets (now (text .entry)) (reached .at) (rowText (now (image .entry)) base k)) ⌝ }
 {
     let next = pass(image, base, k, reached);
+    // A blank row has added nothing.
     if next.at == reached.at {
         return next;
     }
@@ -104,7 +111,7 @@ fn put_row(image: &[u8], base: usize, k: usize, reached: Reached, text: &mut [u8
     // A copy, so that the compiler knows that no store into the text changes it, and takes many bytes at once.
     let mut row = [0u8; ROW];
     buffer::place::put_front(&mut row, &image[from..from + ROW]);
-    put_line(text, next.at - DATA_LINE, base + from, 0, &row);
+    put_line(text, next.at - DATA_LINE, base + from, DATA, &row);
     next
 }
 
@@ -124,7 +131,7 @@ fn put_rows(image: &[u8], base: usize, text: &mut [u8]) -> usize
     reached.at
 }
 
-fn wide(number: u32) -> usize
+fn wide4(number: u32) -> usize
     ensures { λ r. ⌜ (r ≡ number) × (r < 4294967296) ⌝ }
 {
     number as usize
@@ -137,7 +144,7 @@ pub fn length(image: &[u8], bank: Bank) -> Written
     match layout::sectors(image.len()) {
         Counted::Refused => Written::BadLength,
         Counted::Sectors(_) => {
-            let base = wide(layout::start_address(bank));
+            let base = wide4(layout::start_address(bank));
             Written::Text(measure(image, base) + BESIDE)
         }
     }
@@ -148,9 +155,9 @@ fn put(image: &[u8], bank: Bank, text: &mut [u8])
     requires { ⌜ Room (now image) bank (now text) ⌝ }
     ensures { λ _. ⌜ now (text .exit) ≡ frontOf (now (text .entry)) (textOf (now (image .entry)) bank) ⌝ }
 {
-    let base = wide(layout::start_address(bank));
+    let base = wide4(layout::start_address(bank));
     let at = put_rows(image, base, text);
-    put_line(text, at, 0, 1, b"");
+    put_line(text, at, 0, END, b"");
 }
 
 // The text of an image, at the front of `text`. The rest keeps its bytes; what does not fit writes nothing.

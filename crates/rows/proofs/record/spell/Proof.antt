@@ -7,9 +7,9 @@ use native.Mathlib.Omega.{arith}
 use lib.ListN.{length, drop, length-set}
 use lib.Seq.{sets}
 use borrow.Author.Needs.{needs}
+use Rattle.buffer.specs.Total.{total}
 use Rattle.digits.specs.Spelt.{digitsSpelt}
 use Rattle.digits.proofs.Spelt.{spell-more, spell-done}
-use Rattle.rows.specs.Record.{sumOf}
 use Rattle.rows.proofs.Records.{sum-more, sum-done}
 use Rattle.rows.proofs.record.spell.Statement.{statement}
 use Rattle.rows.proofs.record.spell.Tie as tie
@@ -21,7 +21,7 @@ Inv-loop bytes sum text₀ at added₀ p₀ j₀ text added p j =
     × (length text ≡ length text₀)
     × (added < 256)
     × (sets text p (digitsSpelt (drop j bytes)) ≡ sets text₀ at (digitsSpelt bytes))
-    × ((sum + sumOf bytes) % 256 ≡ (added + sumOf (drop j bytes)) % 256)
+    × ((sum + total bytes) % 256 ≡ (added + total (drop j bytes)) % 256)
 
 abbrev μ-loop : tie.MeasureT-loop
 μ-loop bytes sum text₀ at added₀ p₀ j₀ text added p j = length bytes - j

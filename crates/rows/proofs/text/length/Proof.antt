@@ -21,18 +21,18 @@ enum-told-2 c = search needs
 start-address-requires : tie.Need-start-address-requires
 start-address-requires c κs = search needs
 
-wide-requires : tie.Need-wide-requires
-wide-requires c κs = search needs
+wide4-requires : tie.Need-wide4-requires
+wide4-requires c κs = search needs
 
 measure-requires : tie.Need-measure-requires
 measure-requires c κs =
     let whole = counted-whole _ _ (sym (c .before .before .enum-told2 .given .1) ∙ c .before .before .before .before .sectors .ensures .counted) in
-    record { base-small = c .wide .ensures .1; image-small = whole-small _ whole }
+    record { base-small = c .wide4 .ensures .1; image-small = whole-small _ whole }
 
 add-t9 : tie.Need-add-t9
 add-t9 c =
     let whole = counted-whole _ _ (sym (c .before .before .before .enum-told2 .given .1) ∙ c .before .before .before .before .before .sectors .ensures .counted) in
-    let m = rows-small (c .before .before .before .before .before .before .before .args .image .now) (c .before .wide .result) in
+    let m = rows-small (c .before .before .before .before .before .before .before .args .image .now) (c .before .wide4 .result) in
     omega (arith, c .measure .ensures, whole-small _ whole)
 
 returns : tie.Need-returns
@@ -41,7 +41,7 @@ returns c = length-bad _ _ (refused-whole _ (sym (c .enum-told .given .1) ∙ c 
 returns-2 : tie.Need-returns-2
 returns-2 c =
     let whole = counted-whole _ _ (sym (c .before .before .before .enum-told2 .given .1) ∙ c .before .before .before .before .before .sectors .ensures .counted) in
-    let start = c .before .wide .ensures .0 ∙ c .before .before .start-address .ensures in
+    let start = c .before .wide4 .ensures .0 ∙ c .before .before .start-address .ensures in
     let size = text-length (c .before .before .before .before .before .before .before .args .image .now) (c .before .before .before .before .before .before .before .args .bank) start in
     length-good _ _ whole (omega (arith, c .measure .ensures))
 
@@ -53,7 +53,7 @@ length-spec =
     enum-told
     enum-told-2
     start-address-requires
-    wide-requires
+    wide4-requires
     measure-requires
     add-t9
     returns

@@ -10,15 +10,15 @@ use Rattle.rows.proofs.text.put.Tie as tie
 start-address-requires : tie.Need-start-address-requires
 start-address-requires c κs = search needs
 
-wide-requires : tie.Need-wide-requires
-wide-requires c κs = search needs
+wide4-requires : tie.Need-wide4-requires
+wide4-requires c κs = search needs
 
 put-rows-requires : tie.Need-put-rows-requires
 put-rows-requires c κs =
     let p = c .before .before .before .before .before .pre in
-    let start = c .before .wide .ensures .0 ∙ c .before .before .start-address .ensures in
+    let start = c .before .wide4 .ensures .0 ∙ c .before .before .start-address .ensures in
     let a = c .before .before .before .before .before .args in
-    (record { base-small = c .before .wide .ensures .1; image-small = whole-small _ (p .whole) }, rows-fit (a .image .now) (a .bank) start (a .text .now) (p .enough))
+    (record { base-small = c .before .wide4 .ensures .1; image-small = whole-small _ (p .whole) }, rows-fit (a .image .now) (a .bank) start (a .text .now) (p .enough))
 
 slice-aggregate-put-line : tie.Need-slice-aggregate-put-line
 slice-aggregate-put-line c = search needs
@@ -26,7 +26,7 @@ slice-aggregate-put-line c = search needs
 put-line-requires : tie.Need-put-line-requires
 put-line-requires c κs =
     let a = c .before .before .before .before .before .before .before .before .before .before .args in
-    let start = c .before .before .before .before .before .before .wide .ensures .0 ∙ c .before .before .before .before .before .before .before .start-address .ensures in
+    let start = c .before .before .before .before .before .before .wide4 .ensures .0 ∙ c .before .before .before .before .before .before .before .start-address .ensures in
     let rows = c .before .before .before .before .put-rows .ensures in
     (omega arith, end-fits (a .image .now) (a .bank) start (a .text .now) (c .before .before .before .before .before .before .before .before .before .before .pre .enough) (rows .0) (rows .1))
 
@@ -36,7 +36,7 @@ same-length c = search needs
 returns : tie.Need-returns
 returns c =
     let a = c .before .before .before .before .before .before .before .before .before .before .before .before .before .args in
-    let start = c .before .before .before .before .before .before .before .before .before .wide .ensures .0 ∙ c .before .before .before .before .before .before .before .before .before .before .start-address .ensures in
+    let start = c .before .before .before .before .before .before .before .before .before .wide4 .ensures .0 ∙ c .before .before .before .before .before .before .before .before .before .before .start-address .ensures in
     let rows = c .before .before .before .before .before .before .before .put-rows .ensures in
     put-text (a .image .now) (a .bank) start (a .text .now) (c .before .before .before .before .before .before .before .before .before .before .before .before .before .pre .enough) (rows .0) (rows .1) (c .before .before .put-line .ensures)
 
@@ -45,7 +45,7 @@ put-spec =
     tie.close
     (tie.spec
     start-address-requires
-    wide-requires
+    wide4-requires
     put-rows-requires
     slice-aggregate-put-line
     put-line-requires
