@@ -9,7 +9,9 @@
 //!     peer sending           the answer to each of them (docs/REQUESTS.md)
 //!     peer packets           what the paper's program writes for the text on standard input
 //!     peer update BANK N     what `update` writes for the text on standard input
+//!     peer hexout BANK       what `hexout` writes for the image on standard input
 //!     peer texts DIRECTORY   the texts that `packets` is tried with, each in a file of its own
+//!     peer images DIRECTORY  the images that `hexout` is tried with, each in a file of its own
 //!     peer board-cases       the script that `board` is tried with
 //!     peer board-endings     lines that are none, each of which ends a script
 //!     peer board             what the script on standard input writes, on a board with the peer's own client (docs/BOARD.md)
@@ -28,6 +30,8 @@ mod demands;
 mod draw;
 mod frame;
 mod hex;
+mod hexout;
+mod hexout_images;
 mod image;
 mod intel;
 mod judge;
@@ -38,6 +42,7 @@ mod response;
 mod response_cases;
 mod script;
 mod selftest;
+mod selftest_hexout;
 mod selftest_sending;
 mod sender;
 mod sending;
@@ -48,6 +53,7 @@ mod update;
 mod wrong;
 
 use std::io::{self, Read, Write};
+use std::path::Path;
 use std::process::exit;
 
 fn main() {
@@ -72,7 +78,11 @@ fn main() {
             let n = lines::decimal(n, bank::MOST_SECTORS).filter(|n| *n > 0).ok_or("N is 1 to 491")?;
             write_out(&update::lines(&text, (target == "1") as usize, n))
         }),
-        ["texts", directory] => packets_texts::write(directory),
+        ["hexout", number @ ("0" | "1")] => {
+            read_in().and_then(|image| write_bytes(&hexout::written(&image, (number == "1") as usize)))
+        }
+        ["texts", directory] => write_files(directory, "hex", &packets_texts::all()),
+        ["images", directory] => write_files(directory, "bank", &hexout_images::all()),
         _ => {
             eprintln!("usage: peer COMMAND [ARGUMENT ..]; the head of main.rs has the commands");
             exit(2)
@@ -99,7 +109,19 @@ fn write_out(lines: &[String]) -> Result<(), String> {
     if !lines.is_empty() {
         text.push('\n');
     }
-    io::stdout().write_all(text.as_bytes()).map_err(|e| e.to_string())
+    write_bytes(text.as_bytes())
+}
+
+fn write_bytes(bytes: &[u8]) -> Result<(), String> {
+    io::stdout().write_all(bytes).map_err(|e| e.to_string())
+}
+
+fn write_files(directory: &str, kind: &str, contents: &[Vec<u8>]) -> Result<(), String> {
+    for (k, bytes) in contents.iter().enumerate() {
+        let file = Path::new(directory).join(format!("{:03}.{}", k, kind));
+        std::fs::write(&file, bytes).map_err(|e| format!("{}: {}", file.display(), e))?;
+    }
+    Ok(())
 }
 
 /// That the checks of a board can fail.

@@ -4,19 +4,10 @@ use crate::bank::{self, SECTOR};
 use crate::draw::Draw;
 use crate::text_cases::{faulty, sound};
 use crate::texts::{data, in_lf, rows, upper, with_ends, without_last_end, END, LISTING};
-use std::path::Path;
 
 const LONGEST_TEXT: usize = 49_152;
 
-pub fn write(directory: &str) -> Result<(), String> {
-    for (k, text) in all().iter().enumerate() {
-        let file = Path::new(directory).join(format!("{:03}.hex", k));
-        std::fs::write(&file, text).map_err(|e| format!("{}: {}", file.display(), e))?;
-    }
-    Ok(())
-}
-
-fn all() -> Vec<Vec<u8>> {
+pub fn all() -> Vec<Vec<u8>> {
     let mut texts = vec![Vec::new(), END.into(), in_lf(&[END]), in_lf(&LISTING), with_ends(&LISTING, "\r\n")];
     texts.push(without_last_end(&LISTING, "\n"));
     texts.push(in_lf(&LISTING).to_ascii_lowercase());
