@@ -7,8 +7,8 @@ use Prim.Native.Nat.{ℕ, zero, suc, _+_, _-_, _*_, _/_, _<_, _≤_}
 use native.Mathlib.Numerals.{add-one}
 use native.Mathlib.Omega.{arith}
 use lib.Dec.{eqb}
-use lib.ListN.{length, getD, take, drop, length-append, replicate-append-replicate}
-use lib.Seq.{sets, sets-eq, length-take-le, take-add, take-at, drop-at, take-all, getD-drop, take-nil}
+use lib.ListN.{length, take, drop, length-append, replicate-append-replicate}
+use lib.Seq.{sets, sets-eq, length-take-le, take-add, take-at, drop-at, take-all, getD-drop}
 use borrow.Author.Tests.{eqb-true, eqb-false}
 use Rattle.buffer.specs.Compare.{blankOf}
 use Rattle.buffer.specs.Number.{bytesOf}
@@ -20,9 +20,9 @@ use Rattle.layout.specs.Layout.{sectorSize, mostSectors, startOf}
 use Rattle.layout.proofs.Layouts.{start-small}
 use Rattle.lines.specs.Line.{lines}
 use Rattle.hex.specs.declared.record.State.{State}
-use Rattle.hex.specs.declared.record.Found.the-variants.{Data, Upper, End}
+use Rattle.hex.specs.declared.record.Found.the-variants.{Data, Upper}
 use Rattle.hex.specs.declared.read.Outcome.the-variants.{Through}
-use Rattle.hex.specs.Read.{LinesRead, stateAfter, readLines, atStart}
+use Rattle.hex.specs.Read.{stateAfter, readLines, atStart}
 use Rattle.rows.specs.Text.{rowSize, rowOf, rowAddress, rowUpper, dataLine, upperLine, endLine, toldBefore, upperText, rowText, rowsText, textOf}
 use Rattle.rows.proofs.Rows.{upper-same, upper-other, text-blank, text-told, told-next, row-length, told-stays}
 use Rattle.demands.specs.Written.{AreBytes}

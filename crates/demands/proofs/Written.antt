@@ -6,19 +6,19 @@ use mathlib.Core.List.{List}
 use Prim.Native.Nat.{ℕ, _+_, _-_, _*_, _/_, _<_, _≤_}
 use native.Mathlib.Omega.{arith}
 use lib.Dec.{eqb, leb}
-use lib.ListN.{length, getD, take, drop}
+use lib.ListN.{length, getD}
 use lib.Seq.{ext-getD}
 use borrow.Author.Tests.{le-leb, leb-true, eq-eqb, eqb-true, eqb-false}
 use Rattle.buffer.proofs.Bools.{no-way}
 use Rattle.buffer.proofs.Places.{front-take, front-drop}
 use Rattle.layout.specs.declared.Bank.{Bank}
 use Rattle.layout.specs.Layout.{sectorSize, goodN, wholeLength, startOf}
-use Rattle.layout.specs.Said.{number, value, accepted}
+use Rattle.layout.specs.Said.{value, accepted}
 use Rattle.layout.proofs.Layouts.{whole-good}
 use Rattle.lines.specs.Line.{lines}
 use Rattle.hex.specs.declared.read.Outcome.the-variants.{Through}
 use Rattle.hex.specs.Meaning.{HasByte, startAt, Leaves}
-use Rattle.hex.specs.Read.{LinesRead, linesRead, readSays, textRead, answerSaid}
+use Rattle.hex.specs.Read.{LinesRead, linesRead, readSays, textRead}
 use Rattle.hex.proofs.Meaning.{accepted-kept}
 use Rattle.rows.specs.declared.text.Written.{Written}
 use Rattle.rows.specs.declared.text.Written.the-variants.{BadLength, Text}

@@ -2,30 +2,29 @@
 -- and it says its data, its upper half or the end.
 -- Assumes nothing.
 use mathlib.Core.Path.{_≡_, refl, sym, ap, ap₂, _∙_}
-use mathlib.Core.Bool.{Bool, true, false, _&&_, cond}
+use mathlib.Core.Bool.{true, false}
 use mathlib.Core.List.{List, [], _∷_, _++_, append-assoc}
 use Prim.Native.Nat.{ℕ, zero, suc, _+_, _-_, _*_, _/_, _%_, _<_, _≤_}
-use native.Mathlib.Nat.{le-of-suc-le-suc}
 use native.Mathlib.Omega.{arith}
-use lib.Dec.{eqb, leb, ltb}
-use lib.ListN.{length, getD, take, drop, length-append}
+use lib.Dec.{ltb}
+use lib.ListN.{length, length-append}
 use lib.Seq.{take-at}
 use borrow.Author.Tests.{eq-eqb, ne-eqb, lt-ltb, le-leb}
-use Rattle.buffer.specs.Number.{byteAt, bytesOf}
+use Rattle.buffer.specs.Number.{bytesOf}
 use Rattle.buffer.specs.Total.{total}
-use Rattle.buffer.proofs.Bools.{and-both, split}
+use Rattle.buffer.proofs.Bools.{split}
 use Rattle.buffer.proofs.Numbers.{bytes-two}
 use Rattle.buffer.proofs.Totals.{total-append}
-use Rattle.digits.specs.Digit.{valueOf, isDigit, digitOf}
+use Rattle.digits.specs.Digit.{isDigit, digitOf}
 use Rattle.digits.specs.Spelt.{digitsSpelt}
 use Rattle.digits.proofs.Digits.{value-of-digit}
 use Rattle.digits.proofs.Spelt.{length-digits}
-use Rattle.lines.specs.Line.{front, lfNext, lines}
+use Rattle.lines.specs.Line.{front, lines}
 use Rattle.hex.specs.declared.record.State.{State}
 use Rattle.hex.specs.declared.record.Found.the-variants.{Data, Upper, End}
 use Rattle.hex.specs.Spell.{byteOf, digitBytes, lineBytes}
 use Rattle.hex.specs.Record.{Whole, digitsIn, digitsDue, digitsWhole, recordData, recordOf, inBank, dataAt, typed, foundOf}
-use Rattle.rows.specs.Record.{recordBody, recordChecksum, recordBytes, recordLine}
+use Rattle.rows.specs.Record.{recordChecksum, recordBytes, recordLine}
 use Rattle.rows.proofs.Records.{head, body-is}
 use Rattle.demands.specs.Written.{AreBytes}
 

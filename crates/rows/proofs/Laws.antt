@@ -1,9 +1,9 @@
 -- What 02 §2 says of the text beside its definition: where an upper half is told, that no row has two, what a blank image gives.
 -- Assumes nothing.
-use mathlib.Core.Path.{_≡_, refl, sym, ap, _∙_}
+use mathlib.Core.Path.{_≡_, refl, _∙_}
 use mathlib.Core.Bool.{true, false}
 use mathlib.Core.List.{List, [], _++_}
-use Prim.Native.Nat.{ℕ, zero, suc, _+_, _*_, _/_, _<_, _≤_}
+use Prim.Native.Nat.{ℕ, zero, suc, _+_, _*_, _/_, _<_}
 use native.Mathlib.Omega.{arith}
 use lib.ListN.{length}
 use Rattle.buffer.specs.Compare.{blankOf}
@@ -11,7 +11,6 @@ use Rattle.buffer.proofs.Comparing.{blank-part}
 use Rattle.layout.specs.declared.Bank.{Bank}
 use Rattle.layout.specs.declared.Bank.the-variants.{Zero, One}
 use Rattle.layout.specs.Layout.{startOf}
-use Rattle.rows.specs.Record.{besideData}
 use Rattle.rows.specs.Text.{rowSize, rowOf, rowAddress, rowUpper, dataLine, upperLine, endLine, toldBefore, rowText, rowsText, textOf}
 use Rattle.rows.proofs.Rows.{upper-same, upper-other, text-blank, text-told}
 use Rattle.rows.proofs.Texts.{text-length}

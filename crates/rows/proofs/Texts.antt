@@ -1,12 +1,12 @@
 -- The whole text, and each way out of the functions that answer for it.
 -- Assumes nothing.
 use mathlib.Core.Path.{_≡_, refl, sym, ap, _∙_}
-use mathlib.Core.Bool.{Bool, true, false, _&&_, cond}
+use mathlib.Core.Bool.{Bool, true, false, cond}
 use mathlib.Core.List.{List, [], _++_}
 use Prim.Native.Nat.{ℕ, _+_, _*_, _/_, _%_, _<_, _≤_}
 use native.Mathlib.Nat.{zero-add}
 use native.Mathlib.Omega.{arith}
-use lib.Dec.{eqb, leb}
+use lib.Dec.{eqb}
 use lib.ListN.{length, length-append}
 use lib.Seq.{sets, sets-eq, length-sets}
 use borrow.Author.Tests.{le-leb, lt-leb, eqb-true}
@@ -16,9 +16,8 @@ use Rattle.buffer.specs.Place.{frontOf}
 use Rattle.layout.specs.declared.Bank.{Bank}
 use Rattle.layout.specs.Layout.{sectorSize, mostSectors, goodN, wholeLength, startOf}
 use Rattle.layout.proofs.Layouts.{whole-good, good-high}
-use Rattle.rows.specs.declared.text.Written.{Written}
 use Rattle.rows.specs.declared.text.Written.the-variants.{BadLength, Text}
-use Rattle.rows.specs.Record.{recordLine, besideData}
+use Rattle.rows.specs.Record.{besideData}
 use Rattle.rows.specs.Text.{rowSize, allRows, endLine, textOf, lengthOf, writtenOf, lengthSays, writeSays, Length·Is, Write·Is}
 use Rattle.rows.proofs.Records.{sets-next, line-length}
 use Rattle.rows.proofs.Rows.{rows-most}

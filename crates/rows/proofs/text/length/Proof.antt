@@ -1,8 +1,7 @@
 -- `rows::text::length` meets its contract: no bank's length, or the rows measured and the end record.
 -- Assumes nothing.
-use mathlib.Core.Path.{_≡_, sym, _∙_}
+use mathlib.Core.Path.{sym, _∙_}
 use native.Mathlib.Omega.{arith}
-use lib.ListN.{length}
 use borrow.Author.Needs.{needs}
 use Rattle.layout.proofs.Layouts.{counted-whole, refused-whole}
 use Rattle.rows.proofs.Texts.{whole-small, rows-small, text-length, length-bad, length-good}
