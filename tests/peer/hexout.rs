@@ -10,13 +10,13 @@ const ROW: usize = 16;
 type Halves = BTreeMap<u16, BTreeMap<u16, [u8; ROW]>>;
 
 pub fn written(image: &[u8], number: usize) -> Vec<u8> {
-    match lines(image, number) {
-        Ok(lines) => with_ends(&lines, "\r\n"),
+    match text(image, number) {
+        Ok(text) => text,
         Err(refusal) => with_ends(&[format!("refused {}", refusal)], "\n"),
     }
 }
 
-fn lines(image: &[u8], number: usize) -> Result<Vec<String>, u8> {
+pub fn text(image: &[u8], number: usize) -> Result<Vec<u8>, u8> {
     bank::sectors(image.len()).ok_or(2)?;
     let mut lines = Vec::new();
     for (half, rows) in held(image, number) {
@@ -24,7 +24,7 @@ fn lines(image: &[u8], number: usize) -> Result<Vec<String>, u8> {
         lines.extend(rows.iter().map(|(offset, row)| data(*offset, row)));
     }
     lines.push(END.to_string());
-    Ok(lines)
+    Ok(with_ends(&lines, "\r\n"))
 }
 
 fn held(image: &[u8], number: usize) -> Halves {

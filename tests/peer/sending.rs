@@ -1,7 +1,7 @@
 //! The request lines that the program `sending` answers, and their answers: docs/REQUESTS.md has the form of both.
 use crate::lines::{self, decimal};
 use crate::response::Response;
-use crate::{crc, hex, intel, packets, response, sender};
+use crate::{crc, hex, hexout, intel, packets, response, sender};
 
 const LONGEST_TEXT: usize = 720_896;
 const LONGEST_IMAGE: usize = 252_416;
@@ -53,6 +53,23 @@ impl Held {
                 self.image.get_mut(offset..offset + bytes.len())?.copy_from_slice(&bytes);
                 Some(format!("put {} {}", offset, bytes.len()))
             }
+            ["length", number] => Some(match hexout::text(&self.image, bank(number)?) {
+                Ok(text) => format!("length {}", text.len()),
+                Err(number) => format!("refused {}", number),
+            }),
+            ["write", number, room] => {
+                let number = bank(number)?;
+                self.text = vec![0xA5; decimal(room, LONGEST_TEXT)?];
+                let written = hexout::text(&self.image, number).and_then(|text| fitting(text, &mut self.text));
+                let crc = crc::crc32(&self.text);
+                Some(match written {
+                    Ok(length) => {
+                        self.text.truncate(length);
+                        format!("written {} {:08X}", length, crc)
+                    }
+                    Err(number) => format!("refused {} {:08X}", number, crc),
+                })
+            }
             ["count", n] => Some(match sender::count(&self.image, decimal(n, usize::MAX)?) {
                 Ok(count) => format!("count {}", count),
                 Err(number) => format!("refused {}", number),
@@ -73,6 +90,12 @@ impl Held {
             _ => None,
         }
     }
+}
+
+/// To the front of a buffer that has room for all of it
+fn fitting(text: Vec<u8>, buffer: &mut [u8]) -> Result<usize, u8> {
+    buffer.get_mut(..text.len()).ok_or(2)?.copy_from_slice(&text);
+    Ok(text.len())
 }
 
 fn bank(text: &str) -> Option<usize> {

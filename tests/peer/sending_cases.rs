@@ -19,6 +19,7 @@ pub fn all(files: &[Vec<u8>]) -> Vec<String> {
     }
     cases.images();
     cases.whole_images();
+    cases.written_images();
     cases.wrong_images();
     cases.puts();
     cases.requests();
@@ -30,10 +31,13 @@ pub fn all(files: &[Vec<u8>]) -> Vec<String> {
 const IN_ONE_LINE: usize = 2_000;
 
 const ROOMS: [usize; 12] = [0, 1, 5, 13, 14, 256, 517, 518, 519, 520, 599, 600];
+/// About the lengths of a text: the end record alone, a row, two rows under one upper half and under two, the longest
+const TEXT_ROOMS: [usize; 16] = [0, 1, 12, 13, 14, 74, 75, 76, 119, 120, 121, 136, 137, 138, 139, 600];
+const LONG_ROOMS: [usize; 4] = [707_120, 707_121, 707_122, 720_896];
 const BAD_NUMBERS: [usize; 6] = [0, 492, 493, 512, 65_537, 999_999];
 
 /// By the word that they begin with; `|` parts one line from the next.
-const NO_REQUESTS: [&str; 14] = [
+const NO_REQUESTS: [&str; 16] = [
     "| |-|?|\t|Text 00|TEXT 00|texts 00|tex 00|text|text |text  |text 0|text 000|text 0G|text 0g|text --|text -0|text 00 | text 00",
     "text 00 00|text  00|text\t00|text 00\r|more|more |more 0|more 0x|more 00 |more 00 00|more  00|mor 00|text :|text 00:0",
     "read|read 0|read 0 1|read 0 1 |read 0 1 512 |read 0  512|read 2 1 512|read - 1 512|read 0 - 512|read 0 1 -|read 0 1 252417",
@@ -41,6 +45,8 @@ const NO_REQUESTS: [&str; 14] = [
     "read 0 -1 512|read 0 +1 512|read 0 1 5 12|Read 0 1 512|reads 0 1 512",
     "image|image |image -|image 252417|image 1000000|image 512 |image 512 512|image  512|image x|image 0000512",
     "put|put 0|put 0 |put 0 0|put 0 0G|put 0 00 |put 0 00 00|put - 00|put x 00|put  00|put 1000000 00|put 0000000 00|put 00",
+    "length|length |length -|length 2|length 0 |length 0 0|length  0|length 00|Length 0|lengths 0|write|write |write 0|write 0 |write 2 13",
+    "write - 13|write 0 -|write 0 x|write 0 720897|write 0 1000000|write 0 0000013|write 0 13 |write 0 13 0|write  0 13|writes 0 13",
     "count|count |count -|count x|count 1 |count 1 1|count  1|count 1000000|count 0000001|counts 1",
     "packet|packet 1|packet 1 0|packet 1 0 |packet 1 0 601|packet 1 0 1000|packet 1 0 519 |packet 1 0 519 0|packet  1 0 519|packet - 0 519",
     "packet 1 - 519|packet 1 0 -|packet x 0 519|packet 1 x 519|packet 1 0 x|packet 1000000 0 519|packet 1 1000000 519|packet 1 0 0000519",
@@ -273,12 +279,47 @@ impl Cases {
         self.all_packets(n, 9);
     }
 
+    /// How long the text is, and the text in each room, read again; in the last it has room.
+    fn texts(&mut self, n: usize, rooms: &[usize]) {
+        for number in [0, 1] {
+            self.add(format!("length {}", number));
+            for room in rooms {
+                self.add(format!("write {} {}", number, room));
+            }
+            self.add_read(number, n);
+        }
+    }
+
+    /// Blank; one row; two, with a change of the upper half between them where the bank has one; and every row of the largest bank.
+    fn written_images(&mut self) {
+        for n in [1, 2, 130, MOST_SECTORS] {
+            self.image(n);
+            self.texts(n, &TEXT_ROOMS);
+            self.put(n * SECTOR - 1, &[0x00]);
+            self.texts(n, &TEXT_ROOMS);
+            self.put(0, &[0x7F]);
+            self.texts(n, &TEXT_ROOMS);
+        }
+        // one that is refused leaves its buffer for the text, which is none
+        self.texts(MOST_SECTORS, &TEXT_ROOMS[..3]);
+        self.image(MOST_SECTORS);
+        for sector in 0..MOST_SECTORS {
+            let mut bytes = self.draw.bytes(SECTOR);
+            bytes.iter_mut().step_by(16).for_each(|byte| *byte &= 0xFE);
+            self.put(sector * SECTOR, &bytes);
+        }
+        self.texts(MOST_SECTORS, &LONG_ROOMS);
+    }
+
     /// N and the image's length that do not fit each other, or no bank.
     fn wrong_images(&mut self) {
         for length in [0, 1, 511, 512, 513, 1_023, 1_024, 1_025, 251_391, 251_392, 251_393, 251_904, 252_416] {
             self.add(format!("image {}", length));
             if length > 0 {
                 self.put(length - 1, &[0x00]);
+            }
+            for line in ["length 0", "length 1", "write 0 720896", "write 1 0", "write 0 74"] {
+                self.add(line.to_string());
             }
             for n in [1, 2, 3, 490, 491].iter().chain(&BAD_NUMBERS) {
                 self.add(format!("count {}", n));

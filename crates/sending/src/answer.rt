@@ -5,6 +5,7 @@ use crate::held::Answered;
 use crate::held::Held;
 use crate::images;
 use crate::texts;
+use crate::written;
 use script::say;
 use script::text;
 
@@ -14,6 +15,8 @@ enum Word {
     Read,
     Image,
     Put,
+    Length,
+    Write,
     Count,
     Packet,
     Request,
@@ -37,6 +40,12 @@ fn word_of(word: &[u8]) -> Word {
     if check::same(word, b"put") {
         return Word::Put;
     }
+    if check::same(word, b"length") {
+        return Word::Length;
+    }
+    if check::same(word, b"write") {
+        return Word::Write;
+    }
     if check::same(word, b"count") {
         return Word::Count;
     }
@@ -57,6 +66,11 @@ fn put(image: &mut [u8], held: Held, fields: &[u8]) -> bool {
     images::put(&mut image[..n], fields)
 }
 
+fn length(image: &[u8], held: Held, fields: &[u8]) -> bool {
+    let n = held::lent(image, held.image);
+    written::length(&image[..n], fields)
+}
+
 fn count(image: &[u8], held: Held, fields: &[u8]) -> bool {
     let n = held::lent(image, held.image);
     images::count(&image[..n], fields)
@@ -75,6 +89,8 @@ fn known(hex_text: &mut [u8], image: &mut [u8], held: Held, line: &[u8]) -> Answ
         Word::Read => texts::read(hex_text, image, held, fields),
         Word::Image => images::image(image, held, fields),
         Word::Put => held::kept(put(image, held, fields), held),
+        Word::Length => held::kept(length(image, held, fields), held),
+        Word::Write => written::write(hex_text, image, held, fields),
         Word::Count => held::kept(count(image, held, fields), held),
         Word::Packet => held::kept(packet(image, held, fields), held),
         Word::Request => held::kept(frames::request(fields), held),

@@ -1,11 +1,12 @@
-// Answers request lines from standard input, one line each, by what the hex reader, the sender and the reader of responses compute, for any bank
-// and any number of sectors. docs/REQUESTS.md has their form.
+// Answers request lines from standard input, one line each, by what the reader and the writer of hex text, the sender and the reader of responses
+// compute, for any bank and any number of sectors. docs/REQUESTS.md has their form.
 mod answer;
 mod frames;
 mod held;
 mod images;
 mod made;
 mod texts;
+mod written;
 
 use held::Answered;
 use held::Held;
