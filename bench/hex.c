@@ -1,13 +1,12 @@
 // The proved hex reader beside an ordinary one in C, both by the time of the call, and beside objcopy, by the time of the process. The
 // text is that of a full bank: 16 data bytes a line, lines that end in CR LF; then the same with a last line that is no record (H1), which objcopy
 // does not take. Called with a folder for objcopy's files.
-#include <spawn.h>
 #include <stdio.h>
 #include <stdlib.h>
 #include <string.h>
-#include <sys/wait.h>
 #include "now.h"
 #include "plain.h"
+#include "process.h"
 
 size_t hex_read(const uint8_t *text, size_t length, size_t n, uint8_t *image, size_t size, size_t *told, size_t room);
 
@@ -73,25 +72,13 @@ static struct times best(struct said right) {
 
 // The best time of objcopy over the text as it stands; what it wrote has to be the bytes.
 static double by_objcopy(const char *folder, size_t size) {
-    extern char **environ;
     char from[4096], to[4096];
     snprintf(from, sizeof from, "%s/text.hex", folder);
     snprintf(to, sizeof to, "%s/image.bin", folder);
     FILE *f = fopen(from, "wb");
     if (!f || fwrite(text, 1, length, f) != length || fclose(f)) exit(1);
     char *const arguments[] = {"objcopy", "-I", "ihex", "-O", "binary", from, to, 0};
-    double best = 1e18;
-    for (int round = 0; round < 40; round++) {
-        pid_t child;
-        int status;
-        double start = now();
-        if (posix_spawnp(&child, "objcopy", 0, 0, arguments, environ) || waitpid(child, &status, 0) < 0 || status) {
-            printf("hex: objcopy failed\n");
-            exit(1);
-        }
-        double took = now() - start;
-        if (took < best) best = took;
-    }
+    double best = process(arguments, 0, 0);
     f = fopen(to, "rb");
     if (!f || fread(beside, 1, SIZE, f) != size || memcmp(beside, bytes, size)) {
         printf("hex: objcopy wrote something else\n");

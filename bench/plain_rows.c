@@ -47,7 +47,7 @@ size_t plain_rows_length(const uint8_t *image, size_t size) {
 size_t plain_rows_write(const uint8_t *image, size_t size, uint8_t *text, size_t room) {
     uint32_t upper = 0;
     size_t length = plain_rows_length(image, size);
-    if (room < length) return 2;
+    if (length == 2 || room < length) return 2;
     for (size_t at = 0; at < size; at += ROW) {
         if (blank(image + at)) continue;
         if ((START + at) >> 16 != upper) {
