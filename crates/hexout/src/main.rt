@@ -1,5 +1,8 @@
 // A bank's bytes, from standard input, as hex text.
 use layout::Bank;
+use layout::MOST;
+use layout::SECTOR;
+use rows::text::LONGEST;
 use rows::text::Written;
 use script::call;
 use script::input;
@@ -8,9 +11,7 @@ use script::say;
 use script::text;
 
 // One byte more than the largest bank has, so that a longer input is seen to be no bank.
-const ROOM: usize = 251_393;
-
-const LONGEST_TEXT: usize = 707_121;
+const ROOM: usize = MOST * SECTOR + 1;
 
 fn say_refused(number: usize) {
     say::refused(number);
@@ -18,6 +19,7 @@ fn say_refused(number: usize) {
     call::refused();
 }
 
+// The text lies within its room, and the input in its own: both tests hold, and are there for the numbers' type.
 fn say_text(hex_text: &[u8], size: usize) {
     if size <= hex_text.len() {
         let end = io::count(size as isize, hex_text);
@@ -34,7 +36,7 @@ fn write_into(image: &[u8], bank: Bank, hex_text: &mut [u8]) {
 }
 
 fn write(image: &[u8], bank: Bank) {
-    let mut hex_text = [0u8; LONGEST_TEXT];
+    let mut hex_text = [0u8; LONGEST];
     write_into(image, bank, &mut hex_text);
 }
 
