@@ -6,16 +6,15 @@ use mathlib.Core.List.{List, [], _++_}
 use Prim.Native.Nat.{ℕ, _+_, _*_, _/_, _%_, _<_, _≤_}
 use native.Mathlib.Nat.{zero-add}
 use native.Mathlib.Omega.{arith}
-use lib.Dec.{eqb}
 use lib.ListN.{length, length-append}
 use lib.Seq.{sets, sets-eq, length-sets}
-use borrow.Author.Tests.{le-leb, lt-leb, eqb-true}
-use Rattle.buffer.proofs.Bools.{and-left, no-way}
+use borrow.Author.Tests.{le-leb, lt-leb}
+use Rattle.buffer.proofs.Bools.{no-way}
 use Rattle.buffer.proofs.Places.{front-fits}
 use Rattle.buffer.specs.Place.{frontOf}
 use Rattle.layout.specs.declared.Bank.{Bank}
-use Rattle.layout.specs.Layout.{sectorSize, mostSectors, goodN, wholeLength, startOf}
-use Rattle.layout.proofs.Layouts.{whole-good, good-high}
+use Rattle.layout.specs.Layout.{sectorSize, mostSectors, wholeLength, startOf}
+use Rattle.layout.proofs.Layouts.{whole-sectors, whole-good, good-high}
 use Rattle.rows.specs.declared.text.Written.the-variants.{BadLength, Text}
 use Rattle.rows.specs.Record.{besideData}
 use Rattle.rows.specs.Text.{rowSize, allRows, endLine, textOf, lengthOf, writtenOf, lengthSays, writeSays, Length·Is, Write·Is}
@@ -24,8 +23,7 @@ use Rattle.rows.proofs.Rows.{rows-most}
 
 -- a bank's length: whole sectors, and not many
 pub whole-most : (n : ℕ) → wholeLength n ≡ true → (n % sectorSize ≡ 0) × (n / sectorSize ≤ mostSectors)
-unfolding wholeLength
-whole-most n e = (eqb-true (n % sectorSize) 0 (and-left (eqb (n % sectorSize) 0) (goodN (n / sectorSize)) e), good-high (n / sectorSize) (whole-good n e))
+whole-most n e = (whole-sectors n e, good-high (n / sectorSize) (whole-good n e))
 
 pub whole-small : (n : ℕ) → wholeLength n ≡ true → n < 4294967296
 whole-small n e = let m = whole-most n e in omega (arith, m .0, m .1)
