@@ -1,9 +1,9 @@
 -- What is asked of a writer of hex text, whatever it is, and of what is read of its texts (02 §2).
 -- Assumes nothing.
 use mathlib.Core.Path.{_≡_}
-use mathlib.Core.Bool.{true, false}
-use mathlib.Core.List.{List, _++_}
-use Prim.Native.Nat.{ℕ, suc, _*_, _/_, _≤_, _<_}
+use mathlib.Core.Bool.{true, false, cond}
+use mathlib.Core.List.{List, [], _++_}
+use Prim.Native.Nat.{ℕ, zero, suc, _*_, _/_, _≤_, _<_}
 use lib.ListN.{length, take, drop}
 use Rattle.buffer.specs.Compare.{blankOf}
 use Rattle.buffer.specs.Number.{byteAt}
@@ -11,12 +11,12 @@ use Rattle.buffer.specs.Place.{placeOf, frontOf}
 use Rattle.flash.specs.Sector.{blanks}
 use Rattle.layout.specs.declared.Bank.{Bank}
 use Rattle.layout.specs.declared.Bank.the-variants.{Zero, One}
-use Rattle.layout.specs.Layout.{sectorSize, wholeLength}
+use Rattle.layout.specs.Layout.{sectorSize, wholeLength, startOf}
 use Rattle.layout.specs.Said.{number, value, accepted}
 use Rattle.hex.specs.Read.{Reading, answerSaid}
 use Rattle.rows.specs.declared.text.Written.{Written}
 use Rattle.rows.specs.declared.text.Written.the-variants.{Text}
-use Rattle.rows.specs.Text.{rowSize, rowOf, allRows, endLine, textOf, longestText, writtenOf, bufferAfter, writtenSaid}
+use Rattle.rows.specs.Text.{rowSize, rowOf, rowUpper, dataLine, upperLine, endLine, allRows, textOf, longestText, writtenOf, bufferAfter, writtenSaid}
 use Rattle.demands.specs.Texts.{TextReader}
 
 -- what a writer gives back, and the buffer then
@@ -113,3 +113,24 @@ ForgetsStart write = (image before : List ℕ) → write image Zero before ≡ w
 -- one of them: its rows' addresses count from 0
 abbrev pub startForgetter : TextWriter
 startForgetter image bank before = wrote (Text (length (allRows image 0 ++ endLine))) (frontOf before (allRows image 0 ++ endLine))
+
+-- the lines of the first k rows alone
+unfoldable pub rowLines : List ℕ → ℕ → ℕ → List ℕ
+rowLines image base zero = []
+rowLines image base (suc k) = rowLines image base k ++ cond (blankOf (rowOf image k)) [] (dataLine image base k)
+
+abbrev pub allLines : List ℕ → Bank → List ℕ
+allLines image bank = rowLines image (startOf bank) (length image / rowSize)
+
+-- one that tells the first upper half alone: of two images whose first rows are not blank and whose rows have the same lines it makes the same
+abbrev pub TellsOnce : TextWriter → Type 0
+TellsOnce write =
+    (image other : List ℕ) (bank : Bank) (before : List ℕ) → length image ≡ length other → blankOf (rowOf image 0) ≡ false → blankOf (rowOf other 0) ≡ false
+    → allLines image bank ≡ allLines other bank → write image bank before ≡ write other bank before
+
+-- one of them
+abbrev pub onceTold : List ℕ → Bank → List ℕ
+onceTold image bank = upperLine (rowUpper (startOf bank) 0) ++ allLines image bank ++ endLine
+
+abbrev pub halfForgetter : TextWriter
+halfForgetter image bank before = wrote (Text (length (onceTold image bank))) (frontOf before (onceTold image bank))
