@@ -82,7 +82,8 @@ module _ (image : List ℕ) (bank : Bank) (n : ℕ) (long : length image ≡ sec
         let d = length-blanks (size - suc k * rowSize) in
         let fits : k * rowSize + length (rowOf image k) ≤ length (filled k) = rw all (omega arith) in
         let first : take (k * rowSize) (filled k) ≡ before = take-at before (blanks (size - k * rowSize)) (k * rowSize) m in
-        let rest : drop (k * rowSize + length (rowOf image k)) (filled k) ≡ behind = rw all (drop-at (before ++ blanks rowSize) behind (k * rowSize + length (rowOf image k)) (omega arith)) in
+        let rest : drop (k * rowSize + length (rowOf image k)) (filled k) ≡ behind =
+        rw all (drop-at (before ++ blanks rowSize) behind (k * rowSize + length (rowOf image k)) (omega arith)) in
         sets-eq (rowOf image k) (filled k) (k * rowSize) fits ∙ rw (first, rest, take-next)
 
   -- LINE AFTER LINE, from some state on

@@ -36,7 +36,9 @@ module _ (image : List ℕ) (bank : Bank) (before : List ℕ) where
   text = textOf image bank
 
   data Way : Type 0 where
-    refused : textWriter image bank before ≡ record { answer = BadLength; buffer = before } → (wholeLength (length image) ≡ true → length text ≤ length before → ⊥) → Way
+    refused :
+        textWriter image bank before ≡ record { answer = BadLength; buffer = before }
+        → (wholeLength (length image) ≡ true → length text ≤ length before → ⊥) → Way
     written :
         textWriter image bank before ≡ record { answer = Text (length text); buffer = bufferAfter (Text (length text)) before text }
         → wholeLength (length image) ≡ true → length text ≤ length before → Way

@@ -133,7 +133,9 @@ module _ (address type : ℕ) (bytes : List ℕ) where
         let n = length-digits (opening ++ (bytes ++ check ∷ [])) in
         let m = bytes-length in
         let d : digitsDue (digitsSpelt (opening ++ (bytes ++ check ∷ []))) ≡ length (digitsSpelt (opening ++ (bytes ++ check ∷ []))) = due-is ∙ omega arith in
-        rw (bytes-are, d, all-digits (opening ++ (bytes ++ check ∷ [])), bytes-back (opening ++ (bytes ++ check ∷ [])) all-bytes, eq-eqb (length (digitsSpelt (opening ++ (bytes ++ check ∷ [])))) _ refl)
+        let f = all-digits (opening ++ (bytes ++ check ∷ [])) in
+        let g = eq-eqb (length (digitsSpelt (opening ++ (bytes ++ check ∷ [])))) _ refl in
+        rw (bytes-are, d, f, bytes-back (opening ++ (bytes ++ check ∷ [])) all-bytes, g)
 
     -- its data
     pub data-is : recordData (length bytes) (lineBytes (lineIn address type bytes)) ≡ bytes

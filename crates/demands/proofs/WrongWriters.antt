@@ -2,7 +2,7 @@
 -- Assumes nothing.
 use mathlib.Core.Path.{_≡_, refl, sym, ap, _∙_}
 use mathlib.Core.Bool.{Bool, true, false}
-use mathlib.Core.List.{List, [], _∷_, _++_, append-nil}
+use mathlib.Core.List.{List, _∷_, _++_, append-nil}
 use Prim.Native.Nat.{ℕ, zero, suc, _+_, _-_, _*_, _/_, _%_, _<_, _≤_}
 use native.Mathlib.Nat.{le-of-suc-le-suc}
 use native.Mathlib.Omega.{arith}
@@ -29,7 +29,8 @@ use Rattle.rows.specs.Record.{recordBody, recordChecksum, recordLine}
 use Rattle.rows.specs.Text.{rowSize, rowOf, rowAddress, rowUpper, dataLine, upperLine, endLine, toldBefore, upperText, rowText, rowsText, textOf, longestText, writtenSaid}
 use Rattle.rows.proofs.Longest.{text-longest}
 use Rattle.rows.proofs.Rows.{row-length}
-use Rattle.demands.specs.Written.{Written·Out, TextWriter, MeetsWriter, AreBytes, DropsRow, rowDropper, ForgetsStart, startForgetter, rowLines, allLines, TellsOnce, halfForgetter, wrote, textWriter}
+use Rattle.demands.specs.Written.{Written·Out, wrote, TextWriter, MeetsWriter, AreBytes, textWriter}
+use Rattle.demands.specs.Written.{DropsRow, rowDropper, ForgetsStart, startForgetter, rowLines, allLines, TellsOnce, halfForgetter}
 use Rattle.demands.proofs.WrittenLines.{bytes-cons, bytes-none}
 use Rattle.demands.proofs.Written.{texts-tell}
 
@@ -102,7 +103,8 @@ filled image k h n = by (blankOf (rowOf image k)) refl
     by true b =
         let e : k * rowSize + 0 ≡ k * rowSize = omega arith in
         let l = row-length image 0 k h in
-        absurd (n (rw e at (sym (getD-drop (k * rowSize) image 0 0) ∙ sym (getD-take rowSize (drop (k * rowSize) image) 0 0 (omega arith)) ∙ blank-at (rowOf image k) b 0 (omega arith))))
+        let there = sym (getD-take rowSize (drop (k * rowSize) image) 0 0 (omega arith)) in
+        absurd (n (rw e at (sym (getD-drop (k * rowSize) image 0 0) ∙ there ∙ blank-at (rowOf image k) b 0 (omega arith))))
     by false b = b
 
 pub no-row-dropper : (k : ℕ) → suc k * rowSize ≤ sectorSize * mostSectors → (write : TextWriter) → DropsRow k write → MeetsWriter write → ⊥
@@ -114,7 +116,8 @@ no-row-dropper k h write drops writes =
     (filled zeros k (rw zeros-length h) (λ e. omega (arith, zeros-at at inside)))
     (filled (changed at) k (rw m h) (λ e. omega (arith, at-is at inside)))
     (λ i n. sym (getD-set-other zeros at i 1 0 (λ e. n (omega arith)))) in
-    let one = told-apart write writes zeros (changed at) zeros-length m zeros-bytes (bytes-set zeros at 1 (omega arith) (rw zeros-length inside) zeros-bytes) same in
+    let are = bytes-set zeros at 1 (omega arith) (rw zeros-length inside) zeros-bytes in
+    let one = told-apart write writes zeros (changed at) zeros-length m zeros-bytes are same in
     let b : byteAt zeros at ≡ 1 = ap (λ (l : List ℕ). byteAt l at) one ∙ at-is at inside in
     omega (arith, zeros-at at inside)
 
@@ -131,7 +134,9 @@ drops-row k image other bank before l h a b f = ap (λ (x : List ℕ). textWrite
     last : drop (k * rowSize + rowSize) image ≡ drop (k * rowSize + rowSize) other
     last =
         ext-getD 0 _ _ (simp length-drop (rw l))
-        (λ i m. getD-drop (k * rowSize + rowSize) image i 0 ∙ f (k * rowSize + rowSize + i) (λ e. omega arith) ∙ sym (getD-drop (k * rowSize + rowSize) other i 0))
+        (λ i m.
+        getD-drop (k * rowSize + rowSize) image i 0 ∙ f (k * rowSize + rowSize + i) (λ e. omega arith)
+        ∙ sym (getD-drop (k * rowSize + rowSize) other i 0))
 
     blanked : placeOf image (k * rowSize) (blanks rowSize) ≡ placeOf other (k * rowSize) (blanks rowSize)
     blanked =
@@ -214,7 +219,9 @@ module _ (k : ℕ) (some : 0 < k) (inside : suc k * rowSize ≤ sectorSize * mos
   -- a row that begins with 0, and is 0xFF behind it
   begins : (j : ℕ) → suc j * rowSize ≤ sectorSize * mostSectors → byteAt (two-rows k) (j * rowSize) ≡ 0
       → ((i : ℕ) → 0 < i → i < rowSize → byteAt (two-rows k) (j * rowSize + i) ≡ 0xFF) → rowOf (two-rows k) j ≡ 0 ∷ blanks 15
-  begins j h z f = ext-getD 0 (rowOf (two-rows k) j) (0 ∷ blanks 15) (row-length (two-rows k) 0 j (rw two-length h)) (λ i g. by i (omega (arith, row-length (two-rows k) 0 j (rw two-length h))))
+  begins j h z f =
+      let l = row-length (two-rows k) 0 j (rw two-length h) in
+      ext-getD 0 (rowOf (two-rows k) j) (0 ∷ blanks 15) l (λ i g. by i (omega arith))
     where
       by : (i : ℕ) → i < rowSize → getD (rowOf (two-rows k) j) i 0 ≡ getD (0 ∷ blanks 15) i 0
       by zero g = let e : j * rowSize + 0 ≡ j * rowSize = omega arith in row-byte j 0 g ∙ rw e z
@@ -263,18 +270,23 @@ no-half-forgetter write tells writes =
     let base : ℕ = startOf Zero in
     let on : rowAddress base 8096 ≡ rowAddress base 4000 + 65536 = omega arith in
     let lines : allLines (two-rows 4000) Zero ≡ allLines (two-rows 8096) Zero =
-    two-lines 4000 (omega arith) near base ∙ rw (sym (half-lost (rowAddress base 4000) 0 (0 ∷ blanks 15)), sym on) (sym (two-lines 8096 (omega arith) far base)) in
-    let same = tells (two-rows 4000) (two-rows 8096) Zero room (l ∙ sym m) (first-told 4000 (omega arith) near) (first-told 8096 (omega arith) far) lines in
-    let one = told-apart write writes (two-rows 4000) (two-rows 8096) l m (two-bytes 4000 (omega arith) near) (two-bytes 8096 (omega arith) far) same in
+    two-lines 4000 (omega arith) near base
+    ∙ rw (sym (half-lost (rowAddress base 4000) 0 (0 ∷ blanks 15)), sym on) (sym (two-lines 8096 (omega arith) far base)) in
+    let same =
+    tells (two-rows 4000) (two-rows 8096) Zero room (l ∙ sym m) (first-told 4000 (omega arith) near) (first-told 8096 (omega arith) far) lines in
+    let one =
+    told-apart write writes (two-rows 4000) (two-rows 8096) l m (two-bytes 4000 (omega arith) near) (two-bytes 8096 (omega arith) far) same in
     let here : byteAt (two-rows 4000) (4000 * rowSize) ≡ 0 = other-is 4000 (omega arith) near in
-    let there : byteAt (two-rows 8096) (4000 * rowSize) ≡ 0xFF = else-is 8096 (omega arith) far (4000 * rowSize) (omega arith) (λ e. omega arith) (λ e. omega arith) in
+    let there : byteAt (two-rows 8096) (4000 * rowSize) ≡ 0xFF =
+    else-is 8096 (omega arith) far (4000 * rowSize) (omega arith) (λ e. omega arith) (λ e. omega arith) in
     let z : _≡_ {A = ℕ} 0 0xFF = sym here ∙ ap (λ (image : List ℕ). byteAt image (4000 * rowSize)) one ∙ there in
     omega arith
 
 -- one of that kind
 pub tells-once : TellsOnce halfForgetter
 tells-once image other bank before l a b e =
-    ap (λ (rows : List ℕ). wrote (Text (length (upperLine (rowUpper (startOf bank) 0) ++ rows ++ endLine))) (frontOf before (upperLine (rowUpper (startOf bank) 0) ++ rows ++ endLine))) e
+    let first : List ℕ = upperLine (rowUpper (startOf bank) 0) in
+    ap (λ (rows : List ℕ). wrote (Text (length (first ++ rows ++ endLine))) (frontOf before (first ++ rows ++ endLine))) e
 
 -- ONE THAT FORGETS WHERE THE BANK STARTS. An image of one sector with one byte other than 0xFF
 unfoldable small : List ℕ

@@ -54,7 +54,8 @@ module _ (image : List ℕ) (k : ℕ) where
   pub row-seen : {r b : Bool} → r ≡ blankOf part → r ≡ b → blankOf (rowOf image k) ≡ b
   row-seen e f = ap blankOf (sym part-is) ∙ sym e ∙ f
 
-  pub row-copied : suc k * rowSize ≤ length image → (room : List ℕ) {row : List ℕ} → length room ≡ rowSize → row ≡ frontOf room part → row ≡ rowOf image k
+  pub row-copied :
+      suc k * rowSize ≤ length image → (room : List ℕ) {row : List ℕ} → length room ≡ rowSize → row ≡ frontOf room part → row ≡ rowOf image k
   row-copied inside room n e =
       let l = part-length image (k * rowSize) rowSize (omega arith) in
       e ∙ front-whole room part (ap length (part-out image (k * rowSize) rowSize) ∙ l ∙ sym n) ∙ part-is
@@ -189,7 +190,8 @@ module _
     module _
         (text : List ℕ) {first row : List ℕ} (put : first ≡ sets text (reached .at) (upperText (reached .told) (next .told))) (row-is : row ≡ rowOf image k)
       where
-        pub row-fits : length (rowsText image base (k + 1)) ≤ length text → (length row < 256) × (next .at - 45 + (besideData + 2 * length row) ≤ length first)
+        pub row-fits :
+          length (rowsText image base (k + 1)) ≤ length text → (length row < 256) × (next .at - 45 + (besideData + 2 * length row) ≤ length first)
         row-fits h =
             let l = ap length row-is ∙ row-length image base k inside in
             let f = ap length put ∙ length-sets text (reached .at) (upperText (reached .told) (next .told)) in
@@ -197,7 +199,9 @@ module _
             let m = line-at in
             (omega arith, omega arith)
 
-        pub row-put : {after : List ℕ} → after ≡ sets first (next .at - 45) (recordLine (rowAddress base k) 0 row) → after ≡ sets text (reached .at) (rowText image base k)
+        pub row-put :
+          {after : List ℕ} → after ≡ sets first (next .at - 45) (recordLine (rowAddress base k) 0 row)
+          → after ≡ sets text (reached .at) (rowText image base k)
         row-put e =
             e
             ∙ rw (put, row-is, text-told image base k b, sym upper-is)

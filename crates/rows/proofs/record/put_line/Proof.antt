@@ -66,10 +66,13 @@ add-text c = search needs
 
 slice-write-text-2 : tie.Need-slice-write-text-2
 slice-write-text-2 c =
-    let a = c .before .before .before .before .before .before .before .before .before .before .before .before .before .before .before .before .before .args in
+    let c8 = c .before .before .before .before .before .before .before .before in
+    let c12 = c8 .before .before .before .before in
+    let c17 = c12 .before .before .before .before .before in
+    let a = c17 .args in
     let begun = length-set (a .text .now) (a .at) 0x3A in
-    let first = spelt-length (c .before .before .before .before .before .before .before .before .before .before .before .before .spell .ensures) in
-    let second = spelt-length (c .before .before .before .before .before .before .before .before .spell2 .ensures) in
+    let first = spelt-length (c12 .spell .ensures) in
+    let second = spelt-length (c8 .spell2 .ensures) in
     let third = spelt-length (c .before .before .spell3 .ensures) in
     omega arith
 
@@ -78,27 +81,37 @@ add-text-2 c = search needs
 
 slice-write-text-3 : tie.Need-slice-write-text-3
 slice-write-text-3 c =
-    let a = c .before .before .before .before .before .before .before .before .before .before .before .before .before .before .before .before .before .args in
+    let c8 = c .before .before .before .before .before .before .before .before in
+    let c12 = c8 .before .before .before .before in
+    let c17 = c12 .before .before .before .before .before in
+    let a = c17 .args in
     let begun = length-set (a .text .now) (a .at) 0x3A in
-    let first = spelt-length (c .before .before .before .before .before .before .before .before .before .before .before .before .spell .ensures) in
-    let second = spelt-length (c .before .before .before .before .before .before .before .before .spell2 .ensures) in
+    let first = spelt-length (c12 .spell .ensures) in
+    let second = spelt-length (c8 .spell2 .ensures) in
     let third = spelt-length (c .before .before .spell3 .ensures) in
     simp length-set (omega arith)
 
 same-length : tie.Need-same-length
 same-length c =
-    let a = c .before .before .before .before .before .before .before .before .before .before .before .before .before .before .before .before .before .args in
+    let c8 = c .before .before .before .before .before .before .before .before in
+    let c12 = c8 .before .before .before .before in
+    let c17 = c12 .before .before .before .before .before in
+    let a = c17 .args in
     let begun = length-set (a .text .now) (a .at) 0x3A in
-    let first = spelt-length (c .before .before .before .before .before .before .before .before .before .before .before .before .spell .ensures) in
-    let second = spelt-length (c .before .before .before .before .before .before .before .before .spell2 .ensures) in
+    let first = spelt-length (c12 .spell .ensures) in
+    let second = spelt-length (c8 .spell2 .ensures) in
     let third = spelt-length (c .before .before .spell3 .ensures) in
     simp length-set (omega arith)
 
 returns : tie.Need-returns
 returns c =
-    let a = c .before .before .before .before .before .before .before .before .before .before .before .before .before .before .before .before .before .args in
-    line-put (a .text .now) (a .at) (a .address) (a .kind) (a .bytes .now) (c .before .before .before .before .before .before .before .before .before .before .before .before .spell .ensures) (c .before .before .before .before .before .before .before .before .spell2 .ensures)
-    (search needs) (c .before .before .before .before .before .wrapping-sub-u8 .ensures) (c .before .before .spell3 .ensures)
+    let c5 = c .before .before .before .before .before in
+    let c8 = c5 .before .before .before in
+    let c12 = c8 .before .before .before .before in
+    let c17 = c12 .before .before .before .before .before in
+    let a = c17 .args in
+    line-put (a .text .now) (a .at) (a .address) (a .kind) (a .bytes .now) (c12 .spell .ensures) (c8 .spell2 .ensures)
+    (search needs) (c5 .wrapping-sub-u8 .ensures) (c .before .before .spell3 .ensures)
 
 pub put-line-spec : {M : Type 1} → statement M
 put-line-spec =

@@ -30,8 +30,10 @@ measure-requires c κs =
 
 add-t9 : tie.Need-add-t9
 add-t9 c =
-    let whole = counted-whole _ _ (sym (c .before .before .before .enum-told2 .given .1) ∙ c .before .before .before .before .before .sectors .ensures .counted) in
-    let m = rows-small (c .before .before .before .before .before .before .before .args .image .now) (c .before .wide4 .result) in
+    let c5 = c .before .before .before .before .before in
+    let c7 = c5 .before .before in
+    let whole = counted-whole _ _ (sym (c .before .before .before .enum-told2 .given .1) ∙ c5 .sectors .ensures .counted) in
+    let m = rows-small (c7 .args .image .now) (c .before .wide4 .result) in
     omega (arith, c .measure .ensures, whole-small _ whole)
 
 returns : tie.Need-returns
@@ -39,9 +41,11 @@ returns c = length-bad _ _ (refused-whole _ (sym (c .enum-told .given .1) ∙ c 
 
 returns-2 : tie.Need-returns-2
 returns-2 c =
-    let whole = counted-whole _ _ (sym (c .before .before .before .enum-told2 .given .1) ∙ c .before .before .before .before .before .sectors .ensures .counted) in
+    let c5 = c .before .before .before .before .before in
+    let c7 = c5 .before .before in
+    let whole = counted-whole _ _ (sym (c .before .before .before .enum-told2 .given .1) ∙ c5 .sectors .ensures .counted) in
     let start = c .before .wide4 .ensures .0 ∙ c .before .before .start-address .ensures in
-    let size = text-length (c .before .before .before .before .before .before .before .args .image .now) (c .before .before .before .before .before .before .before .args .bank) start in
+    let size = text-length (c7 .args .image .now) (c7 .args .bank) start in
     length-good _ _ whole (omega (arith, c .measure .ensures))
 
 pub length-spec : {M : Type 1} → statement M

@@ -19,11 +19,12 @@ returns c =
 
 put-upper-requires : tie.Need-put-upper-requires
 put-upper-requires c κs =
-    let a = c .before .before .before .before .before .before .before .args in
-    let p = c .before .before .before .before .before .before .before .pre .0 in
+    let c7 = c .before .before .before .before .before .before .before in
+    let a = c7 .args in
+    let p = c7 .pre .0 in
     let passed = c .before .before .before .before .pass .ensures in
     let l = line-at (a .image .now) (a .base) (a .k) (p .so-far) passed (p .inside) (c .before .if1 .left) in
-    let f = line-fits (a .image .now) (a .base) (a .k) (p .so-far) passed (p .inside) (c .before .if1 .left) (c .before .before .before .before .before .before .before .pre .1) in
+    let f = line-fits (a .image .now) (a .base) (a .k) (p .so-far) passed (p .inside) (c .before .if1 .left) (c7 .pre .1) in
     omega arith
 
 mul-from : tie.Need-mul-from
@@ -49,10 +50,13 @@ put-front-requires c κs = search needs
 
 sub-put-line : tie.Need-sub-put-line
 sub-put-line c =
-    let a = c .before .before .before .before .before .before .before .before .before .before .before .before .before .before .before .before .args in
-    let p = c .before .before .before .before .before .before .before .before .before .before .before .before .before .before .before .before .pre .0 in
-    let passed = c .before .before .before .before .before .before .before .before .before .before .before .before .before .pass .ensures in
-    let l = line-at (a .image .now) (a .base) (a .k) (p .so-far) passed (p .inside) (c .before .before .before .before .before .before .before .before .before .before .if1 .left) in
+    let c10 = c .before .before .before .before .before .before .before .before .before .before in
+    let c13 = c10 .before .before .before in
+    let c16 = c13 .before .before .before in
+    let a = c16 .args in
+    let p = c16 .pre .0 in
+    let passed = c13 .pass .ensures in
+    let l = line-at (a .image .now) (a .base) (a .k) (p .so-far) passed (p .inside) (c10 .if1 .left) in
     omega arith
 
 add-put-line : tie.Need-add-put-line
@@ -63,22 +67,31 @@ slice-aggregate-put-line c = search needs
 
 put-line-requires : tie.Need-put-line-requires
 put-line-requires c κs =
-    let a = c .before .before .before .before .before .before .before .before .before .before .before .before .before .before .before .before .before .args in
-    let p = c .before .before .before .before .before .before .before .before .before .before .before .before .before .before .before .before .before .pre .0 in
-    let passed = c .before .before .before .before .before .before .before .before .before .before .before .before .before .before .pass .ensures in
+    let c9 = c .before .before .before .before .before .before .before .before .before in
+    let c11 = c9 .before .before in
+    let c14 = c11 .before .before .before in
+    let c17 = c14 .before .before .before in
+    let a = c17 .args in
+    let p = c17 .pre .0 in
+    let passed = c14 .pass .ensures in
     let row = row-copied (a .image .now) (a .k) (p .inside) _ refl (c .before .before .before .before .put-front .ensures) in
-    row-fits (a .image .now) (a .base) (a .k) (p .so-far) passed (p .inside) (c .before .before .before .before .before .before .before .before .before .before .before .if1 .left) (a .text .now) (c .before .before .before .before .before .before .before .before .before .put-upper .ensures) row (c .before .before .before .before .before .before .before .before .before .before .before .before .before .before .before .before .before .pre .1)
+    row-fits (a .image .now) (a .base) (a .k) (p .so-far) passed (p .inside) (c11 .if1 .left) (a .text .now) (c9 .put-upper .ensures) row (c17 .pre .1)
 
 same-length : tie.Need-same-length
 same-length c = search needs
 
 returns-2 : tie.Need-returns-2
 returns-2 c =
-    let a = c .before .before .before .before .before .before .before .before .before .before .before .before .before .before .before .before .before .before .before .before .args in
-    let p = c .before .before .before .before .before .before .before .before .before .before .before .before .before .before .before .before .before .before .before .before .pre .0 in
-    let passed = c .before .before .before .before .before .before .before .before .before .before .before .before .before .before .before .before .before .pass .ensures in
-    let row = row-copied (a .image .now) (a .k) (p .inside) _ refl (c .before .before .before .before .before .before .before .put-front .ensures) in
-    (passed, row-put (a .image .now) (a .base) (a .k) (p .so-far) passed (p .inside) (c .before .before .before .before .before .before .before .before .before .before .before .before .before .before .if1 .left) (a .text .now) (c .before .before .before .before .before .before .before .before .before .before .before .before .put-upper .ensures) row (c .before .before .put-line .ensures))
+    let c7 = c .before .before .before .before .before .before .before in
+    let c12 = c7 .before .before .before .before .before in
+    let c14 = c12 .before .before in
+    let c17 = c14 .before .before .before in
+    let c20 = c17 .before .before .before in
+    let a = c20 .args in
+    let p = c20 .pre .0 in
+    let passed = c17 .pass .ensures in
+    let row = row-copied (a .image .now) (a .k) (p .inside) _ refl (c7 .put-front .ensures) in
+    (passed, row-put (a .image .now) (a .base) (a .k) (p .so-far) passed (p .inside) (c14 .if1 .left) (a .text .now) (c12 .put-upper .ensures) row (c .before .before .put-line .ensures))
 
 pub put-row-spec : {M : Type 1} → statement M
 put-row-spec =

@@ -26,11 +26,12 @@ loop-holds c =
 
 put-row-requires : tie.Need-put-row-requires Inv-loop μ-loop
 put-row-requires c κs =
+    let c5 = c .before .before .before .before .before in
     let l = c .before .before .loop in
-    let a = c .before .before .before .before .before .args in
+    let a = c5 .args in
     let e : l .k + 1 + (length (a .image .now) / rowSize - (l .k + 1)) ≡ length (a .image .now) / rowSize = omega arith in
     let g = rw e at (rows-grow (a .image .now) (a .base) (l .k + 1) (length (a .image .now) / rowSize - (l .k + 1))) in
-    (record { fits = c .before .before .before .before .before .pre .0; inside = omega arith; so-far = l .inv .1 }, omega (arith, l .inv .2, c .before .before .before .before .before .pre .1))
+    (record { fits = c5 .pre .0; inside = omega arith; so-far = l .inv .1 }, omega (arith, l .inv .2, c5 .pre .1))
 
 add-k : tie.Need-add-k Inv-loop μ-loop
 add-k c = omega arith

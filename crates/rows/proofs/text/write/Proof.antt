@@ -23,7 +23,8 @@ returns c =
 
 put-requires : tie.Need-put-requires
 put-requires c κs =
-    let size = some-length _ _ (sym (c .before .before .before .size .given .1) ∙ c .before .before .before .before .before .length .ensures .answered) in
+    let c5 = c .before .before .before .before .before in
+    let size = some-length _ _ (sym (c .before .before .before .size .given .1) ∙ c5 .length .ensures .answered) in
     record { whole = size .0; enough = omega (arith, size .1) }
 
 returns-2 : tie.Need-returns-2
@@ -34,7 +35,9 @@ same-length c = search needs
 
 returns-3 : tie.Need-returns-3
 returns-3 c =
-    let size = some-length _ _ (sym (c .before .before .before .before .before .before .size .given .1) ∙ c .before .before .before .before .before .before .before .before .length .ensures .answered) in
+    let c6 = c .before .before .before .before .before .before in
+    let c8 = c6 .before .before in
+    let size = some-length _ _ (sym (c6 .size .given .1) ∙ c8 .length .ensures .answered) in
     write-good _ _ _ (size .0) (omega (arith, size .1)) (size .1) (c .before .before .put .ensures)
 
 pub write-spec : {M : Type 1} → statement M
