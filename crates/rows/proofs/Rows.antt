@@ -191,7 +191,7 @@ module _
         (text : List ℕ) {first row : List ℕ} (put : first ≡ sets text (reached .at) (upperText (reached .told) (next .told))) (row-is : row ≡ rowOf image k)
       where
         pub row-fits :
-          length (rowsText image base (k + 1)) ≤ length text → (length row < 256) × (next .at - 45 + (besideData + 2 * length row) ≤ length first)
+            length (rowsText image base (k + 1)) ≤ length text → (length row < 256) × (next .at - 45 + (besideData + 2 * length row) ≤ length first)
         row-fits h =
             let l = ap length row-is ∙ row-length image base k inside in
             let f = ap length put ∙ length-sets text (reached .at) (upperText (reached .told) (next .told)) in
@@ -200,8 +200,8 @@ module _
             (omega arith, omega arith)
 
         pub row-put :
-          {after : List ℕ} → after ≡ sets first (next .at - 45) (recordLine (rowAddress base k) 0 row)
-          → after ≡ sets text (reached .at) (rowText image base k)
+            {after : List ℕ} → after ≡ sets first (next .at - 45) (recordLine (rowAddress base k) 0 row)
+            → after ≡ sets text (reached .at) (rowText image base k)
         row-put e =
             e
             ∙ rw (put, row-is, text-told image base k b, sym upper-is)
