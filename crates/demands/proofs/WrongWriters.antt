@@ -285,8 +285,8 @@ no-half-forgetter write tells writes =
 -- one of that kind
 pub tells-once : TellsOnce halfForgetter
 tells-once image other bank before l a b e =
-    let first : List ℕ = upperLine (rowUpper (startOf bank) 0) in
-    ap (λ (rows : List ℕ). wrote (Text (length (first ++ rows ++ endLine))) (frontOf before (first ++ rows ++ endLine))) e
+    let half : List ℕ = upperLine (rowUpper (startOf bank) 0) in
+    ap (λ (l : List ℕ). wrote (Text (length (half ++ l ++ endLine))) (frontOf before (half ++ l ++ endLine))) e
 
 -- ONE THAT FORGETS WHERE THE BANK STARTS. An image of one sector with one byte other than 0xFF
 unfoldable small : List ℕ
