@@ -19,7 +19,7 @@ use Rattle.buffer.specs.Place.{frontOf}
 use Rattle.rows.specs.declared.text.Reached.{Reached}
 use Rattle.rows.specs.Text.{rowSize, rowOf, rowAddress, rowUpper, dataLine, upperLine, toldBefore, upperText, rowText, rowsText}
 use Rattle.rows.specs.Record.{recordLine, besideData}
-use Rattle.rows.specs.Places.{reachedAt}
+use Rattle.rows.specs.Places.{ImageFits, reachedAt}
 use Rattle.rows.proofs.Records.{sets-next, line-length}
 
 -- AN UPPER HALF that was told last, and another
@@ -34,13 +34,6 @@ module _ (told upper : ℕ) where
 
   pub upper-length : length (upperLine upper) ≡ 17
   upper-length = line-length 0 4 (bytesOf 2 upper) ∙ rw (length-bytes 2 upper)
-
-  pub upper-most : length (upperText told upper) ≤ 17
-  upper-most = by (eqb upper told) refl
-    where
-      by : (b : Bool) → eqb upper told ≡ b → length (upperText told upper) ≤ 17
-      by true e = rw (upper-same (eqb-true upper told e)) (omega arith)
-      by false e = rw (upper-other (eqb-false upper told e)) (omega (arith, upper-length))
 
 -- A ROW AS IT IS LENT, by `[from..from + 16]`: seen to be blank or not, and copied
 module _ (image : List ℕ) (k : ℕ) where
@@ -228,26 +221,55 @@ module _ (image : List ℕ) (base : ℕ) where
   unfolding rowsText
   rows-none text = refl
 
-  -- as many bytes as they have at most
-  pub rows-most : (k : ℕ) → k * rowSize ≤ length image → length (rowsText image base k) ≤ k * 62
-  unfolding rowsText
-  rows-most zero h = omega arith
-  rows-most (suc k) h =
-      let m = length-append (rowsText image base k) (rowText image base k) in
-      let n = rows-most k (omega arith) in
-      let o = row-most in
-      omega arith
+  -- as many bytes as they have at most: 45 for each row, and 17 for each upper half from the first one on to the one told last
+  abbrev pub halves : ℕ → ℕ
+  halves k = toldBefore image base k + 1 - base / 65536
+
+  pub none-first : toldBefore image base 0 ≡ 0
+  unfolding toldBefore
+  none-first = refl
+
+  pub told-low : (k : ℕ) → toldBefore image base k ≤ rowUpper base k
+  told-low zero = omega (arith, none-first)
+  told-low (suc k) = by (blankOf (rowOf image k)) refl (told-low k)
     where
-      row-most : length (rowText image base k) ≤ 62
-      row-most = by (blankOf (rowOf image k)) refl
-        where
-          by : (b : Bool) → blankOf (rowOf image k) ≡ b → length (rowText image base k) ≤ 62
-          by true b = rw (text-blank image base k b) (omega arith)
-          by false b =
-              let n = length-append (upperText (toldBefore image base k) (rowUpper base k)) (dataLine image base k) in
-              let d = data-length image base k h in
-              let u = upper-most (toldBefore image base k) (rowUpper base k) in
-              rw (text-told image base k b) (omega arith)
+      by : (b : Bool) → blankOf (rowOf image k) ≡ b → toldBefore image base k ≤ rowUpper base k → toldBefore image base (suc k) ≤ rowUpper base (suc k)
+      by true b l = let t = told-stays image base k b in rw (sym (add-one k)) (omega arith)
+      by false b l = let t = told-next image base k b in rw (sym (add-one k)) (omega arith)
+
+  pub none-long : length (rowsText image base 0) ≡ 0
+  unfolding rowsText
+  none-long = refl
+
+  pub rows-longest : (k : ℕ) → k * rowSize ≤ length image → length (rowsText image base k) ≤ 45 * k + 17 * halves k
+  rows-longest zero h = omega (arith, none-long)
+  rows-longest (suc k) h =
+      by (blankOf (rowOf image k)) (eqb (rowUpper base k) (toldBefore image base k)) refl refl (rows-longest k (omega arith))
+    where
+      by :
+          (b e : Bool) → blankOf (rowOf image k) ≡ b → eqb (rowUpper base k) (toldBefore image base k) ≡ e
+          → length (rowsText image base k) ≤ 45 * k + 17 * halves k → length (rowsText image base (suc k)) ≤ 45 * suc k + 17 * halves (suc k)
+      by true e f g s =
+          let m = length-stays image base k f in
+          let t = told-stays image base k f in
+          rw (sym (add-one k)) (omega arith)
+      by false true f g s =
+          let m = told-length image base k h f in
+          let e = eqb-true (rowUpper base k) (toldBefore image base k) g in
+          let u = ap length (upper-same (toldBefore image base k) (rowUpper base k) e) in
+          let t = told-next image base k f in
+          rw (sym (add-one k)) (omega arith)
+      by false false f g s =
+          let m = told-length image base k h f in
+          let n = eqb-false (rowUpper base k) (toldBefore image base k) g in
+          let u = ap length (upper-other (toldBefore image base k) (rowUpper base k) n) ∙ upper-length (toldBefore image base k) (rowUpper base k) in
+          let t = told-next image base k f in
+          let l = told-low k in
+          rw (sym (add-one k)) (omega arith)
+
+  -- so few that the code's sums are numbers of the machine
+  pub rows-small : ImageFits image base → (k : ℕ) → k * rowSize ≤ length image → length (rowsText image base k) < 1099511627776
+  rows-small fits k h = let m = rows-longest k h in let l = told-low k in omega (arith, fits .base-small, fits .image-small)
 
   -- more rows, no shorter text
   pub rows-grow : (k m : ℕ) → length (rowsText image base k) ≤ length (rowsText image base (k + m))

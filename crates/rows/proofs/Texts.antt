@@ -14,22 +14,22 @@ use Rattle.buffer.proofs.Places.{front-fits}
 use Rattle.buffer.specs.Place.{frontOf}
 use Rattle.layout.specs.declared.Bank.{Bank}
 use Rattle.layout.specs.Layout.{sectorSize, mostSectors, wholeLength, startOf}
-use Rattle.layout.proofs.Layouts.{whole-sectors, whole-good, good-high}
+use Rattle.layout.proofs.Layouts.{start-small, whole-sectors, whole-good, good-high}
 use Rattle.rows.specs.declared.text.Written.the-variants.{BadLength, Text}
 use Rattle.rows.specs.Record.{besideData}
-use Rattle.rows.specs.Text.{rowSize, allRows, endLine, textOf, lengthOf, writtenOf, lengthSays, writeSays, Length·Is, Write·Is}
+use Rattle.rows.specs.Text.{allRows, endLine, textOf, lengthOf, writtenOf, lengthSays, writeSays, Length·Is, Write·Is}
+use Rattle.rows.specs.Places.{ImageFits}
 use Rattle.rows.proofs.Records.{sets-next, line-length}
-use Rattle.rows.proofs.Rows.{rows-most}
 
 -- a bank's length: whole sectors, and not many
 pub whole-most : (n : ℕ) → wholeLength n ≡ true → (n % sectorSize ≡ 0) × (n / sectorSize ≤ mostSectors)
 whole-most n e = (whole-sectors n e, good-high (n / sectorSize) (whole-good n e))
 
-pub whole-small : (n : ℕ) → wholeLength n ≡ true → n < 4294967296
-whole-small n e = let m = whole-most n e in omega (arith, m .0, m .1)
-
-pub rows-small : (image : List ℕ) (base : ℕ) → length (allRows image base) ≤ length image * 4
-rows-small image base = let m = rows-most image base (length image / rowSize) (omega arith) in omega arith
+-- so small are it and a bank's address
+pub bank-fits : (image : List ℕ) (bank : Bank) {base : ℕ} → base ≡ startOf bank → wholeLength (length image) ≡ true → ImageFits image base
+bank-fits image bank start w =
+    let m = whole-most (length image) w in
+    record { base-small = omega (arith, start-small bank); image-small = omega (arith, m .0, m .1) }
 
 -- all rows, from the bank's start on, and the end record
 module _ (image : List ℕ) (bank : Bank) {base : ℕ} (start : base ≡ startOf bank) where

@@ -7,7 +7,7 @@ use crate::record::put_line;
 use layout::Bank;
 use layout::Counted;
 ghost use mathlib.Core.Path.{_≡_};
-ghost use Prim.Native.Nat.{_+_, _<_, _≤_};
+ghost use Prim.Native.Nat.{_+_, _≤_};
 ghost use lib.ListN.{length};
 ghost use lib.Seq.{sets};
 ghost use Rattle.buffer.specs.Place.{frontOf};
@@ -131,12 +131,6 @@ fn put_rows(image: &[u8], base: usize, text: &mut [u8]) -> usize
     reached.at
 }
 
-fn wide4(number: u32) -> usize
-    ensures { λ r. ⌜ (r ≡ number) × (r < 4294967296) ⌝ }
-{
-    number as usize
-}
-
 // How long the text of an image is.
 pub fn length(image: &[u8], bank: Bank) -> Written
     ensures { λ r. ⌜ Length·Is (now (image .entry)) bank r ⌝ }
@@ -144,7 +138,7 @@ pub fn length(image: &[u8], bank: Bank) -> Written
     match layout::sectors(image.len()) {
         Counted::Refused => Written::BadLength,
         Counted::Sectors(_) => {
-            let base = wide4(layout::start_address(bank));
+            let base = layout::start_address(bank) as usize;
             Written::Text(measure(image, base) + BESIDE)
         }
     }
@@ -155,7 +149,7 @@ fn put(image: &[u8], bank: Bank, text: &mut [u8])
     requires { ⌜ Room (now image) bank (now text) ⌝ }
     ensures { λ _. ⌜ now (text .exit) ≡ frontOf (now (text .entry)) (textOf (now (image .entry)) bank) ⌝ }
 {
-    let base = wide4(layout::start_address(bank));
+    let base = layout::start_address(bank) as usize;
     let at = put_rows(image, base, text);
     put_line(text, at, 0, END, b"");
 }

@@ -2,9 +2,13 @@
 -- Assumes nothing.
 use mathlib.Core.Path.{sym, _∙_}
 use native.Mathlib.Omega.{arith}
+use Prim.Native.Nat.{_/_}
+use lib.ListN.{length}
 use borrow.Author.Needs.{needs}
 use Rattle.layout.proofs.Layouts.{counted-whole, refused-whole}
-use Rattle.rows.proofs.Texts.{whole-small, rows-small, text-length, length-bad, length-good}
+use Rattle.rows.specs.Text.{rowSize}
+use Rattle.rows.proofs.Rows.{rows-small}
+use Rattle.rows.proofs.Texts.{bank-fits, text-length, length-bad, length-good}
 use Rattle.rows.proofs.text.length.Statement.{statement}
 use Rattle.rows.proofs.text.length.Tie as tie
 
@@ -20,32 +24,30 @@ enum-told-2 c = search needs
 start-address-requires : tie.Need-start-address-requires
 start-address-requires c κs = search needs
 
-wide4-requires : tie.Need-wide4-requires
-wide4-requires c κs = search needs
+cast-base : tie.Need-cast-base
+cast-base c = search needs
 
 measure-requires : tie.Need-measure-requires
 measure-requires c κs =
-    let whole = counted-whole _ _ (sym (c .before .before .enum-told2 .given .1) ∙ c .before .before .before .before .sectors .ensures .counted) in
-    record { base-small = c .wide4 .ensures .1; image-small = whole-small _ whole }
+    let whole = counted-whole _ _ (sym (c .before .enum-told2 .given .1) ∙ c .before .before .before .sectors .ensures .counted) in
+    bank-fits _ (c .before .before .before .before .before .args .bank) (c .start-address .ensures) whole
 
 add-t9 : tie.Need-add-t9
 add-t9 c =
-    let c5 = c .before .before .before .before .before in
-    let c7 = c5 .before .before in
-    let whole = counted-whole _ _ (sym (c .before .before .before .enum-told2 .given .1) ∙ c5 .sectors .ensures .counted) in
-    let m = rows-small (c7 .args .image .now) (c .before .wide4 .result) in
-    omega (arith, c .measure .ensures, whole-small _ whole)
+    let a = c .before .before .before .before .before .before .args in
+    let whole = counted-whole _ _ (sym (c .before .before .enum-told2 .given .1) ∙ c .before .before .before .before .sectors .ensures .counted) in
+    let start = c .before .start-address .ensures in
+    let m = rows-small (a .image .now) _ (bank-fits (a .image .now) (a .bank) start whole) (length (a .image .now) / rowSize) (omega arith) in
+    omega (arith, c .measure .ensures)
 
 returns : tie.Need-returns
 returns c = length-bad _ _ (refused-whole _ (sym (c .enum-told .given .1) ∙ c .before .before .sectors .ensures .counted))
 
 returns-2 : tie.Need-returns-2
 returns-2 c =
-    let c5 = c .before .before .before .before .before in
-    let c7 = c5 .before .before in
-    let whole = counted-whole _ _ (sym (c .before .before .before .enum-told2 .given .1) ∙ c5 .sectors .ensures .counted) in
-    let start = c .before .wide4 .ensures .0 ∙ c .before .before .start-address .ensures in
-    let size = text-length (c7 .args .image .now) (c7 .args .bank) start in
+    let a = c .before .before .before .before .before .before .args in
+    let whole = counted-whole _ _ (sym (c .before .before .enum-told2 .given .1) ∙ c .before .before .before .before .sectors .ensures .counted) in
+    let size = text-length (a .image .now) (a .bank) (c .before .start-address .ensures) in
     length-good _ _ whole (omega (arith, c .measure .ensures))
 
 pub length-spec : {M : Type 1} → statement M
@@ -56,7 +58,7 @@ length-spec =
     enum-told
     enum-told-2
     start-address-requires
-    wide4-requires
+    cast-base
     measure-requires
     add-t9
     returns

@@ -2,7 +2,7 @@
 -- Assumes nothing.
 use native.Mathlib.Omega.{arith}
 use borrow.Author.Needs.{needs}
-use Rattle.rows.proofs.Rows.{row-seen, so-long, pass-blank, pass-same, pass-other, rows-most}
+use Rattle.rows.proofs.Rows.{row-seen, so-long, pass-blank, pass-same, pass-other, rows-small}
 use Rattle.rows.proofs.text.pass.Statement.{statement}
 use Rattle.rows.proofs.text.pass.Tie as tie
 
@@ -38,16 +38,16 @@ add-at c =
     let a = c .before .before .before .before .before .args in
     let p = c .before .before .before .before .before .pre in
     let l = so-long (a .image .now) (a .base) (a .k) (p .so-far) in
-    let m = rows-most (a .image .now) (a .base) (a .k) (omega arith) in
-    omega (arith, p .fits .image-small)
+    let m = rows-small (a .image .now) (a .base) (p .fits) (a .k) (omega (arith, p .inside)) in
+    omega arith
 
 add-at-2 : tie.Need-add-at-2
 add-at-2 c =
     let a = c .before .before .before .before .before .before .before .args in
     let p = c .before .before .before .before .before .before .before .pre in
     let l = so-long (a .image .now) (a .base) (a .k) (p .so-far) in
-    let m = rows-most (a .image .now) (a .base) (a .k) (omega arith) in
-    omega (arith, p .fits .image-small)
+    let m = rows-small (a .image .now) (a .base) (p .fits) (a .k) (omega (arith, p .inside)) in
+    omega arith
 
 returns-2 : tie.Need-returns-2
 returns-2 c =
