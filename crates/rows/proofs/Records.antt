@@ -6,7 +6,7 @@ use Prim.Native.Nat.{ℕ, suc, _+_, _*_, _/_, _%_, _<_, _≤_}
 use native.Mathlib.Nat.{add-zero}
 use native.Mathlib.Numerals.{add-one}
 use native.Mathlib.Omega.{arith}
-use lib.ListN.{length, getD, set, drop, length-append, drop-of-length-le}
+use lib.ListN.{length, getD, set, drop, length-set, length-append, drop-of-length-le}
 use lib.Seq.{sets, length-sets, drop-cons}
 use Rattle.buffer.proofs.Numbers.{length-bytes, bytes-two}
 use Rattle.buffer.proofs.Totals.{total-append}
@@ -54,6 +54,12 @@ line-length address type bytes =
 -- put piece by piece
 pub spelt-length : {bytes before after : List ℕ} {sum at r : ℕ} → Spelt bytes sum before at r after → length after ≡ length before
 spelt-length {bytes} {before} {after} {sum} {at} s = rw (s .put) (length-sets before at (digitsSpelt bytes))
+
+-- three pieces behind the colon leave it as long as it was
+pub pieces-length :
+    (t : List ℕ) (at : ℕ) {a b c first second third : List ℕ} {i j k p q r u v w : ℕ} → Spelt a p (set t at 0x3A) i u first → Spelt b q first j v second
+    → Spelt c r second k w third → length third ≡ length t
+pieces-length t at x y z = spelt-length z ∙ spelt-length y ∙ spelt-length x ∙ length-set t at 0x3A
 
 checksum-is : (bytes : List ℕ) {last sum : ℕ} → last < 256 → (last + sum) % 256 ≡ 0 → sum ≡ total bytes % 256 → last ≡ recordChecksum bytes
 unfolding recordChecksum

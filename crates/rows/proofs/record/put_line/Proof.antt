@@ -3,7 +3,7 @@
 use native.Mathlib.Omega.{arith}
 use lib.ListN.{length-set}
 use borrow.Author.Needs.{needs}
-use Rattle.rows.proofs.Records.{spelt-length, line-put}
+use Rattle.rows.proofs.Records.{spelt-length, pieces-length, line-put}
 use Rattle.rows.proofs.record.put_line.Statement.{statement}
 use Rattle.rows.proofs.record.put_line.Tie as tie
 
@@ -68,12 +68,8 @@ slice-write-text-2 : tie.Need-slice-write-text-2
 slice-write-text-2 c =
     let c8 = c .before .before .before .before .before .before .before .before in
     let c12 = c8 .before .before .before .before in
-    let c17 = c12 .before .before .before .before .before in
-    let a = c17 .args in
-    let begun = length-set (a .text .now) (a .at) 0x3A in
-    let first = spelt-length (c12 .spell .ensures) in
-    let second = spelt-length (c8 .spell2 .ensures) in
-    let third = spelt-length (c .before .before .spell3 .ensures) in
+    let a = c12 .before .before .before .before .before .args in
+    let l = pieces-length (a .text .now) (a .at) (c12 .spell .ensures) (c8 .spell2 .ensures) (c .before .before .spell3 .ensures) in
     omega arith
 
 add-text-2 : tie.Need-add-text-2
@@ -83,24 +79,16 @@ slice-write-text-3 : tie.Need-slice-write-text-3
 slice-write-text-3 c =
     let c8 = c .before .before .before .before .before .before .before .before in
     let c12 = c8 .before .before .before .before in
-    let c17 = c12 .before .before .before .before .before in
-    let a = c17 .args in
-    let begun = length-set (a .text .now) (a .at) 0x3A in
-    let first = spelt-length (c12 .spell .ensures) in
-    let second = spelt-length (c8 .spell2 .ensures) in
-    let third = spelt-length (c .before .before .spell3 .ensures) in
+    let a = c12 .before .before .before .before .before .args in
+    let l = pieces-length (a .text .now) (a .at) (c12 .spell .ensures) (c8 .spell2 .ensures) (c .before .before .spell3 .ensures) in
     simp length-set (omega arith)
 
 same-length : tie.Need-same-length
 same-length c =
     let c8 = c .before .before .before .before .before .before .before .before in
     let c12 = c8 .before .before .before .before in
-    let c17 = c12 .before .before .before .before .before in
-    let a = c17 .args in
-    let begun = length-set (a .text .now) (a .at) 0x3A in
-    let first = spelt-length (c12 .spell .ensures) in
-    let second = spelt-length (c8 .spell2 .ensures) in
-    let third = spelt-length (c .before .before .spell3 .ensures) in
+    let a = c12 .before .before .before .before .before .args in
+    let l = pieces-length (a .text .now) (a .at) (c12 .spell .ensures) (c8 .spell2 .ensures) (c .before .before .spell3 .ensures) in
     simp length-set (omega arith)
 
 returns : tie.Need-returns
