@@ -14,7 +14,7 @@ use Rattle.layout.specs.Layout.{goodN}
 use Rattle.commands.specs.declared.Command.the-variants.{ModeStart, BankInfo, VersionInfo, WriteStart, WriteEnd, ModeEnd}
 use Rattle.commands.specs.Command.{responseCode}
 use Rattle.exchange.specs.declared.answer.Answer.{Answer}
-use Rattle.exchange.specs.declared.answer.Answer.the-variants.{Refused, FrameError, Error, Response, BankIs, VersionIs, Written}
+use Rattle.exchange.specs.declared.answer.Answer.the-variants.{Refused, FrameError, ParameterError, Response, BankIs, VersionIs, Written}
 use Rattle.exchange.specs.declared.answer.Refusal.{Refusal}
 use Rattle.exchange.specs.declared.request.Asked.{Asked}
 use Rattle.exchange.specs.declared.request.Asked.the-variants.{Fault, NoRequest, WrongLength, Right}
@@ -57,7 +57,7 @@ pub record Heard (s : Standing) (target marks address buffer : ℕ) : Type 0 whe
 abbrev pub Quiet : Answer → Type 0
 Quiet (Refused why) = Unit {0}
 Quiet FrameError = Unit {0}
-Quiet (Error result) = Unit {0}
+Quiet ParameterError = Unit {0}
 Quiet (Response command result) =
     ((eqb (responseCode command) 0x70 && eqb result 0x06) ≡ false)
     × ((eqb (responseCode command) 0x75 && (eqb result 0x06 || eqb result 0x1E)) ≡ false)
@@ -84,14 +84,14 @@ Leads s heard asked Finish = heard × (s .state ≡ state.Write)
 
 -- ---- the deciding, case by case
 
-quiet-declined : (request : Request) (result : ℕ) → eqb result 0x06 ≡ false → eqb result 0x1E ≡ false → Quiet (declinedOf request result)
-quiet-declined (Control ModeStart start end) result e f = (refl, refl)
-quiet-declined (Control BankInfo start end) result e f = (refl, refl)
-quiet-declined (Control VersionInfo start end) result e f = (refl, refl)
-quiet-declined (Control WriteStart start end) result e f = (e, refl)
-quiet-declined (Control WriteEnd start end) result e f = (refl, rw (e, f))
-quiet-declined (Control ModeEnd start end) result e f = (refl, refl)
-quiet-declined (Packet sector m) result e f = rw e
+quiet-declined : (request : Request) → Quiet (declinedOf request)
+quiet-declined (Control ModeStart start end) = (refl, refl)
+quiet-declined (Control BankInfo start end) = (refl, refl)
+quiet-declined (Control VersionInfo start end) = (refl, refl)
+quiet-declined (Control WriteStart start end) = (refl, refl)
+quiet-declined (Control WriteEnd start end) = (refl, refl)
+quiet-declined (Control ModeEnd start end) = (refl, refl)
+quiet-declined (Packet sector m) = refl
 
 in-write-end : (s : State) (start end : ℕ) → fitsState s (Control WriteEnd start end) ≡ true → s ≡ state.Write
 in-write-end state.Closed start end e = absurd (false≢true e)
@@ -113,7 +113,7 @@ module _ (s : Standing) (marks : List ℕ) (H : Type 0) (heard : H) where
       split P (valuesGood (s .fixed .n) sector m)
       (λ v. split P (isWorn (getD marks (sector - 1) 0)) (λ _. (refl, inr heard))
       (λ _. (heard, record { m = m; asks = refl; writing = w; values = v })))
-      (λ _. (refl, inr heard))
+      (λ _. (tt, inr heard))
 
   leads-good : (request : Request) → fitsState (s .state) request ≡ true → Leads s H (Right request) (planGood (s .fixed) request marks)
   unfolding planGood planControl planStart planEnd
@@ -122,7 +122,7 @@ module _ (s : Standing) (marks : List ℕ) (H : Type 0) (heard : H) where
   leads-good (Control VersionInfo start end) f = (tt, inr heard)
   leads-good (Control WriteStart start end) f =
       split (Leads s H (Right (Control WriteStart start end))) (addressesGood (s .fixed .n) (s .fixed .running) start end)
-      (λ _. heard) (λ _. ((refl, refl), inr heard))
+      (λ _. heard) (λ _. (tt, inr heard))
   leads-good (Control WriteEnd start end) f =
       split (Leads s H (Right (Control WriteEnd start end))) (anyWorn marks) (λ _. heard) (λ _. (heard, in-write-end (s .state) start end f))
   leads-good (Control ModeEnd start end) f = heard
@@ -132,10 +132,10 @@ module _ (s : Standing) (marks : List ℕ) (H : Type 0) (heard : H) where
   unfolding planAsked planRequest
   leads-asked Fault = (tt, inr heard)
   leads-asked NoRequest = (tt, inr heard)
-  leads-asked (WrongLength command) = (quiet-declined (Control command 0 0) 0x05 refl refl, inr heard)
+  leads-asked WrongLength = (tt, inr heard)
   leads-asked (Right request) =
       split (Leads s H (Right request)) (fitsState (s .state) request) (leads-good request)
-      (λ _. (quiet-declined request 0x15 refl refl, inr heard))
+      (λ _. (quiet-declined request, inr heard))
 
 module _ (s : Standing) (target : ℕ) (marks address : List ℕ) (buffer : ℕ) (asked : Asked) where
   abbrev Ready : Type 0

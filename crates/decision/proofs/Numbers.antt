@@ -46,9 +46,9 @@ planNumber Finish = 0
 abbrev None : Plan → Type 0
 None plan = planNumber plan ≡ 0
 
-declined-none : (request : Request) (result : ℕ) → answerNumber (declinedOf request result) ≡ 0
-declined-none (Control command start end) result = refl
-declined-none (Packet sector m) result = refl
+declined-none : (request : Request) → answerNumber (declinedOf request) ≡ 0
+declined-none (Control command start end) = refl
+declined-none (Packet sector m) = refl
 
 good-none : (s : Standing) (request : Request) (marks : List ℕ) → None (planGood (s .fixed) request marks)
 unfolding planGood planControl planStart planEnd planPacket
@@ -66,9 +66,9 @@ asked-none : (s : Standing) (asked : Asked) (marks : List ℕ) → None (planAsk
 unfolding planAsked planRequest
 asked-none s Fault marks = refl
 asked-none s NoRequest marks = refl
-asked-none s (WrongLength command) marks = refl
+asked-none s WrongLength marks = refl
 asked-none s (Right request) marks =
-    split None (fitsState (s .state) request) (λ _. good-none s request marks) (λ _. declined-none request 0x15)
+    split None (fitsState (s .state) request) (λ _. good-none s request marks) (λ _. declined-none request)
 
 pub plan-number : (s : Standing) (target : ℕ) (marks address : List ℕ) (buffer : ℕ) (asked : Asked)
     → planNumber (planOf s target marks address buffer asked)

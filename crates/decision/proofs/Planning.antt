@@ -15,7 +15,7 @@ use Rattle.layout.specs.Layout.{sectorSize, goodN, bankSize, goodSize, otherOf,
 use Rattle.layout.proofs.Layouts.{size-good}
 use Rattle.commands.specs.declared.Command.the-variants.{WriteStart}
 use Rattle.exchange.specs.declared.answer.Answer.{Answer}
-use Rattle.exchange.specs.declared.answer.Answer.the-variants.{Refused, Written}
+use Rattle.exchange.specs.declared.answer.Answer.the-variants.{Refused, ParameterError, Written}
 use Rattle.exchange.specs.declared.answer.Refusal.the-variants.{BadN, BadLength, Closed}
 use Rattle.exchange.specs.declared.request.Asked.{Asked}
 use Rattle.exchange.specs.declared.request.Request.{Request}
@@ -28,7 +28,6 @@ use Rattle.decision.specs.declared.plan.Standing.{Standing}
 use Rattle.decision.specs.Plan.{
   lentGood,
   anyWorn,
-  parameterFault,
   valuesGood,
   addressesGood,
   planStart,
@@ -164,9 +163,9 @@ module _ (n sector m : ℕ) where
     values-whole = eqb-true (m % 4) 0 (and-right (leb m sectorSize) (eqb (m % 4) 0) lengths)
 
   module _ (marks : List ℕ) where
-    pub packet-bad : (p : Plan) → p ≡ Keep (parameterFault (Packet sector m)) → valuesGood n sector m ≡ false → p ≡ planPacket n marks sector m
+    pub packet-bad : valuesGood n sector m ≡ false → Keep ParameterError ≡ planPacket n marks sector m
     unfolding planPacket
-    packet-bad p is g = rw (is, g)
+    packet-bad g = rw g
 
     pub packet-worn : valuesGood n sector m ≡ true → (getD marks (sector - 1) 0 ≡ 0 → ⊥) → Keep (Written sector 0x06 0x1C 0) ≡ planPacket n marks sector m
     unfolding planPacket
@@ -179,23 +178,27 @@ module _ (n sector m : ℕ) where
 -- ---- the addresses
 
 module _ (n : ℕ) (running : Bank) (start end : ℕ) (target : Bank) (is : target ≡ otherOf running) (s : ℕ) (begin : s ≡ startOf target) where
-  pub start-first : (w : Plan) → w ≡ Keep (parameterFault (Control WriteStart start end)) → (start ≡ s → ⊥) → w ≡ planStart n running start end
-  unfolding planStart addressesGood
-  start-first w v e = rw (v, ← is, ← begin) (simp (ne-eqb _ _ e))
+  pub start-other : (start ≡ s → ⊥) → false ≡ addressesGood n running start end
+  unfolding addressesGood
+  start-other e = rw (← is, ← begin) (simp (ne-eqb _ _ e))
 
-  module _ (e : ℕ) (last : e ≡ endOf target n) (p : start ≡ s) where
-    pub start-second : (w : Plan) → w ≡ Keep (parameterFault (Control WriteStart start end)) → (end ≡ e → ⊥) → w ≡ planStart n running start end
-    unfolding planStart addressesGood
-    start-second w v q = rw (v, ← is, ← begin, ← last) (simp (eq-eqb _ _ p, ne-eqb _ _ q))
+  pub start-same : (e : ℕ) → e ≡ endOf target n → start ≡ s → eqb end e ≡ addressesGood n running start end
+  unfolding addressesGood
+  start-same e last p = rw (← is, ← begin, ← last) (simp (eq-eqb _ _ p))
 
-    pub start-good : end ≡ e → Begin ≡ planStart n running start end
-    unfolding planStart addressesGood
-    start-good q = rw (← is, ← begin, ← last) (simp (eq-eqb _ _ p, eq-eqb _ _ q))
+module _ (n : ℕ) (running : Bank) (start end : ℕ) (r : Bool) (is : r ≡ addressesGood n running start end) where
+  pub start-good : r ≡ true → Begin ≡ planStart n running start end
+  unfolding planStart
+  start-good e = rw (← is, e)
+
+  pub start-bad : r ≡ false → Keep ParameterError ≡ planStart n running start end
+  unfolding planStart
+  start-bad e = rw (← is, e)
 
 -- ---- a request
 
 module _ (s : Standing) (request : Request) (marks : List ℕ) (r : Bool) (is : r ≡ fitsState (s .state) request) where
-  pub request-unfit : (a : Answer) → a ≡ declinedOf request 0x15 → not r ≡ true → Keep a ≡ planRequest s request marks
+  pub request-unfit : (a : Answer) → a ≡ declinedOf request → not r ≡ true → Keep a ≡ planRequest s request marks
   unfolding planRequest
   request-unfit a v e = rw (v, ← is, not-true r e)
 

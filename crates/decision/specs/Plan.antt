@@ -11,8 +11,7 @@ use Rattle.layout.specs.declared.Bank.{Bank}
 use Rattle.layout.specs.Layout.{sectorSize, goodN, bankSize, otherOf, startOf, endOf}
 use Rattle.commands.specs.declared.Command.{Command}
 use Rattle.commands.specs.declared.Command.the-variants.{ModeStart, BankInfo, VersionInfo, WriteStart, WriteEnd, ModeEnd}
-use Rattle.exchange.specs.declared.answer.Answer.{Answer}
-use Rattle.exchange.specs.declared.answer.Answer.the-variants.{Refused, FrameError, Error, BankIs, VersionIs, Written}
+use Rattle.exchange.specs.declared.answer.Answer.the-variants.{Refused, FrameError, ParameterError, BankIs, VersionIs, Written}
 use Rattle.exchange.specs.declared.answer.Refusal.the-variants.{BadN, BadLength, Closed}
 use Rattle.exchange.specs.declared.request.Asked.{Asked}
 use Rattle.exchange.specs.declared.request.Asked.the-variants.{Fault, NoRequest, WrongLength, Right}
@@ -37,10 +36,6 @@ unfoldable pub anyWorn : List ℕ → Bool
 anyWorn [] = false
 anyWorn (mark ∷ marks) = isWorn mark || anyWorn marks
 
--- parameters that are wrong: "05 in the command's own response"
-abbrev pub parameterFault : Request → Answer
-parameterFault request = declinedOf request 0x05
-
 -- value faults of a packet: its sector ("0 or above N") and the number of its bytes
 unfoldable pub valuesGood : ℕ → ℕ → ℕ → Bool
 valuesGood n sector m =
@@ -52,7 +47,7 @@ addressesGood n running start end = eqb start (startOf (otherOf running)) && eqb
 
 unfoldable pub planStart : ℕ → Bank → ℕ → ℕ → Plan
 planStart n running start end =
-    cond (addressesGood n running start end) Begin (Keep (parameterFault (Control WriteStart start end)))
+    cond (addressesGood n running start end) Begin (Keep ParameterError)
 
 -- "If any target sector is worn: 1C"
 unfoldable pub planEnd : List ℕ → Plan
@@ -63,7 +58,7 @@ unfoldable pub planPacket : ℕ → List ℕ → ℕ → ℕ → Plan
 planPacket n marks sector m =
     cond (valuesGood n sector m)
     (cond (isWorn (getD marks (sector - 1) 0)) (Keep (Written sector 0x06 0x1C 0)) (Store sector))
-    (Keep (parameterFault (Packet sector m)))
+    (Keep ParameterError)
 
 -- what a command leads to in its state
 unfoldable pub planControl : Fixed → Command → ℕ → ℕ → List ℕ → Plan
@@ -82,13 +77,13 @@ planGood fixed (Packet sector m) marks = planPacket (fixed .n) marks sector m
 -- the state test, for control and write frames alike
 unfoldable pub planRequest : Standing → Request → List ℕ → Plan
 planRequest s request marks =
-    cond (fitsState (s .state) request) (planGood (s .fixed) request marks) (Keep (declinedOf request 0x15))
+    cond (fitsState (s .state) request) (planGood (s .fixed) request marks) (Keep (declinedOf request))
 
--- frame, code, parameter length
+-- frame, code, parameter length; a parameter fault, of length or values, is "answered E0 with 05" (02 §3)
 unfoldable pub planAsked : Standing → Asked → List ℕ → Plan
 planAsked s Fault marks = Keep FrameError
-planAsked s NoRequest marks = Keep (Error 0x05)
-planAsked s (WrongLength command) marks = Keep (parameterFault (Control command 0 0))
+planAsked s NoRequest marks = Keep ParameterError
+planAsked s WrongLength marks = Keep ParameterError
 planAsked s (Right request) marks = planRequest s request marks
 
 -- "3, 2, 1" before them

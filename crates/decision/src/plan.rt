@@ -10,8 +10,7 @@ ghost use mathlib.Core.Path.{_≡_};
 ghost use mathlib.Core.Bool.{true};
 ghost use lib.ListN.{length};
 ghost use Rattle.layout.specs.Layout.{goodN};
-ghost use Rattle.decision.specs.declared.plan.Plan.the-variants.{Keep};
-ghost use Rattle.decision.specs.Plan.{lentGood, anyWorn, parameterFault, valuesGood, planStart, planEnd, planPacket, planControl, planRequest, planAsked, Plan·Is};
+ghost use Rattle.decision.specs.Plan.{lentGood, anyWorn, valuesGood, addressesGood, planStart, planEnd, planPacket, planControl, planRequest, planAsked, Plan·Is};
 
 // What is fixed when a client is made.
 pub struct Fixed {
@@ -100,19 +99,12 @@ fn values_good(n: usize, sector: u16, m: usize) -> bool
     m % 4 == 0
 }
 
-// Parameters that are wrong.
-fn parameter_fault(request: Request) -> Plan
-    ensures { λ r. ⌜ r ≡ Keep (parameterFault request) ⌝ }
-{
-    Plan::Keep(exchange::request::declined(request, 0x05))
-}
-
 fn plan_packet(n: usize, marks: &[u8], sector: u16, m: usize) -> Plan
     requires { ⌜ length (now marks) ≡ n ⌝ }
     ensures { λ r. ⌜ r ≡ planPacket n (now (marks .entry)) sector m ⌝ }
 {
     if !values_good(n, sector, m) {
-        return parameter_fault(Request::Packet { sector, length: m });
+        return Plan::Keep(Answer::ParameterError);
     }
     let k = sector as usize;
     if marks[k - 1] != 0 {
@@ -136,26 +128,25 @@ fn plan_end(marks: &[u8]) -> Plan
     }
 }
 
-// The target's address pair leads to a write session.
-fn plan_start(n: usize, running: Bank, start: u32, end: u32) -> Plan
-    ensures { λ r. ⌜ r ≡ planStart n running start end ⌝ }
+// Whether the addresses are the target's.
+fn addresses_good(n: usize, running: Bank, start: u32, end: u32) -> bool
+    ensures { λ r. ⌜ r ≡ addressesGood n running start end ⌝ }
 {
     let target = layout::other(running);
     if start != layout::start_address(target) {
-        return parameter_fault(Request::Control {
-            command: Command::WriteStart,
-            start,
-            end,
-        });
+        return false;
     }
-    if end != layout::end_address(target, n) {
-        return parameter_fault(Request::Control {
-            command: Command::WriteStart,
-            start,
-            end,
-        });
+    end == layout::end_address(target, n)
+}
+
+fn plan_start(n: usize, running: Bank, start: u32, end: u32) -> Plan
+    ensures { λ r. ⌜ r ≡ planStart n running start end ⌝ }
+{
+    if addresses_good(n, running, start, end) {
+        Plan::Begin
+    } else {
+        Plan::Keep(Answer::ParameterError)
     }
-    Plan::Begin
 }
 
 impl Standing {
@@ -186,7 +177,7 @@ impl Standing {
     {
         let state = self.state;
         if !exchange::request::fits_state(state, request) {
-            return Plan::Keep(exchange::request::declined(request, 0x15));
+            return Plan::Keep(exchange::request::declined(request));
         }
         match request {
             Request::Control {
@@ -206,12 +197,8 @@ impl Standing {
     {
         match asked {
             Asked::Fault => Plan::Keep(Answer::FrameError),
-            Asked::NoRequest => Plan::Keep(Answer::Error { result: 0x05 }),
-            Asked::WrongLength(command) => parameter_fault(Request::Control {
-                command,
-                start: 0,
-                end: 0,
-            }),
+            Asked::NoRequest => Plan::Keep(Answer::ParameterError),
+            Asked::WrongLength => Plan::Keep(Answer::ParameterError),
             Asked::Right(request) => self.plan_request(request, marks),
         }
     }

@@ -11,7 +11,7 @@ use Rattle.commands.specs.declared.Command.{Command}
 use Rattle.commands.specs.declared.Command.the-variants.{WriteStart, WriteEnd}
 use Rattle.commands.specs.Command.{responseCode}
 use Rattle.exchange.specs.declared.answer.Answer.{Answer}
-use Rattle.exchange.specs.declared.answer.Answer.the-variants.{Refused, FrameError, Error, Response, BankIs, VersionIs, Written}
+use Rattle.exchange.specs.declared.answer.Answer.the-variants.{Refused, FrameError, ParameterError, Response, BankIs, VersionIs, Written}
 use Rattle.exchange.specs.Answer.{answerBytes}
 use Rattle.client.specs.Perform.{Accepted}
 use Rattle.decision.proofs.Leading.{Quiet}
@@ -27,7 +27,7 @@ pub quiet-begin : (answer : Answer) → Quiet answer → isBegin (answerBytes an
 unfolding answerBytes controlFrame writeFrame framed frameError
 quiet-begin (Refused why) q = refl
 quiet-begin FrameError q = refl
-quiet-begin (Error result) q = refl
+quiet-begin ParameterError q = refl
 quiet-begin (Response command result) q = q .0
 quiet-begin (BankIs bank) q = refl
 quiet-begin (VersionIs major minor revision) q = refl
@@ -37,7 +37,7 @@ pub quiet-end : (answer : Answer) → Quiet answer → endsSession (answerBytes 
 unfolding answerBytes controlFrame writeFrame framed frameError
 quiet-end (Refused why) q = refl
 quiet-end FrameError q = refl
-quiet-end (Error result) q = refl
+quiet-end ParameterError q = refl
 quiet-end (Response command result) q = either (eqb (responseCode command) 0x75) (eqb result 0x06) (eqb result 0x1E) (q .1)
 quiet-end (BankIs bank) q = refl
 quiet-end (VersionIs major minor revision) q = refl
@@ -47,7 +47,7 @@ pub quiet-stored : (answer : Answer) → Quiet answer → isStored (answerBytes 
 unfolding answerBytes controlFrame writeFrame framed frameError bytesOf
 quiet-stored (Refused why) q = refl
 quiet-stored FrameError q = refl
-quiet-stored (Error result) q = refl
+quiet-stored ParameterError q = refl
 quiet-stored (Response command result) q = refl
 quiet-stored (BankIs bank) q = refl
 quiet-stored (VersionIs major minor revision) q = refl

@@ -29,7 +29,7 @@ use Rattle.layout.proofs.Pairs.{pair-same}
 use Rattle.commands.specs.declared.Command.the-variants.{ModeStart, BankInfo, VersionInfo, WriteStart, WriteEnd, ModeEnd}
 use Rattle.commands.specs.Command.{codedBy}
 use Rattle.exchange.specs.declared.answer.Answer.{Answer}
-use Rattle.exchange.specs.declared.answer.Answer.the-variants.{Refused, FrameError, Error, Response, BankIs, VersionIs, Written}
+use Rattle.exchange.specs.declared.answer.Answer.the-variants.{Refused, FrameError, ParameterError, Response, BankIs, VersionIs, Written}
 use Rattle.exchange.specs.declared.answer.Refusal.{Refusal}
 use Rattle.exchange.specs.declared.answer.Refusal.the-variants.{BadN, BadLength, Closed}
 use Rattle.exchange.specs.declared.state.State.{State}
@@ -178,7 +178,7 @@ module _ (fixed : Fixed) (next : Bank) (latest : Latest) (received : List Bool) 
 
     code-61 : (m : ℕ) (t : Bool) (s : State) → eqb m 0 ≡ t → isClosed s ≡ false → Holds s (Control 0x61 m)
     unfolding Tells askedBy codedBy counted planAsked planRequest planGood planControl carriedOf servedOf answerBytes
-    code-61 m false s z l = rw z (kept s (Response ModeStart 0x05) _ refl (refl, refl) refl refl)
+    code-61 m false s z l = rw z (kept s ParameterError _ refl (refl, refl) refl refl)
     code-61 m true state.Closed z l = closed-not l
     code-61 m true state.Idle z l = rw z (kept state.Idle (Response ModeStart 0x06) _ refl (refl, refl) refl refl)
     code-61 m true state.Control z l = rw z (kept state.Control (Response ModeStart 0x15) _ refl (refl, refl) refl refl)
@@ -186,7 +186,7 @@ module _ (fixed : Fixed) (next : Bank) (latest : Latest) (received : List Bool) 
 
     code-62 : (m : ℕ) (t : Bool) (s : State) → eqb m 0 ≡ t → isClosed s ≡ false → Holds s (Control 0x62 m)
     unfolding Tells askedBy codedBy counted planAsked planRequest planGood planControl carriedOf servedOf answerBytes
-    code-62 m false s z l = rw z (kept s (Response BankInfo 0x05) _ refl (refl, refl) refl refl)
+    code-62 m false s z l = rw z (kept s ParameterError _ refl (refl, refl) refl refl)
     code-62 m true state.Closed z l = closed-not l
     code-62 m true state.Idle z l = rw z (kept state.Idle (Response BankInfo 0x15) _ refl (refl, refl) refl refl)
     code-62 m true state.Control z l = rw z (kept state.Control (BankIs (otherOf (fixed .running))) _ refl (refl, refl) refl refl)
@@ -194,7 +194,7 @@ module _ (fixed : Fixed) (next : Bank) (latest : Latest) (received : List Bool) 
 
     code-68 : (m : ℕ) (t : Bool) (s : State) → eqb m 0 ≡ t → isClosed s ≡ false → Holds s (Control 0x68 m)
     unfolding Tells askedBy codedBy counted planAsked planRequest planGood planControl carriedOf servedOf answerBytes
-    code-68 m false s z l = rw z (kept s (Response VersionInfo 0x05) _ refl (refl, refl) refl refl)
+    code-68 m false s z l = rw z (kept s ParameterError _ refl (refl, refl) refl refl)
     code-68 m true state.Closed z l = closed-not l
     code-68 m true state.Idle z l = rw z (kept state.Idle (Response VersionInfo 0x15) _ refl (refl, refl) refl refl)
     code-68 m true state.Control z l = rw z (kept state.Control (VersionIs (fixed .major) (fixed .minor) (fixed .revision)) _ refl (refl, refl) refl refl)
@@ -202,7 +202,7 @@ module _ (fixed : Fixed) (next : Bank) (latest : Latest) (received : List Bool) 
 
     code-64 : (m : ℕ) (t : Bool) (s : State) → eqb m 0 ≡ t → isClosed s ≡ false → Holds s (Control 0x64 m)
     unfolding Tells askedBy codedBy counted planAsked planRequest planGood planControl carriedOf servedOf answerBytes
-    code-64 m false s z l = rw z (kept s (Response ModeEnd 0x05) _ refl (refl, refl) refl refl)
+    code-64 m false s z l = rw z (kept s ParameterError _ refl (refl, refl) refl refl)
     code-64 m true state.Closed z l = closed-not l
     code-64 m true state.Idle z l = rw z (kept state.Idle (Response ModeEnd 0x15) _ refl (refl, refl) refl refl)
     code-64 m true state.Control z l = rw z (kept state.Control (Response ModeEnd 0x06) _ refl (refl, refl) refl refl)
@@ -214,10 +214,10 @@ module _ (fixed : Fixed) (next : Bank) (latest : Latest) (received : List Bool) 
 
     code-40 : (m : ℕ) (t : Bool) (s : State) (v : Bool) → eqb m 8 ≡ t → pair-good ≡ v → isClosed s ≡ false → Holds s (Control 0x40 m)
     unfolding Tells askedBy codedBy counted planAsked planRequest planGood planControl carriedOf servedOf answerBytes planStart
-    code-40 m false s v z a l = rw z (kept s (Response WriteStart 0x05) _ refl (refl, refl) refl refl)
+    code-40 m false s v z a l = rw z (kept s ParameterError _ refl (refl, refl) refl refl)
     code-40 m true state.Closed v z a l = closed-not l
     code-40 m true state.Idle v z a l = rw z (kept state.Idle (Response WriteStart 0x15) _ refl (refl, refl) refl refl)
-    code-40 m true state.Control false z a l = rw (z, a) (kept state.Control (Response WriteStart 0x05) _ refl (refl, refl) refl refl)
+    code-40 m true state.Control false z a l = rw (z, a) (kept state.Control ParameterError _ refl (refl, refl) refl refl)
     code-40 m true state.Control true z a l = rw (z, a) (kept state.Control (Response WriteStart 0x06) _ refl (refl, refl) refl refl)
     code-40 m true state.Write v z a l = rw z (kept state.Write (Response WriteStart 0x15) _ refl (refl, refl) refl refl)
 
@@ -225,7 +225,7 @@ module _ (fixed : Fixed) (next : Bank) (latest : Latest) (received : List Bool) 
     code-45 : (m : ℕ) (t : Bool) (s : State) (w f : Bool) → eqb m 0 ≡ t → anyWorn (call .marks) ≡ w
         → fitOf fixed (sweptTarget (at state.Write) call) ≡ f → isClosed s ≡ false → Holds s (Control 0x45 m)
     unfolding Tells askedBy codedBy counted planAsked planRequest planGood planControl carriedOf servedOf answerBytes planEnd checkedOf
-    code-45 m false s w f z a e l = rw z (kept s (Response WriteEnd 0x05) _ refl (refl, refl) refl refl)
+    code-45 m false s w f z a e l = rw z (kept s ParameterError _ refl (refl, refl) refl refl)
     code-45 m true state.Closed w f z a e l = closed-not l
     code-45 m true state.Idle w f z a e l = rw z (kept state.Idle (Response WriteEnd 0x15) _ refl (refl, refl) refl refl)
     code-45 m true state.Control w f z a e l = rw z (kept state.Control (Response WriteEnd 0x15) _ refl (refl, refl) refl refl)
@@ -237,7 +237,7 @@ module _ (fixed : Fixed) (next : Bank) (latest : Latest) (received : List Bool) 
     code-other : (code m : ℕ) (s : State) → eqb code 0x61 ≡ false → eqb code 0x62 ≡ false → eqb code 0x68 ≡ false → eqb code 0x40 ≡ false
         → eqb code 0x45 ≡ false → eqb code 0x64 ≡ false → Holds s (Control code m)
     unfolding Tells askedBy codedBy planAsked carriedOf servedOf answerBytes
-    code-other code m s e f g h i j = rw (e, f, g, h, i, j) (kept s (Error 0x05) _ refl (refl, refl) refl refl)
+    code-other code m s e f g h i j = rw (e, f, g, h, i, j) (kept s ParameterError _ refl (refl, refl) refl refl)
 
     control : (code m : ℕ) (s : State) → isClosed s ≡ false → Holds s (Control code m)
     control code m s l = by61 (eqb code 0x61) refl
@@ -291,7 +291,7 @@ module _ (fixed : Fixed) (next : Bank) (latest : Latest) (received : List Bool) 
       packet state.Closed v w a e l = closed-not l
       packet state.Idle v w a e l = kept state.Idle (Written sector 0x15 0x15 0) _ refl (refl, refl) refl refl
       packet state.Control v w a e l = kept state.Control (Written sector 0x15 0x15 0) _ refl (refl, refl) refl refl
-      packet state.Write false w a e l = rw a (kept state.Write (Written sector 0x05 0x05 0) _ refl (refl, refl) refl refl)
+      packet state.Write false w a e l = rw a (kept state.Write ParameterError _ refl (refl, refl) refl refl)
       packet state.Write true true a e l = rw (a, e) (kept state.Write (Written sector 0x06 0x1C 0) _ refl (refl, refl) refl refl)
       packet state.Write true false a e l =
           let answer : Answer =

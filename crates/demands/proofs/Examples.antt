@@ -49,9 +49,9 @@ use Rattle.calls.proofs.Leading.{fits-stored, storing}
 use Rattle.decision.proofs.Planning.{values-zero, values-above, values-empty, values-long, values-words, values-low, values-high}
 use Rattle.calls.specs.Call.{Board}
 use Rattle.demands.specs.Board.{LentCall, Datagram, Outcome, said, lentTarget, stepMachine}
-use Rattle.demands.specs.Demand1.{packetStored}
+use Rattle.demands.specs.Demand1.{answered, parameterError, packetStored}
 use Rattle.demands.specs.Demand2.{Lends}
-use Rattle.demands.specs.Examples.{Calls, Brings, SectorTaken, goodLength, isIdle, live, none, also, Examples}
+use Rattle.demands.specs.Examples.{Calls, Brings, Taken, goodLength, isIdle, live, none, also, Examples}
 use Rattle.demands.specs.Session.{isStored}
 use Rattle.demands.proofs.Bytes.{written-stored}
 use Rattle.demands.proofs.Lending.{lent-in}
@@ -70,9 +70,9 @@ sum-2 : (footer : Footer) → byteAt (writeFrame 1 (0xFF ∷ 0x80 ∷ 0x40 ∷ 0
 unfolding writeFrame framed bytesOf checksumOf takenAway
 sum-2 footer = refl
 
-answer-3 : controlFrame 0xE0 (0x05 ∷ []) ≡ 0x01 ∷ 0x02 ∷ 0xE0 ∷ 0x05 ∷ 0x19 ∷ 0x03 ∷ []
+parameter-bytes : parameterError ≡ 0x01 ∷ 0x02 ∷ 0xE0 ∷ 0x05 ∷ 0x19 ∷ 0x03 ∷ []
 unfolding controlFrame framed checksumOf takenAway
-answer-3 = refl
+parameter-bytes = refl
 
 reads-1 : readOf (0x01 ∷ 0x01 ∷ 0x61 ∷ 0x9E ∷ 0x03 ∷ []) ≡ Control 0x61 0
 unfolding readOf readControl checkedAt checksumOf takenAway
@@ -123,12 +123,16 @@ example-1 b call c s d =
     ∙ said-back call (controlFrame 0x71 (0x06 ∷ [])) (control-short 0x71 0x06) (c .lends .room)
     ∙ started-bytes
 
+-- E0 with 05, of a code that is no request and of wrong values
+parameter-said : (b : Board) (call : LentCall) → 14 ≤ length (call .buffer)
+    → said (answered b call parameterError) ≡ 0x01 ∷ 0x02 ∷ 0xE0 ∷ 0x05 ∷ 0x19 ∷ 0x03 ∷ []
+parameter-said b call room = said-back call parameterError (control-short 0xE0 0x05) room ∙ parameter-bytes
+
 example-3-any : (b : Board) (call : LentCall) (m : ℕ) → Calls b call → live (b .client .state) ≡ true → readOf (call .datagram) ≡ Control 0x60 m
     → said (stepMachine b (Datagram call)) ≡ 0x01 ∷ 0x02 ∷ 0xE0 ∷ 0x05 ∷ 0x19 ∷ 0x03 ∷ []
 example-3-any b call m c s r =
     ap said (no-request b call (calling b call c (not-true (isClosed (b .client .state)) s)) 0x60 m r refl)
-    ∙ said-back call (controlFrame 0xE0 (0x05 ∷ [])) (control-short 0xE0 0x05) (c .lends .room)
-    ∙ answer-3
+    ∙ parameter-said b call (c .lends .room)
 
 example-3 : (b : Board) (call : LentCall) → Calls b call → live (b .client .state) ≡ true → call .datagram ≡ 0x01 ∷ 0x01 ∷ 0x60 ∷ 0x9F ∷ 0x03 ∷ []
     → said (stepMachine b (Datagram call)) ≡ 0x01 ∷ 0x02 ∷ 0xE0 ∷ 0x05 ∷ 0x19 ∷ 0x03 ∷ []
@@ -172,53 +176,49 @@ module _ (b : Board) (call : LentCall) (sector m : ℕ) (p : Brings b call secto
       ∙ said-back call (writeFrame sector (writtenBytes 0x06 result (crcOf (paddedOf bytes))) End)
       (written-short sector 0x06 result (crcOf (paddedOf bytes))) (p .calls .lends .room)
 
-  taken : valuesGood (b .client .fixed .n) sector m ≡ true → SectorTaken true b call sector
+  taken : valuesGood (b .client .fixed .n) sector m ≡ true → Taken true b call
   unfolding answerBytes
   taken v =
       ap isStored (stored-said v)
       ∙ written-stored sector result (crcOf (paddedOf bytes))
       (accepted (blankOf bytes) (sameOf (sectorOf (lentTarget b call) sector) (paddedOf bytes)))
 
-  refused : valuesGood (b .client .fixed .n) sector m ≡ false → SectorTaken false b call sector
+  refused : valuesGood (b .client .fixed .n) sector m ≡ false → Taken false b call
   refused v =
       ap said (packet-wrong b call packet-heard sector m (p .footer) (p .writing) (p .reads) v)
-      ∙ said-back call (writeFrame sector (writtenBytes 0x05 0x05 0) End) (written-short sector 0x05 0x05 0) (p .calls .lends .room)
+      ∙ parameter-said b call (p .calls .lends .room)
 
 -- 7
 good-7 : (m : ℕ) → valuesGood 491 491 m ≡ goodLength m
 unfolding valuesGood
 good-7 m = refl
 
-example-7 : (b : Board) (call : LentCall) (m : ℕ) → b .client .fixed .n ≡ 491 → goodLength m ≡ true → Brings b call 491 m → SectorTaken true b call 491
+example-7 : (b : Board) (call : LentCall) (m : ℕ) → b .client .fixed .n ≡ 491 → goodLength m ≡ true → Brings b call 491 m → Taken true b call
 example-7 b call m n g p = taken b call 491 m p (ap (λ (x : ℕ). valuesGood x 491 m) n ∙ good-7 m ∙ g)
 
 example-7-above : (b : Board) (call : LentCall) (m : ℕ) → b .client .fixed .n ≡ 491 → goodLength m ≡ true
-    → Brings b call 492 m → SectorTaken false b call 492
+    → Brings b call 492 m → Taken false b call
 example-7-above b call m n g p =
     refused b call 492 m p (ap (λ (x : ℕ). valuesGood x 492 m) n ∙ sym (values-above 491 492 m (omega arith) (omega arith)))
 
-example-7-zero : (b : Board) (call : LentCall) (m : ℕ) → b .client .fixed .n ≡ 491 → goodLength m ≡ true → Brings b call 0 m → SectorTaken false b call 0
+example-7-zero : (b : Board) (call : LentCall) (m : ℕ) → b .client .fixed .n ≡ 491 → goodLength m ≡ true → Brings b call 0 m → Taken false b call
 example-7-zero b call m n g p = refused b call 0 m p (sym (values-zero (b .client .fixed .n) 0 m (omega arith)))
 
 -- 8
 module _ (b : Board) (call : LentCall) (sector : ℕ) (low : 1 ≤ sector) (high : sector ≤ b .client .fixed .n) where
-  example-8 : Brings b call sector 512 → SectorTaken true b call sector
+  example-8 : Brings b call sector 512 → Taken true b call
   example-8 p = taken b call sector 512 p (sym (values-words (b .client .fixed .n) sector 512 low high (omega arith) (omega arith)))
 
-  example-8-long : Brings b call sector 516 → SectorTaken false b call sector
+  example-8-long : Brings b call sector 516 → Taken false b call
   example-8-long p = refused b call sector 516 p (sym (values-long (b .client .fixed .n) sector 516 low high (omega arith) (omega arith)))
 
-  example-8-none : Brings b call sector 0 → SectorTaken false b call sector
+  example-8-none : Brings b call sector 0 → Taken false b call
   example-8-none p = refused b call sector 0 p (sym (values-empty (b .client .fixed .n) sector 0 low high (omega arith)))
 
-  example-8-odd : Brings b call sector 6 → SectorTaken false b call sector
+  example-8-odd : Brings b call sector 6 → Taken false b call
   example-8-odd p = refused b call sector 6 p (sym (values-words (b .client .fixed .n) sector 6 low high (omega arith) (omega arith)))
 
 -- 9
-wrong-stored : (sector : ℕ) → isStored (writeFrame sector (writtenBytes 0x05 0x05 0) End) ≡ false
-unfolding writeFrame framed bytesOf
-wrong-stored sector = refl
-
 module _ (b : Board) (call again : LentCall) (sector m : ℕ) (p : Brings b call sector m)
     (stored : isStored (said (stepMachine b (Datagram call))) ≡ true)
     (repeats : again .datagram ≡ call .datagram) (l : Lends (b .client .fixed .n) again) where
@@ -228,7 +228,7 @@ module _ (b : Board) (call again : LentCall) (sector m : ℕ) (p : Brings b call
     where
       by : (t : Bool) → valuesGood (b .client .fixed .n) sector m ≡ t → t ≡ true
       by true v = refl
-      by false v = absurd (false≢true (sym (ap isStored (refused b call sector m p v) ∙ wrong-stored sector) ∙ stored))
+      by false v = absurd (false≢true (sym (ap isStored (refused b call sector m p v)) ∙ stored))
 
   abbrev next : Board
   next = stepMachine b (Datagram call) .board

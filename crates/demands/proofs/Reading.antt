@@ -48,7 +48,7 @@ use Rattle.exchange.proofs.Saying.{answer-short}
 use Rattle.decision.proofs.Planning.{lent}
 use Rattle.calls.specs.Call.{Board}
 use Rattle.demands.specs.Board.{LentCall, Datagram, Outcome, said, lentOf, lentTarget, stepMachine}
-use Rattle.demands.specs.Demand1.{Row, firstOf, responseCode, isFault, refused, answered, afterFrame, callRows}
+use Rattle.demands.specs.Demand1.{Row, firstOf, responseCode, parameterError, isFault, refused, answered, afterFrame, callRows}
 use Rattle.demands.specs.EndToEnd.{Readable, MeetsRead}
 use Rattle.demands.specs.Responses.{answerCode, spelled}
 use Rattle.demands.proofs.Demand1.{table}
@@ -70,32 +70,16 @@ plain command result c m z =
 error-readable : (result : ℕ) → mayCarry true result ≡ true → Readable (controlFrame 0xE0 (result ∷ []))
 error-readable result m = back (controlFrame 0xE0 (result ∷ [])) (Error result) (error-back result m) refl refl
 
--- a refusal in the command's own response
-declined : (code result : ℕ) → mayCarry false result ≡ true → ((command : Command) → addedOf command result ≡ 0) → Readable (controlFrame (responseCode code) (result ∷ []))
-declined code result m z =
-    let P : ℕ → Type 0 = λ x. Readable (controlFrame x (result ∷ [])) in
-    split P (eqb code 0x61) (λ _. plain ModeStart result refl m (z ModeStart))
-    (λ _. split P (eqb code 0x62) (λ _. plain BankInfo result refl m (z BankInfo))
-    (λ _. split P (eqb code 0x68) (λ _. plain VersionInfo result refl m (z VersionInfo))
-    (λ _. split P (eqb code 0x40) (λ _. plain WriteStart result refl m (z WriteStart))
-    (λ _. split P (eqb code 0x45) (λ _. plain WriteEnd result refl m (z WriteEnd)) (λ _. plain ModeEnd result refl m (z ModeEnd))))))
-
--- 05 and 15 may come in any response, and add nothing
-may-05 : (error : Bool) → mayCarry error 0x05 ≡ true
-unfolding mayCarry
-may-05 error = refl
-
-may-15 : (error : Bool) → mayCarry error 0x15 ≡ true
-unfolding mayCarry
-may-15 error = refl
-
-adds-05 : (command : Command) → addedOf command 0x05 ≡ 0
-unfolding addedOf
-adds-05 command = refl
-
-adds-15 : (command : Command) → addedOf command 0x15 ≡ 0
-unfolding addedOf
-adds-15 command = refl
+-- 15 in the command's own response
+declined : (code : ℕ) → Readable (controlFrame (responseCode code) (0x15 ∷ []))
+unfolding mayCarry addedOf
+declined code =
+    let P : ℕ → Type 0 = λ x. Readable (controlFrame x (0x15 ∷ [])) in
+    split P (eqb code 0x61) (λ _. plain ModeStart 0x15 refl refl refl)
+    (λ _. split P (eqb code 0x62) (λ _. plain BankInfo 0x15 refl refl refl)
+    (λ _. split P (eqb code 0x68) (λ _. plain VersionInfo 0x15 refl refl refl)
+    (λ _. split P (eqb code 0x40) (λ _. plain WriteStart 0x15 refl refl refl)
+    (λ _. split P (eqb code 0x45) (λ _. plain WriteEnd 0x15 refl refl refl) (λ _. plain ModeEnd 0x15 refl refl refl)))))
 
 -- the write responses
 written : (sector result write crc : ℕ) → sector < 65536 → crc < 2 ^ 32 → mayCarry false result ≡ true → mayCarry false write ≡ true
@@ -104,10 +88,9 @@ written sector result write crc s c m w r f =
     back (writeFrame sector (writtenBytes result write crc) End) (Written sector result write crc) (written-back sector result write crc s c m w r f) refl refl
 
 -- refused, worn, stored
-packet-declined : (sector result : ℕ) → sector < 65536 → mayCarry false result ≡ true → repeatsOf result result ≡ true
-    → Readable (writeFrame sector (writtenBytes result result 0) End)
-unfolding crcFits
-packet-declined sector result s m r = written sector result result 0 s (omega arith) m m r refl
+packet-declined : (sector : ℕ) → sector < 65536 → Readable (writeFrame sector (writtenBytes 0x15 0x15 0) End)
+unfolding mayCarry repeatsOf crcFits
+packet-declined sector s = written sector 0x15 0x15 0 s (omega arith) refl refl refl refl
 
 packet-worn : (sector : ℕ) → sector < 65536 → Readable (writeFrame sector (writtenBytes 0x06 0x1C 0) End)
 unfolding mayCarry repeatsOf crcFits
@@ -117,14 +100,6 @@ packet-stored : (sector write crc : ℕ) → sector < 65536 → crc < 2 ^ 32 →
 unfolding mayCarry repeatsOf crcFits storedOf
 packet-stored sector write crc s c (inl e) = rw e (written sector 0x06 0x06 crc s c refl refl refl (or-true (eqb crc 0)))
 packet-stored sector write crc s c (inr e) = rw e (written sector 0x06 0x1D crc s c refl refl refl (or-true (eqb crc 0)))
-
-repeats-05 : repeatsOf 0x05 0x05 ≡ true
-unfolding repeatsOf
-repeats-05 = refl
-
-repeats-15 : repeatsOf 0x15 0x15 ≡ true
-unfolding repeatsOf
-repeats-15 = refl
 
 -- the sector number of a datagram has two bytes
 small : (d : List ℕ) → ((i : ℕ) → byteAt d i < 256) → (sector m : ℕ) (footer : Footer) → readOf d ≡ Write sector m footer → sector < 65536
@@ -194,8 +169,9 @@ write-ended result (inl e) = rw e (plain WriteEnd 0x06 refl refl refl)
 write-ended result (inr (inl e)) = rw e (plain WriteEnd 0x1C refl refl refl)
 write-ended result (inr (inr e)) = rw e (plain WriteEnd 0x1E refl refl refl)
 
-errors : Readable (controlFrame 0xE0 (0x05 ∷ []))
-errors = error-readable 0x05 (may-05 true)
+errors : Readable parameterError
+unfolding mayCarry
+errors = error-readable 0x05 refl
 
 fault-readable : Readable frameError
 unfolding mayCarry
@@ -208,12 +184,15 @@ module _ (b : Board) (call : LentCall) (bytes : (i : ℕ) → byteAt (call .data
   says : (answer : List ℕ) → length answer ≤ 14 → Readable answer → Readable (take (length answer) (frontOf (call .buffer) answer))
   says answer s r = subst Readable (sym (said-back call answer s room)) r
 
+  parameter-said : Readable (take (length parameterError) (frontOf (call .buffer) parameterError))
+  parameter-said = says parameterError (control-short 0xE0 0x05) errors
+
   of-control : (code n : ℕ) → Every Back (afterFrame b call (Control code n))
   of-control code n =
-      every (λ _. says (controlFrame 0xE0 (0x05 ∷ [])) (control-short 0xE0 0x05) errors)
-      (every (λ _. says (controlFrame (responseCode code) (0x05 ∷ [])) (control-short (responseCode code) 0x05) (declined code 0x05 (may-05 false) adds-05))
-      (every (λ _. says (controlFrame (responseCode code) (0x15 ∷ [])) (control-short (responseCode code) 0x15) (declined code 0x15 (may-15 false) adds-15))
-      (every (λ _. says (controlFrame (responseCode code) (0x05 ∷ [])) (control-short (responseCode code) 0x05) (declined code 0x05 (may-05 false) adds-05))
+      every (λ _. parameter-said)
+      (every (λ _. parameter-said)
+      (every (λ _. says (controlFrame (responseCode code) (0x15 ∷ [])) (control-short (responseCode code) 0x15) (declined code))
+      (every (λ _. parameter-said)
       (never refl
       (every (λ _. says (controlFrame 0x75 (0x1C ∷ [])) (control-short 0x75 0x1C) (write-ended 0x1C (inr (inl refl))))
       (never refl
@@ -239,8 +218,8 @@ module _ (b : Board) (call : LentCall) (bytes : (i : ℕ) → byteAt (call .data
       let result : ℕ = storeResult (blankOf data-bytes) already in
       never refl
       (never refl
-      (every (λ _. says (writeFrame sector (writtenBytes 0x15 0x15 0) End) (written-short sector 0x15 0x15 0) (packet-declined sector 0x15 s (may-15 false) repeats-15))
-      (every (λ _. says (writeFrame sector (writtenBytes 0x05 0x05 0) End) (written-short sector 0x05 0x05 0) (packet-declined sector 0x05 s (may-05 false) repeats-05))
+      (every (λ _. says (writeFrame sector (writtenBytes 0x15 0x15 0) End) (written-short sector 0x15 0x15 0) (packet-declined sector s))
+      (every (λ _. parameter-said)
       (every (λ _. says (writeFrame sector (writtenBytes 0x06 0x1C 0) End) (written-short sector 0x06 0x1C 0) (packet-worn sector s))
       (never refl
       (every

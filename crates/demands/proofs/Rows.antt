@@ -27,7 +27,7 @@ use Rattle.decision.specs.Plan.{lentGood, isWorn, anyWorn, valuesGood, addresse
 use Rattle.client.specs.Record.{starting, initiated, opened, modeEnded, begun, ended}
 use Rattle.calls.specs.Call.{Board}
 use Rattle.demands.specs.Board.{LentCall, Input, Initiate, Datagram, Outcome, lentOf, lentTarget, stepMachine}
-use Rattle.demands.specs.Demand1.{firstOf, tableOf, isRequest, hostDone, answered, changed, stored, packetStored, sweptTarget, acceptedIn, takesPackets}
+use Rattle.demands.specs.Demand1.{firstOf, tableOf, isRequest, parameterError, hostDone, answered, changed, stored, packetStored, sweptTarget, acceptedIn, takesPackets}
 use Rattle.demands.proofs.Demand1.{table}
 
 abbrev pub given : Outcome → Option Outcome → Outcome
@@ -87,12 +87,12 @@ module _ (b : Board) (call : LentCall) (h : Heard b call) where
   fault r = comes b (Datagram call) _ (rw (h .good, h .runs, h .lengths, h .live, r))
 
   pub no-request : (code n : ℕ) → readOf (call .datagram) ≡ Control code n → isRequest code ≡ false
-      → stepMachine b (Datagram call) ≡ answered b call (controlFrame 0xE0 (0x05 ∷ []))
+      → stepMachine b (Datagram call) ≡ answered b call parameterError
   no-request code n r e = comes b (Datagram call) _ (rw (h .good, h .runs, h .lengths, h .live, r, e))
 
   pub packet-wrong : (sector m : ℕ) (footer : Footer) → b .client .state ≡ state.Write → readOf (call .datagram) ≡ Write sector m footer
       → valuesGood (b .client .fixed .n) sector m ≡ false
-      → stepMachine b (Datagram call) ≡ answered b call (writeFrame sector (writtenBytes 0x05 0x05 0) End)
+      → stepMachine b (Datagram call) ≡ answered b call parameterError
   packet-wrong sector m footer s r v =
       let t : takesPackets (b .client .state) ≡ true = ap takesPackets s in
       comes b (Datagram call) _ (rw (h .good, h .runs, h .lengths, h .live, r, t, v))

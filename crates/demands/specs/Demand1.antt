@@ -129,11 +129,15 @@ wornSector marks Fault = false
 wornSector marks (Control code n) = false
 wornSector marks (Write sector m footer) = isWorn (getD marks (sector - 1) 0)
 
--- "in the command's own response"; of a packet "the write result repeats it", and the CRC field is 0
-abbrev pub ownResponse : Read → ℕ → List ℕ
-ownResponse Fault result = frameError
-ownResponse (Control code n) result = controlFrame (responseCode code) (result ∷ [])
-ownResponse (Write sector m footer) result = writeFrame sector (writtenBytes result result 0) End
+-- 15 "in the command's own response"; of a packet "the write result repeats it", and the CRC field is 0
+abbrev pub ownResponse : Read → List ℕ
+ownResponse Fault = frameError
+ownResponse (Control code n) = controlFrame (responseCode code) (0x15 ∷ [])
+ownResponse (Write sector m footer) = writeFrame sector (writtenBytes 0x15 0x15 0) End
+
+-- "all answered E0 with 05" (02 §3), as is a code that is no request
+abbrev pub parameterError : List ℕ
+parameterError = controlFrame 0xE0 (0x05 ∷ [])
 
 -- ---- what comes of it
 
@@ -189,10 +193,10 @@ abbrev pub afterFrame : Board → LentCall → Read → List Row
 afterFrame b call r =
     let c : Client = b .client in
     -- code, parameter length, state, values, worn
-    row (noRequest r) (answered b call (controlFrame 0xE0 (0x05 ∷ [])))
-    ∷ row (wrongLength r) (answered b call (ownResponse r 0x05))
-    ∷ row (wrongState (c .state) r) (answered b call (ownResponse r 0x15))
-    ∷ row (wrongValues c (call .datagram) r) (answered b call (ownResponse r 0x05))
+    row (noRequest r) (answered b call parameterError)
+    ∷ row (wrongLength r) (answered b call parameterError)
+    ∷ row (wrongState (c .state) r) (answered b call (ownResponse r))
+    ∷ row (wrongValues c (call .datagram) r) (answered b call parameterError)
     ∷ row (wornSector (call .marks) r) (packetWorn b call r)
     ∷ row (isCode 0x45 r && anyWorn (call .marks)) (changed b call (ended Otherwise c) noNotice (controlFrame 0x75 (0x1C ∷ [])))
     -- what is left is answered 06, but for an unsound bank

@@ -138,7 +138,7 @@ pub record Determined : Type 0 where
   pub asked : (datagram : List ℕ) → Once (Asked·Is datagram)
   pub is-closed : (state : State) → Once (IsClosed·Is state)
   pub fits-state : (state : State) (request : Received) → Once (FitsState·Is state request)
-  pub declined : (request : Received) (result : ℕ) → Once (Declined·Is request result)
+  pub declined : (request : Received) → Once (Declined·Is request)
   pub refusal-number : (why : Refusal) → Once (RefusalNumber·Is why)
   pub say : (answer : Answer) (before : List ℕ) → Twice (Say·Is answer before)
   -- the client

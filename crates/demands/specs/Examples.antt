@@ -65,10 +65,10 @@ pub record Brings (b : Board) (call : LentCall) (sector m : ℕ) : Type 0 where
   pub footer : Footer
   pub reads : readOf (call .datagram) ≡ Write sector m footer
 
--- taken with 06 or 1D, or refused 05
-abbrev pub SectorTaken : Bool → Board → LentCall → ℕ → Type 0
-SectorTaken true b call sector = isStored (said (stepMachine b (Datagram call))) ≡ true
-SectorTaken false b call sector = said (stepMachine b (Datagram call)) ≡ writeFrame sector (writtenBytes 0x05 0x05 0) End
+-- taken with 06 or 1D, or refused by E0 with 05 (02 §3)
+abbrev pub Taken : Bool → Board → LentCall → Type 0
+Taken true b call = isStored (said (stepMachine b (Datagram call))) ≡ true
+Taken false b call = said (stepMachine b (Datagram call)) ≡ 0x01 ∷ 0x02 ∷ 0xE0 ∷ 0x05 ∷ 0x19 ∷ 0x03 ∷ []
 
 -- other numbers of bytes are wrong
 abbrev pub goodLength : ℕ → Bool
@@ -84,9 +84,9 @@ Holds (Codes states code answer) =
     (b : Board) (call : LentCall) (m : ℕ) → Calls b call → states (b .client .state) ≡ true → readOf (call .datagram) ≡ Control code m
     → said (stepMachine b (Datagram call)) ≡ answer
 Holds (Sector n sector good) =
-    (b : Board) (call : LentCall) (m : ℕ) → b .client .fixed .n ≡ n → goodLength m ≡ true → Brings b call sector m → SectorTaken good b call sector
+    (b : Board) (call : LentCall) (m : ℕ) → b .client .fixed .n ≡ n → goodLength m ≡ true → Brings b call sector m → Taken good b call
 Holds (Length m good) =
-    (b : Board) (call : LentCall) (sector : ℕ) → 1 ≤ sector → sector ≤ b .client .fixed .n → Brings b call sector m → SectorTaken good b call sector
+    (b : Board) (call : LentCall) (sector : ℕ) → 1 ≤ sector → sector ≤ b .client .fixed .n → Brings b call sector m → Taken good b call
 Holds Again =
     (b : Board) (call again : LentCall) (sector m : ℕ) → Brings b call sector m → isStored (said (stepMachine b (Datagram call))) ≡ true
     → again .datagram ≡ call .datagram → Lends (b .client .fixed .n) again

@@ -14,7 +14,7 @@ use Rattle.frame.specs.Frame.{controlFrame, writeFrame, frameError}
 use Rattle.frame.specs.declared.read.Footer.the-variants.{End}
 use Rattle.layout.specs.Layout.{bankNumber}
 use Rattle.exchange.specs.declared.answer.Answer.{Answer}
-use Rattle.exchange.specs.declared.answer.Answer.the-variants.{Refused, FrameError, Error, Response, BankIs, VersionIs, Written}
+use Rattle.exchange.specs.declared.answer.Answer.the-variants.{Refused, FrameError, ParameterError, Response, BankIs, VersionIs, Written}
 use Rattle.exchange.specs.declared.answer.Refusal.{Refusal}
 use Rattle.exchange.specs.declared.answer.Refusal.the-variants.{BadN, BadLength, Closed}
 
@@ -28,7 +28,7 @@ refusalNumber Closed = 1
 abbrev pub answerNumber : Answer → ℕ
 answerNumber (Refused why) = refusalNumber why
 answerNumber FrameError = 0
-answerNumber (Error result) = 0
+answerNumber ParameterError = 0
 answerNumber (Response command result) = 0
 answerNumber (BankIs bank) = 0
 answerNumber (VersionIs major minor revision) = 0
@@ -42,11 +42,11 @@ versionBytes major minor revision = 0x06 ∷ 0x04 ∷ 0x00 ∷ major ∷ minor �
 abbrev pub writtenBytes : ℕ → ℕ → ℕ → List ℕ
 writtenBytes result write crc = result ∷ write ∷ bytesOf 4 crc
 
--- code, result, "then the added fields"
+-- code, result, "then the added fields"; a parameter error is "answered E0 with 05" (02 §3), whatever command it was
 unfoldable pub answerBytes : Answer → List ℕ
 answerBytes (Refused why) = []
 answerBytes FrameError = frameError
-answerBytes (Error result) = controlFrame errorCode (result ∷ [])
+answerBytes ParameterError = controlFrame errorCode (0x05 ∷ [])
 answerBytes (Response command result) = controlFrame (responseCode command) (result ∷ [])
 answerBytes (BankIs bank) = controlFrame (responseCode BankInfo) (0x06 ∷ bankNumber bank ∷ [])
 answerBytes (VersionIs major minor revision) = controlFrame (responseCode VersionInfo) (versionBytes major minor revision)

@@ -26,7 +26,7 @@ pub enum Asked {
     // The code is none of the six requests.
     NoRequest,
     // Parameters of another length than the command's.
-    WrongLength(Command),
+    WrongLength,
     Right(Request),
 }
 
@@ -41,7 +41,7 @@ fn counted_as(command: Command, n: usize, parameters: &[u8]) -> Asked
             end: buffer::number::number4(parameters, 4),
         });
     }
-    Asked::WrongLength(command)
+    Asked::WrongLength
 }
 
 fn by_code(code: u8, n: usize, parameters: &[u8]) -> Asked
@@ -105,20 +105,23 @@ pub fn fits_state(state: State, request: Request) -> bool
     crate::state::state_number(state) == crate::state::state_number(state_for(request))
 }
 
-// A result in the command's own response; no caller gives it 06.
-pub fn declined(request: Request, result: u8) -> Answer
-    ensures { λ r. ⌜ Declined·Is request result r ⌝ }
+// 15 in the command's own response.
+pub fn declined(request: Request) -> Answer
+    ensures { λ r. ⌜ Declined·Is request r ⌝ }
 {
     match request {
         Request::Control {
             command,
             start: _,
             end: _,
-        } => Answer::Response { command, result },
+        } => Answer::Response {
+            command,
+            result: 0x15,
+        },
         Request::Packet { sector, length: _ } => Answer::Written {
             sector,
-            result,
-            write: result,
+            result: 0x15,
+            write: 0x15,
             crc: 0,
         },
     }

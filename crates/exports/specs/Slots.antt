@@ -11,7 +11,7 @@ use Rattle.buffer.specs.Place.{frontOf}
 use Rattle.layout.specs.declared.Bank.the-variants.{Zero}
 use Rattle.layout.specs.Pair.{banks}
 use Rattle.exchange.specs.declared.answer.Answer.{Answer}
-use Rattle.exchange.specs.declared.answer.Answer.the-variants.{Refused, FrameError, Error, Response, BankIs, VersionIs, Written}
+use Rattle.exchange.specs.declared.answer.Answer.the-variants.{Refused, FrameError, ParameterError, Response, BankIs, VersionIs, Written}
 use Rattle.exchange.specs.Answer.{answerBytes, refusalNumber}
 use Rattle.client.specs.declared.record.Client.{Client}
 use Rattle.client.specs.Host.{newOf, initiateOf}
@@ -54,7 +54,7 @@ callsOf slots marks address buffer (suc k) =
 abbrev pub givenOf : Answer → ℕ → ℕ
 givenOf (Refused why) told = refusalNumber why
 givenOf FrameError told = told
-givenOf (Error result) told = told
+givenOf ParameterError told = told
 givenOf (Response command result) told = told
 givenOf (BankIs bank) told = told
 givenOf (VersionIs major minor revision) told = told

@@ -46,7 +46,7 @@ fn given(answer: Answer, length: usize) -> usize
     match answer {
         Answer::Refused(why) => exchange::answer::refusal_number(why) as usize,
         Answer::FrameError => length,
-        Answer::Error { result: _ } => length,
+        Answer::ParameterError => length,
         Answer::Response {
             command: _,
             result: _,

@@ -25,6 +25,7 @@ use Rattle.layout.specs.declared.Bank.the-variants.{Zero, One}
 use Rattle.response.specs.declared.read.Response.{Response}
 use Rattle.response.specs.declared.read.Response.the-variants.{Unreadable, Plain, Error, Target, Firmware, Written}
 use Rattle.response.specs.Response.{
+  inTable9,
   mayCarry,
   addedOf,
   targetOf,
@@ -40,7 +41,7 @@ use Rattle.response.specs.Response.{
   responseOf,
 }
 use Rattle.response.specs.Said.{responseSaid, resultIn, responseSays}
-use Rattle.response.specs.Six.{unknown, addedBy, sixIn, sixOf}
+use Rattle.response.specs.Six.{unknown, addedBy, bankExceeds, rulesBroken, sixIn, sixOf}
 
 abbrev pub unreadable : Response → Bool
 unreadable Unreadable = true
@@ -152,21 +153,54 @@ continued six false repeated crc = refl
 continued true true repeated crc = refl
 continued false true repeated crc = refl
 
+-- what a response may not carry: a result that is not in Table 9, or 05 where it is not E0
+not-carried : (before error : Bool) (r : ℕ) → (before || not (mayCarry error r)) ≡ (before || not (inTable9 r) || (not error && eqb r 0x05))
+unfolding mayCarry
+not-carried before error r = by before (inTable9 r) error (eqb r 0x05)
+  where
+    by : (before listed error five : Bool) → (before || not (listed && (error || not five))) ≡ (before || not listed || (not error && five))
+    by true listed error five = refl
+    by false false error five = refl
+    by false true true five = refl
+    by false true false true = refl
+    by false true false false = refl
+
+-- of a write response, either result
+neither-carried : (r w : ℕ) → not (mayCarry false r && mayCarry false w) ≡ (not (inTable9 r && inTable9 w) || (eqb r 0x05 || eqb w 0x05))
+unfolding mayCarry
+neither-carried r w = by (inTable9 r) (eqb r 0x05) (inTable9 w) (eqb w 0x05)
+  where
+    by : (listed five also fives : Bool) → not ((listed && not five) && (also && not fives)) ≡ (not (listed && also) || (five || fives))
+    by false five also fives = refl
+    by true true true fives = refl
+    by true true false fives = refl
+    by true false true true = refl
+    by true false true false = refl
+    by true false false fives = refl
+
 six-in : (d : List ℕ) (read : Read) → unreadable (responseIn d read) ≡ sixIn d read
 unfolding responseIn sixIn writeOf
 six-in d Fault = refl
-six-in d (Control code n) = control-six (parametersIn d) code ∙ sym (or-false _)
+six-in d (Control code n) =
+    let parameters : List ℕ = parametersIn d in
+    let result : ℕ = byteAt parameters 0 in
+    control-six parameters code
+    ∙ ap (λ (b : Bool). b || not (eqb (length parameters) (addedBy (answeredBy code) result + 1)) || bankExceeds d (Control code n))
+    (not-carried (not (eqb code errorCode) && unknown (answeredBy code)) (eqb code errorCode) result)
+    ∙ sym (or-false _)
 six-in d (Write sector m End) =
     let response : ℕ = byteAt (dataIn d) 0 in
     let write : ℕ = byteAt (dataIn d) 1 in
     let crc : ℕ = numberAt 4 (dataIn d) 2 in
     rules (eqb (length (dataIn d)) 6) (mayCarry false response && mayCarry false write) (repeatsOf response write)
     (crcFits response write crc) (Written sector response write crc) refl
+    ∙ ap (λ (b : Bool). b || false || false || rulesBroken d (Write sector m End)) (neither-carried response write)
 six-in d (Write sector m Continued) =
     let response : ℕ = byteAt (dataIn d) 0 in
     let write : ℕ = byteAt (dataIn d) 1 in
     continued (eqb (length (dataIn d)) 6) (mayCarry false response && mayCarry false write) (repeatsOf response write)
     (crcFits response write (numberAt 4 (dataIn d) 2))
+    ∙ ap (λ (b : Bool). b || false || false || rulesBroken d (Write sector m Continued)) (neither-carried response write)
 
 pub six-exactly : (d : List ℕ) → unreadable (responseOf d) ≡ sixOf d
 six-exactly d = six-in d (readOf d)

@@ -1,6 +1,6 @@
 -- A response read (01, 'What comes back when it is no', "Number 6"; 'Frames', "Write response"; the table of codes).
 -- Assumes nothing.
-use mathlib.Core.Bool.{Bool, true, false, _&&_, _||_, cond}
+use mathlib.Core.Bool.{Bool, true, false, not, _&&_, _||_, cond}
 use mathlib.Core.List.{List}
 use Prim.Native.Nat.{ℕ, _+_}
 use lib.Dec.{eqb}
@@ -19,11 +19,15 @@ use Rattle.layout.specs.declared.Bank.the-variants.{Zero, One}
 use Rattle.response.specs.declared.read.Response.{Response}
 use Rattle.response.specs.declared.read.Response.the-variants.{Unreadable, Plain, Error, Target, Firmware, Written}
 
--- the results that a response may carry, the error response or another: "in Table 9"; both the same until 02 §3
-unfoldable pub mayCarry : Bool → ℕ → Bool
-mayCarry error result =
+-- the results of "Table 9"
+abbrev pub inTable9 : ℕ → Bool
+inTable9 result =
     eqb result 0x05 || eqb result 0x06 || eqb result 0x07 || eqb result 0x15 || eqb result 0x1C || eqb result 0x1D
     || eqb result 0x1E
+
+-- those that a response may carry: 05 in none "but E0" (02 §3)
+unfoldable pub mayCarry : Bool → ℕ → Bool
+mayCarry error result = inTable9 result && (error || not (eqb result 0x05))
 
 -- the added fields are "absent unless the result is 06"
 unfoldable pub addedOf : Command → ℕ → ℕ

@@ -1,4 +1,4 @@
--- Number 6 by its causes (01, 'What comes back when it is no', "Number 6").
+-- Number 6 by its causes (01, 'What comes back when it is no', "Number 6"; 02 §3).
 -- Assumes nothing.
 use mathlib.Core.Bool.{Bool, true, false, not, _&&_, _||_}
 use mathlib.Core.List.{List}
@@ -15,7 +15,7 @@ use Rattle.frame.specs.declared.read.Footer.{Footer}
 use Rattle.frame.specs.declared.read.Footer.the-variants.{End, Continued}
 use Rattle.frame.specs.declared.read.Read.{Read}
 use Rattle.frame.specs.declared.read.Read.the-variants.{Fault, Control, Write}
-use Rattle.response.specs.Response.{mayCarry, addedOf, repeatsOf, crcFits}
+use Rattle.response.specs.Response.{inTable9, addedOf, repeatsOf, crcFits}
 
 -- Each cause is asked of a frame that was read, and of what the datagram hands back.
 
@@ -38,8 +38,14 @@ noResponse (Write sector m footer) = false
 -- "a result isn't in Table 9"
 abbrev pub resultWrong : List ℕ → Read → Bool
 resultWrong d Fault = false
-resultWrong d (Control code n) = not (mayCarry (eqb code errorCode) (byteAt (parametersIn d) 0))
-resultWrong d (Write sector m footer) = not (mayCarry false (byteAt (dataIn d) 0) && mayCarry false (byteAt (dataIn d) 1))
+resultWrong d (Control code n) = not (inTable9 (byteAt (parametersIn d) 0))
+resultWrong d (Write sector m footer) = not (inTable9 (byteAt (dataIn d) 0) && inTable9 (byteAt (dataIn d) 1))
+
+-- "05 as either result in any response but E0" (02 §3)
+abbrev pub faultElsewhere : List ℕ → Read → Bool
+faultElsewhere d Fault = false
+faultElsewhere d (Control code n) = not (eqb code errorCode) && eqb (byteAt (parametersIn d) 0) 0x05
+faultElsewhere d (Write sector m footer) = eqb (byteAt (dataIn d) 0) 0x05 || eqb (byteAt (dataIn d) 1) 0x05
 
 -- "wrong for the code and result"
 abbrev pub addedBy : Coded → ℕ → ℕ
@@ -73,8 +79,8 @@ rulesBroken d (Write sector m footer) =
 
 unfoldable pub sixIn : List ℕ → Read → Bool
 sixIn d read =
-    frameFaulty read || noResponse read || resultWrong d read || lengthWrong d read || bankExceeds d read
-    || rulesBroken d read
+    frameFaulty read || noResponse read || resultWrong d read || faultElsewhere d read || lengthWrong d read
+    || bankExceeds d read || rulesBroken d read
 
 abbrev pub sixOf : List ℕ → Bool
 sixOf d = sixIn d (readOf d)

@@ -7,7 +7,7 @@ use layout::Bank;
 ghost use mathlib.Core.Path.{_≡_};
 ghost use Prim.Native.Nat.{_+_};
 ghost use lib.ListN.{length};
-ghost use Rattle.response.specs.Response.{mayCarry, addedOf, targetOf, acceptedOf, ownOf, errorOf, controlOf};
+ghost use Rattle.response.specs.Response.{inTable9, mayCarry, addedOf, targetOf, acceptedOf, ownOf, errorOf, controlOf};
 ghost use Rattle.response.specs.Response.{repeatsOf, storedOf, crcFits, writeOf};
 ghost use Rattle.response.specs.Said.{ResponseNumber·Is, Response·Is};
 
@@ -66,9 +66,8 @@ pub fn response_number(response: Response) -> u8
     }
 }
 
-// Whether a response may carry a result, the error response or another: any of Table 9. By which of them, since 02 §3 rules by it.
-fn may_carry(error: bool, result: u8) -> bool
-    ensures { λ r. ⌜ r ≡ mayCarry error result ⌝ }
+fn in_table_9(result: u8) -> bool
+    ensures { λ r. ⌜ r ≡ inTable9 result ⌝ }
 {
     (result == 0x05)
         | (result == 0x06)
@@ -77,6 +76,13 @@ fn may_carry(error: bool, result: u8) -> bool
         | (result == 0x1C)
         | (result == 0x1D)
         | (result == 0x1E)
+}
+
+// Whether a response may carry a result, the error response or another: 05 stands in the error response alone.
+fn may_carry(error: bool, result: u8) -> bool
+    ensures { λ r. ⌜ r ≡ mayCarry error result ⌝ }
+{
+    in_table_9(result) & (error | (result != 0x05))
 }
 
 // How many bytes follow the result.
