@@ -50,6 +50,8 @@ static size_t control(uint8_t *buffer, uint8_t code, const uint8_t *fields, size
 
 static size_t result(uint8_t *buffer, uint8_t code, uint8_t is) { return control(buffer, code, &is, 1); }
 
+static size_t parameter_error(uint8_t *buffer) { return result(buffer, 0xE0, 0x05); }
+
 static size_t written(uint8_t *buffer, uint16_t sector, uint8_t response, uint8_t write, uint32_t crc) {
     buffer[0] = 0x02;
     put(buffer + 1, sector, 2);
@@ -86,7 +88,7 @@ static int sound(const struct client *c, const uint8_t *bank, size_t size) {
 static size_t packet(struct client *c, uint8_t *target, const uint8_t *marks, const uint8_t *d, size_t m, uint8_t *buffer) {
     uint16_t k = number(d + 1, 2);
     if (c->state != WRITE) return written(buffer, k, 0x15, 0x15, 0);
-    if (k < 1 || k > c->n || m < 1 || m > SECTOR || m % 4) return written(buffer, k, 0x05, 0x05, 0);
+    if (k < 1 || k > c->n || m < 1 || m > SECTOR || m % 4) return parameter_error(buffer);
     if (marks[k - 1]) return written(buffer, k, 0x06, 0x1C, 0);
     uint8_t *sector = target + (k - 1) * SECTOR;
     const uint8_t *bytes = d + 5;
@@ -123,9 +125,9 @@ static size_t request(struct client *c, uint8_t *target, const uint8_t *marks, c
     case 0x40: response = 0x70, state = CONTROL; break;
     case 0x45: response = 0x75, state = WRITE; break;
     case 0x64: response = 0x74, state = CONTROL; break;
-    default: return result(buffer, 0xE0, 0x05);
+    default: return parameter_error(buffer);
     }
-    if (parameters != (code == 0x40 ? 8 : 0)) return result(buffer, response, 0x05);
+    if (parameters != (code == 0x40 ? 8 : 0)) return parameter_error(buffer);
     if (c->state != state) return result(buffer, response, 0x15);
     switch (code) {
     case 0x61:
@@ -143,7 +145,7 @@ static size_t request(struct client *c, uint8_t *target, const uint8_t *marks, c
     }
     case 0x40: {
         uint32_t start = starts[!c->running];
-        if (number(d + 3, 4) != start || number(d + 7, 4) != start + SECTOR * c->n - 1) return result(buffer, response, 0x05);
+        if (number(d + 3, 4) != start || number(d + 7, 4) != start + SECTOR * c->n - 1) return parameter_error(buffer);
         c->state = WRITE;
         c->next = c->running;
         memset(c->received, 0, MOST);

@@ -13,13 +13,11 @@ use Rattle.buffer.proofs.Bools.{and-left, and-right}
 use Rattle.layout.specs.declared.Bank.{Bank}
 use Rattle.layout.specs.Layout.{sectorSize, goodN, bankSize, goodSize, otherOf, startOf, endOf}
 use Rattle.layout.proofs.Layouts.{size-good}
-use Rattle.commands.specs.declared.Command.the-variants.{WriteStart}
 use Rattle.exchange.specs.declared.answer.Answer.{Answer}
 use Rattle.exchange.specs.declared.answer.Answer.the-variants.{Refused, ParameterError, Written}
 use Rattle.exchange.specs.declared.answer.Refusal.the-variants.{BadN, BadLength, Closed}
 use Rattle.exchange.specs.declared.request.Asked.{Asked}
 use Rattle.exchange.specs.declared.request.Request.{Request}
-use Rattle.exchange.specs.declared.request.Request.the-variants.{Control, Packet}
 use Rattle.exchange.specs.State.{isClosed}
 use Rattle.exchange.specs.Request.{fitsState, declinedOf}
 use Rattle.decision.specs.declared.plan.Plan.{Plan}

@@ -7,11 +7,10 @@ use mathlib.Core.Option.{Option, none, some}
 use Prim.Native.Nat.{ℕ, _-_}
 use lib.Dec.{eqb}
 use lib.ListN.{length, getD}
-use Rattle.frame.specs.Frame.{controlFrame, writeFrame, frameError}
+use Rattle.frame.specs.Frame.{controlFrame, frameError}
 use Rattle.buffer.specs.Number.{numberAt}
 use Rattle.frame.specs.Read.{readOf, parametersIn}
 use Rattle.frame.specs.declared.read.Footer.{Footer}
-use Rattle.frame.specs.declared.read.Footer.the-variants.{End}
 use Rattle.frame.specs.declared.read.Read.the-variants.{Fault, Control, Write}
 use Rattle.layout.specs.Layout.{goodN, bankSize, otherOf}
 use Rattle.layout.specs.Pair.{bankIn}
@@ -19,7 +18,6 @@ use Rattle.client.specs.declared.notice.Kind.the-variants.{Started, Ended}
 use Rattle.client.specs.declared.record.Latest.the-variants.{Good, Otherwise}
 use Rattle.exchange.specs.declared.state.State.{State}
 use Rattle.exchange.specs.declared.state.State.the-variants as state
-use Rattle.exchange.specs.Answer.{writtenBytes}
 use Rattle.exchange.specs.State.{isClosed}
 use Rattle.client.specs.Notice.{noNotice, noticeWith, latestNumber}
 use Rattle.client.specs.Perform.{fitOf}
