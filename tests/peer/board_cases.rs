@@ -5,11 +5,10 @@ use crate::draw::Draw;
 use crate::frame::{framed, write, CONTINUED, CONTROL, END, WRITE};
 use crate::hex;
 use crate::image::{self, Image};
-use crate::script::{packet, pair, request, write_start, Script, STATES};
+use crate::script::{packet, pair, request, write_start, Script, REQUESTS, STATES};
 use crate::script::{BANK_INFORMATION, MODE_END, MODE_START, VERSION, WRITE_END, WRITE_START};
 use crate::wrong;
 
-const REQUESTS: [u8; 6] = [MODE_START, BANK_INFORMATION, VERSION, WRITE_START, WRITE_END, MODE_END];
 const BAD_N: [usize; 6] = [0, 492, 493, 512, 65_536, 999_999];
 const DATA_LENGTHS: [usize; 16] = [0, 1, 3, 4, 5, 6, 8, 252, 256, 508, 510, 511, 512, 513, 516, 1024];
 
@@ -20,6 +19,7 @@ pub fn all() -> Vec<String> {
     cases.buffers();
     cases.rooms();
     cases.address_pairs();
+    cases.parameter_faults();
     cases.worn();
     cases.sessions();
     cases.leftovers();
@@ -203,7 +203,7 @@ impl Cases {
     fn packets(&mut self) {
         for (n, running) in [(1, 0), (2, 1), (3, 0), (32, 1), (MOST_SECTORS, 0), (MOST_SECTORS, 1)] {
             let sectors = [0, 1, 2, n - 1, n, n + 1, 255, 256, 491, 492, 513, 65_535];
-            for state in ["idle", "control", "write"] {
+            for state in STATES {
                 self.board_in("packets at the edges", state, n, running);
                 for sector in sectors {
                     for length in DATA_LENGTHS {
@@ -234,18 +234,63 @@ impl Cases {
             for at in 0..8 {
                 pairs.extend([1, 0xFF, 0x80].map(|more| changed(&good, at, good[at].wrapping_add(more))));
             }
-            self.board_in("address pairs", "control", n, running);
-            for pair in pairs.iter().filter(|pair| **pair != good) {
-                self.script.send(&request(WRITE_START, pair));
+            for state in STATES {
+                self.board_in("address pairs", state, n, running);
+                for pair in pairs.iter().filter(|pair| **pair != good) {
+                    self.script.send(&request(WRITE_START, pair));
+                }
+                self.script.look();
+                self.script.send(&request(WRITE_START, &good));
+                self.script.add("record");
             }
-            self.script.look();
-            self.script.send(&request(WRITE_START, &good));
-            self.script.add("record");
-            for pair in &pairs {
-                self.script.send(&request(WRITE_START, pair));
-            }
-            self.script.add("record");
         }
+    }
+
+    /// Each fault in each state, with worn marks and without. In the write state packets of an image come between them, each once, so that the
+    /// end is good only where the session went on and no sector was forgotten.
+    fn parameter_faults(&mut self) {
+        for (n, running) in [(1, 0), (2, 1), (3, 0), (32, 1)] {
+            for (state, worn) in STATES.iter().flat_map(|state| [(state, false), (state, true)]) {
+                self.board_in("parameter faults", state, n, running);
+                let count = self.count();
+                let image = image::drawn(&mut self.draw, n, count);
+                let mut sent = image.sent().into_iter();
+                for fault in self.faults(n, running) {
+                    if let Some(sector) = sent.next() {
+                        self.script.send(&packet(sector, image.sector(sector)));
+                    }
+                    if worn {
+                        self.script.add_all(&format!("mark 1 01|mark {} 01", n + 1));
+                    }
+                    self.script.send(&fault);
+                    self.script.look();
+                    self.script.add(format!("marks {}", n));
+                }
+                for sector in sent {
+                    self.script.send(&packet(sector, image.sector(sector)));
+                }
+                self.script.ask(WRITE_END);
+                self.script.look();
+                self.script.add("body 0");
+                self.script.ask(MODE_END);
+                self.script.look();
+            }
+        }
+    }
+
+    /// Parameters of a wrong length, address pairs that are wrong at one end, sectors and data lengths out of range.
+    fn faults(&mut self, n: usize, running: usize) -> Vec<Vec<u8>> {
+        let [own, good] = [running, 1 - running].map(|bank| pair(bank, n));
+        let mut faults: Vec<Vec<u8>> = REQUESTS.iter().map(|code| request(*code, &[0x00])).collect();
+        for pair in [&good[..0], &good[..7], &[&own[..4], &good[4..]].concat(), &[&good[..4], &own[4..]].concat()] {
+            faults.push(request(WRITE_START, pair));
+        }
+        for sector in [0, 1, n + 1, 65_535] {
+            for length in [0, 6, 512, 516].into_iter().filter(|length| sector != 1 || *length != 512) {
+                faults.push(packet(sector, &self.draw.bytes(length)));
+            }
+        }
+        faults
     }
 
     /// Marks that change from call to call.

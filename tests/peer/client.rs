@@ -1,17 +1,17 @@
-//! The client: the paper's 'The client, step by step' and 'What comes back when it is no', in the order that it gives.
+//! The client: the paper's 'The client, step by step' and 'What comes back when it is no', in the order that it gives; a parameter fault is
+//! answered by Respond Error, as 02 §3 has it.
 use crate::bank::{self, MOST_SECTORS, SECTOR};
 use crate::crc::crc32;
 use crate::frame::{self, Frame};
+use crate::response::{PARAMETER, RESPOND_ERROR};
 use crate::wrong::Wrong;
 use std::collections::BTreeSet;
 
 const TAKEN: u8 = 0x06;
-const PARAMETER: u8 = 0x05;
 const STATE: u8 = 0x15;
 const WORN: u8 = 0x1C;
 const OMITTED: u8 = 0x1D;
 const UNSOUND: u8 = 0x1E;
-const ERROR_RESPONSE: u8 = 0xE0;
 
 const LEAST_BUFFER: usize = 14;
 const ADDRESS: usize = 16;
@@ -142,10 +142,7 @@ impl Client {
             _ if self.is(Wrong::OneAnswer) => (response(0x75, TAKEN, &[]), None),
             None => (frame::ERROR.to_vec(), None),
             Some(Frame::Control { code, parameters }) => self.control(code, &parameters, lent),
-            Some(Frame::Write { sector, data, .. }) => {
-                let (results, crc) = self.write(sector as usize, &data, lent);
-                (write_response(sector, results, crc), None)
-            }
+            Some(Frame::Write { sector, data, .. }) => (self.write(sector, &data, lent), None),
         };
         lent.buffer[..answer.len()].copy_from_slice(&answer);
         Ok(Answered { length: answer.len(), notice })
@@ -154,14 +151,17 @@ impl Client {
     fn control(&mut self, code: u8, parameters: &[u8], lent: &mut Lent) -> Response {
         let (own, length, state) = match REQUESTS.iter().find(|request| request.0 == code) {
             Some((_, own, length, state)) => (*own, *length, *state),
-            None => return (response(ERROR_RESPONSE, PARAMETER, &[]), None),
+            None => return (response(RESPOND_ERROR, PARAMETER, &[]), None),
         };
         let fits = self.state == state;
         if parameters.len() != length && (fits || !self.is(Wrong::StateFirst)) {
-            return (response(own, PARAMETER, &[]), None);
+            return (self.parameter_fault(Wrong::OwnParameterLength, response(own, PARAMETER, &[])), None);
         }
         if !fits {
             return (response(own, STATE, &[]), None);
+        }
+        if code == 0x40 && !self.takes_pair(parameters) {
+            return (self.parameter_fault(Wrong::OwnAddressPair, response(own, PARAMETER, &[])), None);
         }
         let (result, added, notice) = match code {
             0x61 => {
@@ -171,11 +171,20 @@ impl Client {
             }
             0x62 => (TAKEN, vec![self.other_bank() as u8], None),
             0x68 => (TAKEN, self.version_bytes(), None),
-            0x40 => (self.write_start(parameters), vec![], None),
+            0x40 => (self.write_start(), vec![], None),
             0x45 => (self.write_end(lent), vec![], None),
             _ => (TAKEN, vec![], Some(Notice::Ended(self.mode_end()))),
         };
         (response(own, result, &added), notice)
+    }
+
+    /// Respond Error, whatever the command; one that is wrong in this way answers with the command's own response.
+    fn parameter_fault(&self, wrong: Wrong, own: Vec<u8>) -> Vec<u8> {
+        if self.is(wrong) {
+            own
+        } else {
+            response(RESPOND_ERROR, PARAMETER, &[])
+        }
     }
 
     /// The target.
@@ -193,11 +202,11 @@ impl Client {
         [bank::start(bank) as u32, end as u32].map(u32::to_be_bytes).concat()
     }
 
-    fn write_start(&mut self, pair: &[u8]) -> u8 {
-        let running = self.is(Wrong::TakesRunning) && pair == self.pair(self.running);
-        if pair != self.pair(self.other_bank()) && !running {
-            return PARAMETER;
-        }
+    fn takes_pair(&self, pair: &[u8]) -> bool {
+        pair == self.pair(self.other_bank()) || self.is(Wrong::TakesRunning) && pair == self.pair(self.running)
+    }
+
+    fn write_start(&mut self) -> u8 {
         self.state = State::Write;
         if !self.is(Wrong::KeepsReceived) {
             self.received.clear();
@@ -258,15 +267,25 @@ impl Client {
         }
     }
 
-    /// Response result, write result, and the CRC-32 where both are good.
-    fn write(&mut self, sector: usize, data: &[u8], lent: &mut Lent) -> ([u8; 2], u32) {
-        let values = (1..=self.n).contains(&sector) && (1..=SECTOR).contains(&data.len()) && data.len() % 4 == 0;
-        if self.state != State::Write && (values || !self.is(Wrong::ValuesFirst)) {
-            return ([STATE; 2], 0);
+    fn write(&mut self, sector: u16, data: &[u8], lent: &mut Lent) -> Vec<u8> {
+        let good_sector = (1..=self.n).contains(&(sector as usize));
+        let good_length = (1..=SECTOR).contains(&data.len()) && data.len() % 4 == 0;
+        if self.state != State::Write && (good_sector && good_length || !self.is(Wrong::ValuesFirst)) {
+            return write_response(sector, [STATE; 2], 0);
         }
-        if !values {
-            return ([PARAMETER; 2], 0);
+        let own = write_response(sector, [PARAMETER; 2], 0);
+        if !good_sector {
+            return self.parameter_fault(Wrong::OwnSector, own);
         }
+        if !good_length {
+            return self.parameter_fault(Wrong::OwnDataLength, own);
+        }
+        let (result, crc) = self.store(sector as usize, data, lent);
+        write_response(sector, [TAKEN, result], crc)
+    }
+
+    /// Write result, and the CRC-32 where it is good.
+    fn store(&mut self, sector: usize, data: &[u8], lent: &mut Lent) -> (u8, u32) {
         let place = (sector - 1) * SECTOR..sector * SECTOR;
         let held = lent.banks[self.other_bank()][place.clone()].to_vec();
         let becomes = [data, &vec![0xFF; SECTOR - data.len()]].concat();
@@ -277,8 +296,8 @@ impl Client {
                 self.received.insert(sector);
             }
             return match omitted && self.is(Wrong::WornOmitted) {
-                true => ([TAKEN, OMITTED], crc32(&held)),
-                false => ([TAKEN, WORN], 0),
+                true => (OMITTED, crc32(&held)),
+                false => (WORN, 0),
             };
         }
         let already = match self.wrong {
@@ -301,7 +320,7 @@ impl Client {
         self.received.insert(sector);
         let short = already && self.is(Wrong::ComparesSent);
         let said = if self.is(Wrong::StoresFirst) || self.is(Wrong::StoresNothing) { becomes } else { stored };
-        ([TAKEN, if omitted || short { OMITTED } else { TAKEN }], crc32(&said))
+        (if omitted || short { OMITTED } else { TAKEN }, crc32(&said))
     }
 
     /// The view of a body of the next-start bank.

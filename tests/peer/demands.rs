@@ -9,11 +9,12 @@ use crate::hex;
 use crate::image::{self, Image};
 use crate::judge::{self, Seen};
 use crate::script::{packet, pair, request, write_start, Script};
-use crate::script::{BANK_INFORMATION, MODE_END, MODE_START, VERSION, WRITE_END, WRITE_START};
+use crate::script::{BANK_INFORMATION, MODE_END, MODE_START, REQUESTS, VERSION, WRITE_END, WRITE_START};
 use crate::wrong::{self, Wrong};
 
 const TAKEN_START: &str = "answer 010270068803";
 const TAKEN_END: &str = "answer 010275068303";
+const PARAMETER_FAULT: &str = "answer 0102E0051903";
 
 /// So many deliveries and walks, beside the statements of one sector.
 const WHOLE: [usize; 2] = [240, 500];
@@ -49,18 +50,21 @@ fn scripts([deliveries, walks]: [usize; 2]) -> [Vec<String>; 2] {
 }
 
 fn told(seen: Seen) -> Result<String, String> {
-    let Seen { cases, expected, accepted, good_ends, unsound_ends, worn_ends, banks, omitted_by_one } = seen;
+    let Seen { cases, expected, accepted, good_ends, unsound_ends, worn_ends, parameter_faults, banks, omitted_by_one } =
+        seen;
     let enough = cases >= 500
         && expected >= 3_000
         && accepted >= 5_000
         && good_ends >= 200
         && unsound_ends >= 200
         && worn_ends >= 50
+        && parameter_faults >= 500
         && banks >= 2_000
         && omitted_by_one >= 200;
     let said = format!(
         "{cases} cases on two boards: {accepted} packets accepted, {omitted_by_one} of them with 06 on one board and 1D on the other; \
-         {good_ends} good, {unsound_ends} unsound and {worn_ends} worn ends; {banks} looks at the target; {expected} expected lines"
+         {good_ends} good, {unsound_ends} unsound and {worn_ends} worn ends; {parameter_faults} parameter faults; \
+         {banks} looks at the target; {expected} expected lines"
     );
     if enough {
         Ok(said)
@@ -238,16 +242,22 @@ impl Pairs {
                 self.send(&packet(sector, &data));
                 self.end();
             }
-            self.delivery(&image);
+            // nor does a parameter fault, before the session and within it
+            self.delivery(&image, k % 4 > 1);
             self.expect(&[format!("answer 010274068403 notice 6034 01 {}", "00".repeat(16))]);
             self.ask(MODE_END);
             self.look();
         }
     }
 
-    /// Each sector packet of a sound image at least once, in any order: the end is good, and the bank is the image.
-    fn delivery(&mut self, image: &Image) {
+    /// Each sector packet of a sound image at least once, in any order: the end is good, and the bank is the image. With faults, one stands
+    /// before the session and one behind each packet.
+    fn delivery(&mut self, image: &Image, with_faults: bool) {
         let (n, to) = (self.n, self.other_bank());
+        if with_faults {
+            self.expect(&[PARAMETER_FAULT.to_string()]);
+            self.wrong_pair();
+        }
         self.expect(&[TAKEN_START.to_string()]);
         self.send(&write_start(to, n));
         for sector in image::in_any_order(&mut self.draw, &image.sent()) {
@@ -259,6 +269,10 @@ impl Pairs {
             });
             self.expect(&answers);
             self.send(&packet(sector, data));
+            if with_faults {
+                self.expect(&[PARAMETER_FAULT.to_string()]);
+                self.parameter_fault(WRITE_END);
+            }
         }
         self.expect(&[TAKEN_END.to_string()]);
         self.ask(WRITE_END);
@@ -279,6 +293,35 @@ impl Pairs {
         self.add(format!("body {}", image.bodies.len()));
     }
 
+    /// The running bank's addresses, or one of them beside one of the target's.
+    fn wrong_pair(&mut self) {
+        let [own, good] = [self.running, self.other_bank()].map(|bank| pair(bank, self.n));
+        let wrong = match self.draw.below(3) {
+            0 => own,
+            1 => [&own[..4], &good[4..]].concat(),
+            _ => [&good[..4], &own[4..]].concat(),
+        };
+        self.send(&request(WRITE_START, &wrong));
+    }
+
+    /// This request with a wrong parameter length, or a packet whose sector or data length is out of range.
+    fn parameter_fault(&mut self, code: u8) {
+        let sector = 1 + self.draw.below(self.n);
+        let datagram = match self.draw.below(3) {
+            0 => {
+                let lengths = if code == WRITE_START { [0, 7, 9] } else { [1, 8, 254] };
+                let length = lengths[self.draw.below(3)];
+                request(code, &self.draw.bytes(length))
+            }
+            1 => packet([0, self.n + 1, 65_535][self.draw.below(3)], &self.draw.bytes(SECTOR)),
+            _ => {
+                let length = [0, 1, 6, 510, 513, 516][self.draw.below(6)];
+                packet(sector, &self.draw.bytes(length))
+            }
+        };
+        self.send(&datagram);
+    }
+
     /// Calls of no plan on both boards, with marks and lent lengths that change, over several sessions.
     fn walks(&mut self, count: usize) {
         for k in 0..count {
@@ -286,7 +329,7 @@ impl Pairs {
             let image = self.drawn_image(n);
             self.drawn_case("walk", n, &image);
             self.start();
-            for _ in 0..16 {
+            for _ in 0..18 {
                 self.step(&image);
             }
             self.end();
@@ -305,7 +348,7 @@ impl Pairs {
             2 => self.draw.bytes(length),
             _ => image.sector(sector).to_vec(),
         };
-        match self.draw.below(24) {
+        match self.draw.below(26) {
             0..=7 => self.send(&packet(sector, &data)),
             8 => {
                 self.send(&packet(sector, &data));
@@ -322,6 +365,7 @@ impl Pairs {
             15 => {
                 self.add(format!("mark {} 01", sector));
                 self.send(&packet(sector, &data));
+                self.send(&packet(sector, &data[2..]));
                 self.add("record");
                 self.add(format!("mark {} 00", sector));
             }
@@ -352,10 +396,10 @@ impl Pairs {
                 datagram[at] ^= 1 << self.draw.below(8);
                 self.send(&datagram);
             }
-            21 => self.send(&request(WRITE_START, &pair(self.running, n))),
-            22 => {
-                let none = [0, n + 1, 65_535][self.draw.below(3)];
-                self.send(&packet(none, &data));
+            21 => self.wrong_pair(),
+            22..=24 => {
+                let code = REQUESTS[self.draw.below(6)];
+                self.parameter_fault(code);
             }
             _ => {
                 let code = [BANK_INFORMATION, VERSION, MODE_START, 0x60][self.draw.below(4)];

@@ -1,7 +1,8 @@
 //! The user's demands, looked for in what a board wrote, with the script beside it and no client of the peer's own:
 //!
 //! 1. Every line has one of the documented forms, the record keeps N, running bank and version, and the running bank keeps its bytes: its CRC
-//!    is asked for before the first datagram of a case and after the last, and is the same each time.
+//!    is asked for before the first datagram of a case and after the last, and is the same each time. 05 comes by Respond Error alone, and for
+//!    wrong parameters or values alone; what has these is never carried out. Whether it is 15 first, no demand says.
 //! 2. A line `# expect ANSWER | ANSWER..` in the script says what the next command has to write: demands.rs puts these on deliveries.
 //! 3. The target holds what the script put there, but for the sectors that the board itself accepted, and after an end answered 06 or 1E it
 //!    holds these and 0xFF. Of two boards whose leftovers differ, the answers are alike but for 06 or 1D, and so is all else.
@@ -9,7 +10,7 @@ use crate::bank::{self, MOST_SECTORS, SECTOR};
 use crate::crc::crc32;
 use crate::frame::{self, Frame};
 use crate::hex;
-use crate::script::{pair, WRITE_END, WRITE_START};
+use crate::script::{pair, REQUESTS, WRITE_END, WRITE_START};
 use std::collections::BTreeSet;
 
 /// How often something was there to be judged.
@@ -21,6 +22,7 @@ pub struct Seen {
     pub good_ends: usize,
     pub unsound_ends: usize,
     pub worn_ends: usize,
+    pub parameter_faults: usize,
     pub banks: usize,
     pub omitted_by_one: usize,
 }
@@ -283,7 +285,15 @@ impl Board {
 
     /// What the board says that it did, taken at its word.
     fn answered(&mut self, request: Option<Frame>, written: &str) -> Judged<()> {
-        match (request, answer(written).ok_or("the answer is no frame")?) {
+        let answer = answer(written).ok_or("the answer is no frame")?;
+        let noticed = matches!(&answer, Frame::Control { code: 0x71 | 0x74, parameters } if parameters == &[0x06]);
+        holds(noticed == written.contains("notice"), "a notice too many, or one too few")?;
+        match (request, answer) {
+            (Some(Frame::Write { sector, data, .. }), Frame::Control { code: 0xE0, parameters }) => {
+                self.seen.parameter_faults += 1;
+                let fault = !self.has_good_values(sector, &data);
+                holds(fault && parameters == [0x05], "an error for good values, or another than 05")
+            }
             (Some(Frame::Write { sector, data, .. }), _) => self.write_answered(sector, &data, written),
             (Some(Frame::Control { code, parameters: sent }), Frame::Control { code: own, parameters }) => {
                 self.control_answered(code, &sent, own, &parameters)
@@ -301,20 +311,23 @@ impl Board {
             _ => 0,
         };
         holds(parameters.len() == 1 + added, "an answer of another length")?;
-        let documented = match (code, own) {
-            (0x61, 0x71) | (0x62, 0x72) | (0x68, 0x78) | (WRITE_START, 0x70) | (0x64, 0x74) => {
-                [0x05, 0x06, 0x15].contains(&result)
-            }
-            (WRITE_END, 0x75) => [0x05, 0x06, 0x15, 0x1C, 0x1E].contains(&result),
-            (0x61 | 0x62 | 0x68 | WRITE_START | WRITE_END | 0x64, _) => false,
-            (_, own) => own == 0xE0 && result == 0x05,
+        let documented: &[u8] = match (code, own) {
+            (_, 0xE0) => &[0x05],
+            (0x61, 0x71) | (0x62, 0x72) | (0x68, 0x78) | (WRITE_START, 0x70) | (0x64, 0x74) => &[0x06, 0x15],
+            (WRITE_END, 0x75) => &[0x06, 0x15, 0x1C, 0x1E],
+            _ => &[],
         };
-        holds(documented, "no such answer to this request")?;
+        holds(documented.contains(&result), "no such answer to this request")?;
+        let known = REQUESTS.contains(&code);
+        let wanted = if code == WRITE_START { pair(1 - self.running, self.n) } else { Vec::new() };
+        let good = known && sent == wanted;
+        holds(result == 0x15 || good == (own != 0xE0), "an error for good parameters, or none for wrong ones")?;
+        self.seen.parameter_faults += (known && own == 0xE0) as usize;
         match (code, result) {
             (WRITE_START, 0x06) => {
                 holds(self.session.is_none(), "a session within a session")?;
                 (self.session, self.next) = (Some(BTreeSet::new()), self.running);
-                holds(sent == pair(1 - self.running, self.n), "the addresses are not the target's")
+                Ok(())
             }
             (WRITE_END, 0x06 | 0x1C | 0x1E) => self.ended(result),
             _ => Ok(()),
@@ -340,16 +353,19 @@ impl Board {
         holds(bank::bodies(&self.target).is_some() == (result == 0x06), "06 for an unsound bank, or 1E for a sound one")
     }
 
+    fn has_good_values(&self, sector: u16, data: &[u8]) -> bool {
+        (1..=self.n).contains(&(sector as usize)) && (4..=SECTOR).contains(&data.len()) && data.len() % 4 == 0
+    }
+
     fn write_answered(&mut self, sent: u16, data: &[u8], written: &str) -> Judged<()> {
         let (sector, response, result, crc) = write_answer(written).ok_or("no write answer")?;
-        holds(sector == sent && !written.contains("notice"), "another sector, or a notice")?;
+        holds(sector == sent, "another sector")?;
+        holds(response != 0x06 || self.has_good_values(sent, data), "06 for a packet that has wrong values")?;
         if !accepted((response, result)) {
-            let documented = matches!((response, result), (0x05, 0x05) | (0x15, 0x15) | (0x06, 0x1C));
+            let documented = matches!((response, result), (0x15, 0x15) | (0x06, 0x1C));
             return holds(documented && crc == 0, "no such write answer");
         }
         let sector = sector as usize;
-        let good = (1..=self.n).contains(&sector) && (4..=SECTOR).contains(&data.len()) && data.len() % 4 == 0;
-        holds(good, "a packet accepted that has wrong values")?;
         self.session.as_mut().ok_or("a packet accepted in no session")?.insert(sector);
         let place = &mut self.target[(sector - 1) * SECTOR..sector * SECTOR];
         place.fill(0xFF);

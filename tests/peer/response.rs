@@ -4,9 +4,12 @@ use crate::frame::{self, Frame};
 /// Table 9 of the J11 specification.
 pub const RESULTS: [u8; 7] = [0x05, 0x06, 0x07, 0x15, 0x1C, 0x1D, 0x1E];
 
-/// The six responses, and the error response.
-pub const CODES: [u8; 7] = [0x71, 0x72, 0x78, 0x70, 0x75, 0x74, 0xE0];
+/// The six responses, and Respond Error.
+pub const CODES: [u8; 7] = [0x71, 0x72, 0x78, 0x70, 0x75, 0x74, RESPOND_ERROR];
 
+pub const RESPOND_ERROR: u8 = 0xE0;
+/// A parameter fault, which Respond Error alone tells (02 §3).
+pub const PARAMETER: u8 = 0x05;
 const DONE: u8 = 0x06;
 const OMITTED: u8 = 0x1D;
 
@@ -30,7 +33,7 @@ pub fn read(datagram: &[u8]) -> Option<Response> {
 /// The added fields are there with 06 alone.
 fn control(code: u8, parameters: &[u8]) -> Option<Response> {
     let (result, added) = parameters.split_first()?;
-    if !CODES.contains(&code) || !RESULTS.contains(result) {
+    if !CODES.contains(&code) || !RESULTS.contains(result) || *result == PARAMETER && code != RESPOND_ERROR {
         return None;
     }
     match (code, *result, added) {
@@ -52,7 +55,7 @@ fn written(sector: u16, data: &[u8]) -> Option<Response> {
         [response, write, c1, c2, c3, c4] => (*response, *write, u32::from_be_bytes([*c1, *c2, *c3, *c4])),
         _ => return None,
     };
-    let known = [response, write].iter().all(|result| RESULTS.contains(result));
+    let known = [response, write].iter().all(|result| RESULTS.contains(result) && *result != PARAMETER);
     let repeated = response == DONE || write == response;
     let has_crc = [response, write].iter().all(|result| [DONE, OMITTED].contains(result));
     (known && repeated && (has_crc || crc == 0)).then_some(Response::Written { sector, response, write, crc })

@@ -42,12 +42,18 @@ impl Cases {
 
     /// As the papers have them, in digits of either case; and the requests, which are no responses.
     fn examples(&mut self) {
-        for datagram in
-            ["010271068703", "0102E0051903", "0102E0071703", "0102e0071703", "0101619E03", "01094014000A001403DFFFA403"]
-        {
+        for datagram in [
+            "010271068703",
+            "010271058803",
+            "0102E0051903",
+            "0102E0071703",
+            "0102e0071703",
+            "0101619E03",
+            "01094014000A001403DFFFA403",
+        ] {
             self.lines.push(format!("response {}", datagram));
         }
-        for written in ["0505", "1515", "061C", "1C1C", "0606", "061D", "1D1D", "061E", "1D06"] {
+        for written in ["0505", "0605", "1D05", "1515", "061C", "1C1C", "0606", "061D", "1D1D", "061E", "1D06"] {
             let data = hex::bytes(&format!("{}00000000", written)).expect("hex");
             for sector in [0, 1, 491, 492, 0xFFFF] {
                 self.add_written(sector, &data);
@@ -125,7 +131,7 @@ impl Cases {
 
     /// Sectors, footers and first bytes on a response that is good but for them.
     fn written_fields(&mut self) {
-        for data in [[0x06, 0x06, 0xCB, 0xF4, 0x39, 0x26], [0x05, 0x05, 0, 0, 0, 0]] {
+        for data in [[0x06, 0x06, 0xCB, 0xF4, 0x39, 0x26], [0x15, 0x15, 0, 0, 0, 0]] {
             for sector in (0..=20).chain(485..=520).chain([255, 256, 0x1234, 0x8000, 0xFFFE, 0xFFFF]) {
                 self.add_written(sector, &data);
             }
@@ -169,6 +175,7 @@ impl Cases {
             write(3, &[0x15, 0x15, 0, 0, 0, 0], END),
         ];
         good.extend(CODES.map(|code| control(code, &[0x15])));
+        good.push(control(0xE0, &[0x05]));
         for frame in good.into_iter().flatten() {
             let (last, drawn) = (frame.len() - 1, self.draw.bytes(4));
             self.add(&frame);

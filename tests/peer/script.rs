@@ -12,6 +12,7 @@ pub const VERSION: u8 = 0x68;
 pub const WRITE_START: u8 = 0x40;
 pub const WRITE_END: u8 = 0x45;
 pub const MODE_END: u8 = 0x64;
+pub const REQUESTS: [u8; 6] = [MODE_START, BANK_INFORMATION, VERSION, WRITE_START, WRITE_END, MODE_END];
 
 pub const STATES: [&str; 4] = ["closed", "idle", "control", "write"];
 

@@ -2,8 +2,8 @@
 use crate::{bank, board, crc, frame, hex, selftest_hexout, selftest_sending};
 
 pub fn run() -> Result<(), String> {
-    let mut checks =
-        vec![crcs(), continued(), checksums(), frames(), faults(), addresses(), banks(), clients(), write_results()];
+    let mut checks = vec![crcs(), continued(), checksums(), frames(), faults(), addresses(), banks()];
+    checks.extend([clients(), write_results(), parameter_faults()]);
     checks.extend(selftest_sending::all());
     checks.extend(selftest_hexout::all());
     let count: usize = checks.iter().map(Vec::len).sum();
@@ -153,7 +153,8 @@ fn banks() -> Checks {
     checks
 }
 
-/// The paper's examples 1 to 9 and 11 on a client: the line of a board's script, and what it writes. The CRCs are zlib's.
+/// The paper's examples 1 to 9 and 11 on a client, 7 and 8 as 02 §3 reads them: the line of a board's script, and what it writes. The CRCs
+/// are zlib's.
 fn clients() -> Checks {
     let none = "00".repeat(16);
     let (long, longer) = ("00".repeat(512), "00".repeat(516));
@@ -165,19 +166,19 @@ fn clients() -> Checks {
         ("example 6", "send -", "answer 0102E0071703"),
         ("example 3", "send 0101609F03", "answer 0102E0051903"),
         ("example 1", "send 0101619E03", &example_1),
-        ("example 5, of another N", "send 01094014000A00140049FF3D03", "answer 010270058903"),
+        ("example 5, of another N", "send 01094014000A00140049FF3D03", "answer 0102E0051903"),
         ("example 4", "send 01094014000A001403DFFFA403", "answer 010270068803"),
         ("example 2", "send 0200010004FF8040221A03", "answer 02000100060606DF61DC389903"),
         ("example 9", "send 0200010004FF8040221A03", "answer 0200010006061DDF61DC388203"),
         ("example 7, sector 491", "send 0201EB0004FF8040222F17", "answer 0201EB00060606DF61DC38AE03"),
-        ("example 7, sector 492", "send 0201EC0004FF8040222E17", "answer 0201EC00060505000000000303"),
-        ("example 7, sector 0", "send 0200000004FF8040221B03", "answer 0200000006050500000000F003"),
-        ("example 8, M of 0", "send 0200010000FF03", "answer 0200010006050500000000EF03"),
-        ("example 8, M of 6", "send 0200010006000000000000F903", "answer 0200010006050500000000EF03"),
+        ("example 7, sector 492", "send 0201EC0004FF8040222E17", "answer 0102E0051903"),
+        ("example 7, sector 0", "send 0200000004FF8040221B03", "answer 0102E0051903"),
+        ("example 8, M of 0", "send 0200010000FF03", "answer 0102E0051903"),
+        ("example 8, M of 6", "send 0200010006000000000000F903", "answer 0102E0051903"),
     ];
     let sectors = [
         ("example 8, M of 512", format!("send 0200020200{}FC03", long), "answer 02000200060606B2AA7578A303"),
-        ("example 8, M of 516", format!("send 0200010204{}F903", longer), "answer 0200010006050500000000EF03"),
+        ("example 8, M of 516", format!("send 0200010204{}F903", longer), "answer 0102E0051903"),
         ("example 11", format!("send 0200030200{}ED17", padded), "answer 02000300060606132351D88C03"),
         ("the record", "record".to_string(), "record 491 0 0 write nothing 1 2 3 1,2,3,491"),
         ("a new client, N = 32", "client 32 0 1 2 3".to_string(), "done"),
@@ -191,8 +192,7 @@ fn clients() -> Checks {
     held("client", &lines)
 }
 
-/// The forms of a write answer that the paper's rules leave no choice in: 15, 05, 1C, and 1D for blanks; then a worn end, an unsound one, and
-/// the notices of each.
+/// The forms of a write answer that the paper's rules leave no choice in: 15, 1C, and 1D for blanks; then an unsound end, and the notices.
 fn write_results() -> Checks {
     let none = "00".repeat(16);
     let started = format!("answer 010271068703 notice 6033 {}", none);
@@ -207,7 +207,7 @@ fn write_results() -> Checks {
         ("a packet in control state", "send 0200010004FF8040221A03", "answer 0200010006151500000000CF03"),
         ("no session", "send 0101649B03", &without),
         ("mode start again", "send 0101619E03", &started),
-        ("write start of the running bank", "send 01094014000A0014000BFF7B03", "answer 010270058903"),
+        ("write start of the running bank", "send 01094014000A0014000BFF7B03", "answer 0102E0051903"),
         ("write start", "send 01094010000A0010000BFF8303", "answer 010270068803"),
         ("a mark", "mark 1 40", "mark 1 40"),
         ("a packet for a worn sector", "send 0200010004FF8040221A03", "answer 0200010006061C00000000D703"),
@@ -224,6 +224,37 @@ fn write_results() -> Checks {
         ("a record with a bad N", "record", "record 492 0 0 closed nothing 0 0 0 -"),
     ];
     held("write results", &lines.map(|(what, line, written)| (what, line.to_string(), written)))
+}
+
+/// E0 with 05 for each fault of 02 §3, where the paper's order puts it: a length before the state, values behind it and before a worn mark. The
+/// session goes on.
+fn parameter_faults() -> Checks {
+    let error = "answer 0102E0051903";
+    let started = format!("answer 010271068703 notice 6033 {}", "00".repeat(16));
+    let lines = [
+        ("a new client", "client 1 1 0 0 0", "done"),
+        ("a parameter too many when closed", "send 010261009D03", "refused 1"),
+        ("initiated", "initiate", "done"),
+        ("a parameter too many", "send 010261009D03", error),
+        ("a parameter too many, and the state", "send 01024500B903", error),
+        ("another address pair in idle state", "send 01094014000A0014000BFF7B03", "answer 010270157903"),
+        ("sector 0 in idle state", "send 0200000004FF8040221B03", "answer 0200000006151500000000D003"),
+        ("mode start", "send 0101619E03", &started),
+        ("no address pair", "send 010140BF03", error),
+        ("another start address", "send 01094014000A0010000BFF7F03", error),
+        ("another end address", "send 01094010000A0014000BFF7F03", error),
+        ("M of 6 in control state", "send 0200010006000000000000F903", "answer 0200010006151500000000CF03"),
+        ("write start", "send 01094010000A0010000BFF8303", "answer 010270068803"),
+        ("a packet", "send 0200010004FFFFFFFFFF03", "answer 0200010006061DBD7BC39F3C03"),
+        ("a mark", "mark 1 40", "mark 1 40"),
+        ("M of 6 for a worn sector", "send 0200010006000000000000F903", error),
+        ("sector 2 of 1", "send 0200020004FF8040221903", error),
+        ("another address pair in write state", "send 01094014000A0014000BFF7B03", "answer 010270157903"),
+        ("an end with a parameter", "send 01024500B903", error),
+        ("the session goes on", "record", "record 1 1 1 write nothing 0 0 0 1"),
+        ("a worn end", "send 010145BA03", "answer 0102751C6D03"),
+    ];
+    held("parameter faults", &lines.map(|(what, line, written)| (what, line.to_string(), written)))
 }
 
 fn held(about: &str, lines: &[(&str, String, &str)]) -> Checks {

@@ -4,10 +4,12 @@ use crate::intel::{record, Record, Refusal};
 use crate::response::Response;
 use crate::selftest::{bytes, Checks};
 use crate::texts::{in_lf, END, LISTING};
-use crate::{intel, packets, response, sender};
+use crate::{frame, intel, packets, response, sender};
 
 pub fn all() -> Vec<Checks> {
-    vec![records(), faults(), places(), numbers(), program(), requests(), sector_packets(), responses(), unreadable()]
+    let mut checks = vec![records(), faults(), places(), numbers(), program(), requests(), sector_packets()];
+    checks.extend([responses(), respond_errors(), own_parameter_faults(), unreadable()]);
+    checks
 }
 
 /// Lines that stand as examples in the pages on the format of Wikipedia ("Intel HEX") and of Keil ("General: Intel HEX file format"). Each is
@@ -218,12 +220,9 @@ fn responses() -> Checks {
     let written = |response: u8, write: u8, crc: u32| Response::Written { sector: 1, response, write, crc };
     [
         ("010271068703", Response::Plain { code: 0x71, result: 0x06 }),
-        ("0102E0051903", Response::Plain { code: 0xE0, result: 0x05 }),
-        ("0102E0071703", Response::Plain { code: 0xE0, result: 0x07 }),
         ("010275068303", Response::Plain { code: 0x75, result: 0x06 }),
         ("01037206018403", Response::Bank(1)),
         ("010A7806040001020000002A4703", Response::Version { id: 0x0400, major: 1, minor: 2, revision: 42 }),
-        ("0200010006050500000000EF03", written(0x05, 0x05, 0)),
         ("0200010006151500000000CF03", written(0x15, 0x15, 0)),
         ("0200010006061C00000000D703", written(0x06, 0x1C, 0)),
         ("0200010006060600000000ED03", written(0x06, 0x06, 0)),
@@ -232,6 +231,50 @@ fn responses() -> Checks {
     .iter()
     .map(|(datagram, wanted)| {
         (format!("response {}", datagram), response::read(&bytes(datagram)).as_ref() == Some(wanted))
+    })
+    .collect()
+}
+
+/// E0 with each result of Table 9.
+fn respond_errors() -> Checks {
+    [
+        ("0102E0051903", 0x05),
+        ("0102E0061803", 0x06),
+        ("0102E0071703", 0x07),
+        ("0102E0150903", 0x15),
+        ("0102E01C0203", 0x1C),
+        ("0102E01D0103", 0x1D),
+        ("0102E01E0003", 0x1E),
+    ]
+    .iter()
+    .map(|(datagram, result)| {
+        let read = response::read(&bytes(datagram));
+        (format!("response {}", datagram), read == Some(Response::Plain { code: 0xE0, result: *result }))
+    })
+    .collect()
+}
+
+/// 05 in each response but E0, and as either result of a write response: good frames, and unreadable (02 §3).
+fn own_parameter_faults() -> Checks {
+    [
+        "010271058803",
+        "010272058703",
+        "010278058103",
+        "010270058903",
+        "010275058403",
+        "010274058503",
+        "0200010006050500000000EF03",
+        "0200010006060500000000EE03",
+        "0200010006050600000000EE03",
+        "02000100061D0500000000D703",
+        "02000100060505CBF43926D103",
+        "02000100060605CBF43926D003",
+    ]
+    .iter()
+    .map(|datagram| {
+        let bytes = bytes(datagram);
+        let good = frame::read(&bytes).is_some() && response::read(&bytes).is_none();
+        (format!("unreadable: 05 in {}", datagram), good)
     })
     .collect()
 }
@@ -251,9 +294,9 @@ fn unreadable() -> Checks {
         ("footer 17", framed(WRITE, &bytes("000100060606CBF43926"), CONTINUED)),
         ("M of 5", framed(WRITE, &bytes("000100050606000000"), FOOTER)),
         ("an unknown write result", framed(WRITE, &bytes("00010006060800000000"), FOOTER)),
-        ("05 and 06", framed(WRITE, &bytes("00010006050600000000"), FOOTER)),
+        ("15 and 06", framed(WRITE, &bytes("00010006150600000000"), FOOTER)),
         ("1D and 06", framed(WRITE, &bytes("000100061D0600000000"), FOOTER)),
-        ("06 and 05 with a CRC", framed(WRITE, &bytes("00010006060500000001"), FOOTER)),
+        ("06 and 15 with a CRC", framed(WRITE, &bytes("00010006061500000001"), FOOTER)),
     ]
     .iter()
     .map(|(what, datagram)| (format!("unreadable: {}", what), response::read(datagram).is_none()))

@@ -1,5 +1,5 @@
 //! Clients that go wrong on purpose: what the checks have to see. The paper's 'Shortcuts that bring the leftovers back', what it shuts out
-//! under 'How much each function must say', and slips of order.
+//! under 'How much each function must say', slips of order, and 05 where it stood before 02 §3.
 
 #[derive(Clone, Copy, PartialEq, Debug)]
 pub enum Wrong {
@@ -35,6 +35,14 @@ pub enum Wrong {
     ValuesFirst,
     /// The state is looked at before the parameters' length.
     StateFirst,
+    /// A wrong parameter length is answered 05 in the command's own response.
+    OwnParameterLength,
+    /// A wrong address pair is answered 05 in the command's own response.
+    OwnAddressPair,
+    /// A sector out of range is answered 05 in the write response.
+    OwnSector,
+    /// A data length out of range is answered 05 in the write response.
+    OwnDataLength,
     /// A write start of the running bank is taken too.
     TakesRunning,
     /// The end of the mode forgets how the session ended.
@@ -45,7 +53,7 @@ pub enum Wrong {
     OneAnswer,
 }
 
-pub const ALL: [Wrong; 20] = [
+pub const ALL: [Wrong; 24] = [
     Wrong::KeepsTail,
     Wrong::ComparesSent,
     Wrong::SkipsBlanks,
@@ -62,6 +70,10 @@ pub const ALL: [Wrong; 20] = [
     Wrong::TakesUnsound,
     Wrong::ValuesFirst,
     Wrong::StateFirst,
+    Wrong::OwnParameterLength,
+    Wrong::OwnAddressPair,
+    Wrong::OwnSector,
+    Wrong::OwnDataLength,
     Wrong::TakesRunning,
     Wrong::ForgetsEnd,
     Wrong::RefusesAll,
