@@ -179,7 +179,10 @@ impl Client {
     }
 
     /// Respond Error, whatever the command; one that is wrong in this way answers with the command's own response.
-    fn parameter_fault(&self, wrong: Wrong, own: Vec<u8>) -> Vec<u8> {
+    fn parameter_fault(&mut self, wrong: Wrong, own: Vec<u8>) -> Vec<u8> {
+        if self.is(Wrong::FaultDiscards) {
+            self.received.clear();
+        }
         if self.is(wrong) {
             own
         } else {

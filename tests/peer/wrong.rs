@@ -43,6 +43,8 @@ pub enum Wrong {
     OwnSector,
     /// A data length out of range is answered 05 in the write response.
     OwnDataLength,
+    /// A parameter fault discards what the session has received, and not the faulty datagram alone.
+    FaultDiscards,
     /// A write start of the running bank is taken too.
     TakesRunning,
     /// The end of the mode forgets how the session ended.
@@ -53,7 +55,7 @@ pub enum Wrong {
     OneAnswer,
 }
 
-pub const ALL: [Wrong; 24] = [
+pub const ALL: [Wrong; 25] = [
     Wrong::KeepsTail,
     Wrong::ComparesSent,
     Wrong::SkipsBlanks,
@@ -74,6 +76,7 @@ pub const ALL: [Wrong; 24] = [
     Wrong::OwnAddressPair,
     Wrong::OwnSector,
     Wrong::OwnDataLength,
+    Wrong::FaultDiscards,
     Wrong::TakesRunning,
     Wrong::ForgetsEnd,
     Wrong::RefusesAll,

@@ -2,7 +2,7 @@
 -- Assumes nothing.
 use mathlib.Core.Path.{_≡_, refl, sym, ap, ap₂, subst, _∙_}
 use mathlib.Core.Bool.{Bool, true, false, cond, false≢true}
-use mathlib.Core.List.{List, _++_}
+use mathlib.Core.List.{List, [], _∷_, _++_}
 use mathlib.Core.Option.{some}
 use Prim.Native.Nat.{ℕ, _-_, _≤_}
 use native.Mathlib.Omega.{arith}
@@ -14,7 +14,8 @@ use Rattle.buffer.specs.Number.{numberAt}
 use Rattle.buffer.specs.Place.{frontOf}
 use Rattle.buffer.proofs.Places.{front-none}
 use Rattle.crc.specs.Crc.{crcOf}
-use Rattle.frame.specs.Frame.{frameError}
+use Rattle.frame.specs.Checksum.{takenAway, checksumOf}
+use Rattle.frame.specs.Frame.{framed, controlFrame, frameError}
 use Rattle.frame.specs.Read.{readOf, parametersIn, dataIn}
 use Rattle.frame.specs.declared.read.Footer.{Footer}
 use Rattle.frame.specs.declared.read.Read.{Read}
@@ -67,9 +68,14 @@ use Rattle.client.specs.Step.{Carried, carriedOf, takeOf, besideOf}
 use Rattle.calls.proofs.Leading.{fits-stored, storing}
 use Rattle.calls.specs.Call.{Board, board}
 use Rattle.demands.specs.Board.{LentCall, Input, Initiate, Terminate, Datagram, Outcome, lentOf, backIn, lentTarget, callOutcome, stepMachine}
-use Rattle.demands.specs.Demand1.{firstOf, isFault, refused, changed, answered, stored, afterFrame, callRows, tableOf, sweptTarget, Meets1}
+use Rattle.demands.specs.Demand1.{firstOf, isFault, refused, changed, answered, stored, parameterError, afterFrame, callRows, tableOf, sweptTarget, Meets1}
 use Rattle.demands.proofs.Lending.{back-with, whole-again}
 use Rattle.demands.proofs.Steps.{run-stays, run-running}
+
+-- the six bytes of E0 with 05
+pub parameter-bytes : controlFrame 0xE0 (0x05 ∷ []) ≡ parameterError
+unfolding controlFrame framed checksumOf takenAway
+parameter-bytes = refl
 
 -- ---- what came of a call, as the rows put it
 
@@ -172,13 +178,19 @@ module _ (fixed : Fixed) (next : Bank) (latest : Latest) (received : List Bool) 
         → some (changed (at s) call (r .client) (r .notice) (answerBytes answer)) ≡ some (callOutcome (at s) call r)
     kept s answer r a f t z = ap some (sym (changed-is (at s) call r (r .client) (r .notice) answer (says s r answer a f) refl t refl z))
 
+    -- E0 with 05
+    faulty : (s : State) (r : Carried) → r .answer ≡ ParameterError → Tells r → r .target ≡ lentTarget (at s) call
+        → some (changed (at s) call (r .client) (r .notice) parameterError) ≡ some (callOutcome (at s) call r)
+    unfolding answerBytes
+    faulty s r a f t = ap (λ (x : List ℕ). some (changed (at s) call (r .client) (r .notice) x)) (sym parameter-bytes) ∙ kept s ParameterError r a f t refl
+
     left : (s : State) (answer : Answer) (r : Carried) → r .answer ≡ answer → Tells r → r .notice ≡ noNotice → answerNumber answer ≡ 0
         → some (stored (at s) call (r .client) (r .target) (answerBytes answer)) ≡ some (callOutcome (at s) call r)
     left s answer r a f n z = ap some (sym (stored-is (at s) call r (r .client) (r .target) answer (says s r answer a f) refl refl n z))
 
     code-61 : (m : ℕ) (t : Bool) (s : State) → eqb m 0 ≡ t → isClosed s ≡ false → Holds s (Control 0x61 m)
     unfolding Tells askedBy codedBy counted planAsked planRequest planGood planControl carriedOf servedOf answerBytes
-    code-61 m false s z l = rw z (kept s ParameterError _ refl (refl, refl) refl refl)
+    code-61 m false s z l = rw z (faulty s _ refl (refl, refl) refl)
     code-61 m true state.Closed z l = closed-not l
     code-61 m true state.Idle z l = rw z (kept state.Idle (Response ModeStart 0x06) _ refl (refl, refl) refl refl)
     code-61 m true state.Control z l = rw z (kept state.Control (Response ModeStart 0x15) _ refl (refl, refl) refl refl)
@@ -186,7 +198,7 @@ module _ (fixed : Fixed) (next : Bank) (latest : Latest) (received : List Bool) 
 
     code-62 : (m : ℕ) (t : Bool) (s : State) → eqb m 0 ≡ t → isClosed s ≡ false → Holds s (Control 0x62 m)
     unfolding Tells askedBy codedBy counted planAsked planRequest planGood planControl carriedOf servedOf answerBytes
-    code-62 m false s z l = rw z (kept s ParameterError _ refl (refl, refl) refl refl)
+    code-62 m false s z l = rw z (faulty s _ refl (refl, refl) refl)
     code-62 m true state.Closed z l = closed-not l
     code-62 m true state.Idle z l = rw z (kept state.Idle (Response BankInfo 0x15) _ refl (refl, refl) refl refl)
     code-62 m true state.Control z l = rw z (kept state.Control (BankIs (otherOf (fixed .running))) _ refl (refl, refl) refl refl)
@@ -194,7 +206,7 @@ module _ (fixed : Fixed) (next : Bank) (latest : Latest) (received : List Bool) 
 
     code-68 : (m : ℕ) (t : Bool) (s : State) → eqb m 0 ≡ t → isClosed s ≡ false → Holds s (Control 0x68 m)
     unfolding Tells askedBy codedBy counted planAsked planRequest planGood planControl carriedOf servedOf answerBytes
-    code-68 m false s z l = rw z (kept s ParameterError _ refl (refl, refl) refl refl)
+    code-68 m false s z l = rw z (faulty s _ refl (refl, refl) refl)
     code-68 m true state.Closed z l = closed-not l
     code-68 m true state.Idle z l = rw z (kept state.Idle (Response VersionInfo 0x15) _ refl (refl, refl) refl refl)
     code-68 m true state.Control z l = rw z (kept state.Control (VersionIs (fixed .major) (fixed .minor) (fixed .revision)) _ refl (refl, refl) refl refl)
@@ -202,7 +214,7 @@ module _ (fixed : Fixed) (next : Bank) (latest : Latest) (received : List Bool) 
 
     code-64 : (m : ℕ) (t : Bool) (s : State) → eqb m 0 ≡ t → isClosed s ≡ false → Holds s (Control 0x64 m)
     unfolding Tells askedBy codedBy counted planAsked planRequest planGood planControl carriedOf servedOf answerBytes
-    code-64 m false s z l = rw z (kept s ParameterError _ refl (refl, refl) refl refl)
+    code-64 m false s z l = rw z (faulty s _ refl (refl, refl) refl)
     code-64 m true state.Closed z l = closed-not l
     code-64 m true state.Idle z l = rw z (kept state.Idle (Response ModeEnd 0x15) _ refl (refl, refl) refl refl)
     code-64 m true state.Control z l = rw z (kept state.Control (Response ModeEnd 0x06) _ refl (refl, refl) refl refl)
@@ -214,10 +226,10 @@ module _ (fixed : Fixed) (next : Bank) (latest : Latest) (received : List Bool) 
 
     code-40 : (m : ℕ) (t : Bool) (s : State) (v : Bool) → eqb m 8 ≡ t → pair-good ≡ v → isClosed s ≡ false → Holds s (Control 0x40 m)
     unfolding Tells askedBy codedBy counted planAsked planRequest planGood planControl carriedOf servedOf answerBytes planStart
-    code-40 m false s v z a l = rw z (kept s ParameterError _ refl (refl, refl) refl refl)
+    code-40 m false s v z a l = rw z (faulty s _ refl (refl, refl) refl)
     code-40 m true state.Closed v z a l = closed-not l
     code-40 m true state.Idle v z a l = rw z (kept state.Idle (Response WriteStart 0x15) _ refl (refl, refl) refl refl)
-    code-40 m true state.Control false z a l = rw (z, a) (kept state.Control ParameterError _ refl (refl, refl) refl refl)
+    code-40 m true state.Control false z a l = rw (z, a) (faulty state.Control _ refl (refl, refl) refl)
     code-40 m true state.Control true z a l = rw (z, a) (kept state.Control (Response WriteStart 0x06) _ refl (refl, refl) refl refl)
     code-40 m true state.Write v z a l = rw z (kept state.Write (Response WriteStart 0x15) _ refl (refl, refl) refl refl)
 
@@ -225,7 +237,7 @@ module _ (fixed : Fixed) (next : Bank) (latest : Latest) (received : List Bool) 
     code-45 : (m : ℕ) (t : Bool) (s : State) (w f : Bool) → eqb m 0 ≡ t → anyWorn (call .marks) ≡ w
         → fitOf fixed (sweptTarget (at state.Write) call) ≡ f → isClosed s ≡ false → Holds s (Control 0x45 m)
     unfolding Tells askedBy codedBy counted planAsked planRequest planGood planControl carriedOf servedOf answerBytes planEnd checkedOf
-    code-45 m false s w f z a e l = rw z (kept s ParameterError _ refl (refl, refl) refl refl)
+    code-45 m false s w f z a e l = rw z (faulty s _ refl (refl, refl) refl)
     code-45 m true state.Closed w f z a e l = closed-not l
     code-45 m true state.Idle w f z a e l = rw z (kept state.Idle (Response WriteEnd 0x15) _ refl (refl, refl) refl refl)
     code-45 m true state.Control w f z a e l = rw z (kept state.Control (Response WriteEnd 0x15) _ refl (refl, refl) refl refl)
@@ -237,7 +249,7 @@ module _ (fixed : Fixed) (next : Bank) (latest : Latest) (received : List Bool) 
     code-other : (code m : ℕ) (s : State) → eqb code 0x61 ≡ false → eqb code 0x62 ≡ false → eqb code 0x68 ≡ false → eqb code 0x40 ≡ false
         → eqb code 0x45 ≡ false → eqb code 0x64 ≡ false → Holds s (Control code m)
     unfolding Tells askedBy codedBy planAsked carriedOf servedOf answerBytes
-    code-other code m s e f g h i j = rw (e, f, g, h, i, j) (kept s ParameterError _ refl (refl, refl) refl refl)
+    code-other code m s e f g h i j = rw (e, f, g, h, i, j) (faulty s _ refl (refl, refl) refl)
 
     control : (code m : ℕ) (s : State) → isClosed s ≡ false → Holds s (Control code m)
     control code m s l = by61 (eqb code 0x61) refl
@@ -291,7 +303,7 @@ module _ (fixed : Fixed) (next : Bank) (latest : Latest) (received : List Bool) 
       packet state.Closed v w a e l = closed-not l
       packet state.Idle v w a e l = kept state.Idle (Written sector 0x15 0x15 0) _ refl (refl, refl) refl refl
       packet state.Control v w a e l = kept state.Control (Written sector 0x15 0x15 0) _ refl (refl, refl) refl refl
-      packet state.Write false w a e l = rw a (kept state.Write ParameterError _ refl (refl, refl) refl refl)
+      packet state.Write false w a e l = rw a (faulty state.Write _ refl (refl, refl) refl)
       packet state.Write true true a e l = rw (a, e) (kept state.Write (Written sector 0x06 0x1C 0) _ refl (refl, refl) refl refl)
       packet state.Write true false a e l =
           let answer : Answer =

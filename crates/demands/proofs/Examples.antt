@@ -51,7 +51,7 @@ use Rattle.calls.specs.Call.{Board}
 use Rattle.demands.specs.Board.{LentCall, Datagram, Outcome, said, lentTarget, stepMachine}
 use Rattle.demands.specs.Demand1.{answered, parameterError, packetStored}
 use Rattle.demands.specs.Demand2.{Lends}
-use Rattle.demands.specs.Examples.{Calls, Brings, Taken, goodLength, isIdle, live, none, also, Examples}
+use Rattle.demands.specs.Examples.{Calls, Brings, PacketTaken, goodLength, isIdle, live, none, also, Examples}
 use Rattle.demands.specs.Session.{isStored}
 use Rattle.demands.proofs.Bytes.{written-stored}
 use Rattle.demands.proofs.Lending.{lent-in}
@@ -69,10 +69,6 @@ request-1 = refl
 sum-2 : (footer : Footer) → byteAt (writeFrame 1 (0xFF ∷ 0x80 ∷ 0x40 ∷ 0x22 ∷ []) footer) 9 ≡ 0x1A
 unfolding writeFrame framed bytesOf checksumOf takenAway
 sum-2 footer = refl
-
-parameter-bytes : parameterError ≡ 0x01 ∷ 0x02 ∷ 0xE0 ∷ 0x05 ∷ 0x19 ∷ 0x03 ∷ []
-unfolding controlFrame framed checksumOf takenAway
-parameter-bytes = refl
 
 reads-1 : readOf (0x01 ∷ 0x01 ∷ 0x61 ∷ 0x9E ∷ 0x03 ∷ []) ≡ Control 0x61 0
 unfolding readOf readControl checkedAt checksumOf takenAway
@@ -126,7 +122,7 @@ example-1 b call c s d =
 -- E0 with 05, of a code that is no request and of wrong values
 parameter-said : (b : Board) (call : LentCall) → 14 ≤ length (call .buffer)
     → said (answered b call parameterError) ≡ 0x01 ∷ 0x02 ∷ 0xE0 ∷ 0x05 ∷ 0x19 ∷ 0x03 ∷ []
-parameter-said b call room = said-back call parameterError (control-short 0xE0 0x05) room ∙ parameter-bytes
+parameter-said b call room = said-back call parameterError (omega arith) room
 
 example-3-any : (b : Board) (call : LentCall) (m : ℕ) → Calls b call → live (b .client .state) ≡ true → readOf (call .datagram) ≡ Control 0x60 m
     → said (stepMachine b (Datagram call)) ≡ 0x01 ∷ 0x02 ∷ 0xE0 ∷ 0x05 ∷ 0x19 ∷ 0x03 ∷ []
@@ -176,14 +172,14 @@ module _ (b : Board) (call : LentCall) (sector m : ℕ) (p : Brings b call secto
       ∙ said-back call (writeFrame sector (writtenBytes 0x06 result (crcOf (paddedOf bytes))) End)
       (written-short sector 0x06 result (crcOf (paddedOf bytes))) (p .calls .lends .room)
 
-  taken : valuesGood (b .client .fixed .n) sector m ≡ true → Taken true b call
+  taken : valuesGood (b .client .fixed .n) sector m ≡ true → PacketTaken true b call
   unfolding answerBytes
   taken v =
       ap isStored (stored-said v)
       ∙ written-stored sector result (crcOf (paddedOf bytes))
       (accepted (blankOf bytes) (sameOf (sectorOf (lentTarget b call) sector) (paddedOf bytes)))
 
-  refused : valuesGood (b .client .fixed .n) sector m ≡ false → Taken false b call
+  refused : valuesGood (b .client .fixed .n) sector m ≡ false → PacketTaken false b call
   refused v =
       ap said (packet-wrong b call packet-heard sector m (p .footer) (p .writing) (p .reads) v)
       ∙ parameter-said b call (p .calls .lends .room)
@@ -193,29 +189,29 @@ good-7 : (m : ℕ) → valuesGood 491 491 m ≡ goodLength m
 unfolding valuesGood
 good-7 m = refl
 
-example-7 : (b : Board) (call : LentCall) (m : ℕ) → b .client .fixed .n ≡ 491 → goodLength m ≡ true → Brings b call 491 m → Taken true b call
+example-7 : (b : Board) (call : LentCall) (m : ℕ) → b .client .fixed .n ≡ 491 → goodLength m ≡ true → Brings b call 491 m → PacketTaken true b call
 example-7 b call m n g p = taken b call 491 m p (ap (λ (x : ℕ). valuesGood x 491 m) n ∙ good-7 m ∙ g)
 
 example-7-above : (b : Board) (call : LentCall) (m : ℕ) → b .client .fixed .n ≡ 491 → goodLength m ≡ true
-    → Brings b call 492 m → Taken false b call
+    → Brings b call 492 m → PacketTaken false b call
 example-7-above b call m n g p =
     refused b call 492 m p (ap (λ (x : ℕ). valuesGood x 492 m) n ∙ sym (values-above 491 492 m (omega arith) (omega arith)))
 
-example-7-zero : (b : Board) (call : LentCall) (m : ℕ) → b .client .fixed .n ≡ 491 → goodLength m ≡ true → Brings b call 0 m → Taken false b call
+example-7-zero : (b : Board) (call : LentCall) (m : ℕ) → b .client .fixed .n ≡ 491 → goodLength m ≡ true → Brings b call 0 m → PacketTaken false b call
 example-7-zero b call m n g p = refused b call 0 m p (sym (values-zero (b .client .fixed .n) 0 m (omega arith)))
 
 -- 8
 module _ (b : Board) (call : LentCall) (sector : ℕ) (low : 1 ≤ sector) (high : sector ≤ b .client .fixed .n) where
-  example-8 : Brings b call sector 512 → Taken true b call
+  example-8 : Brings b call sector 512 → PacketTaken true b call
   example-8 p = taken b call sector 512 p (sym (values-words (b .client .fixed .n) sector 512 low high (omega arith) (omega arith)))
 
-  example-8-long : Brings b call sector 516 → Taken false b call
+  example-8-long : Brings b call sector 516 → PacketTaken false b call
   example-8-long p = refused b call sector 516 p (sym (values-long (b .client .fixed .n) sector 516 low high (omega arith) (omega arith)))
 
-  example-8-none : Brings b call sector 0 → Taken false b call
+  example-8-none : Brings b call sector 0 → PacketTaken false b call
   example-8-none p = refused b call sector 0 p (sym (values-empty (b .client .fixed .n) sector 0 low high (omega arith)))
 
-  example-8-odd : Brings b call sector 6 → Taken false b call
+  example-8-odd : Brings b call sector 6 → PacketTaken false b call
   example-8-odd p = refused b call sector 6 p (sym (values-words (b .client .fixed .n) sector 6 low high (omega arith) (omega arith)))
 
 -- 9

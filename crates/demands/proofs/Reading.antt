@@ -51,7 +51,7 @@ use Rattle.demands.specs.Board.{LentCall, Datagram, Outcome, said, lentO
 use Rattle.demands.specs.Demand1.{Row, firstOf, responseCode, parameterError, isFault, refused, answered, afterFrame, callRows}
 use Rattle.demands.specs.EndToEnd.{Readable, MeetsRead}
 use Rattle.demands.specs.Responses.{answerCode, spelled}
-use Rattle.demands.proofs.Demand1.{table}
+use Rattle.demands.proofs.Demand1.{parameter-bytes, table}
 use Rattle.demands.proofs.Demand2.{said-back, control-short, written-short}
 use Rattle.demands.proofs.Rows.{given, comes}
 
@@ -171,7 +171,7 @@ write-ended result (inr (inr e)) = rw e (plain WriteEnd 0x1E refl refl refl)
 
 errors : Readable parameterError
 unfolding mayCarry
-errors = error-readable 0x05 refl
+errors = subst Readable parameter-bytes (error-readable 0x05 refl)
 
 fault-readable : Readable frameError
 unfolding mayCarry
@@ -185,7 +185,7 @@ module _ (b : Board) (call : LentCall) (bytes : (i : ℕ) → byteAt (call .data
   says answer s r = subst Readable (sym (said-back call answer s room)) r
 
   parameter-said : Readable (take (length parameterError) (frontOf (call .buffer) parameterError))
-  parameter-said = says parameterError (control-short 0xE0 0x05) errors
+  parameter-said = says parameterError (omega arith) errors
 
   of-control : (code n : ℕ) → Every Back (afterFrame b call (Control code n))
   of-control code n =

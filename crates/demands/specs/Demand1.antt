@@ -1,6 +1,6 @@
 -- Demand 1. Whatever is put to a board, it does what the paper's table says and nothing else. The table is written here row by row: a test and
 -- what comes of it, in the paper's order, so that the first row whose test holds decides (01, 'What comes back when it is no', "Order in the
--- client", and 'The client, step by step'). And whatever list of inputs comes, N, the version, which bank runs and every byte of that bank stay.
+-- client", and 'The client, step by step'; 02 §3). And whatever list of inputs comes, N, the version, which bank runs and every byte of that bank stay.
 -- Assumes nothing.
 use mathlib.Core.Path.{_≡_}
 use mathlib.Core.Bool.{Bool, true, false, not, _&&_, _||_, cond}
@@ -135,9 +135,9 @@ ownResponse Fault = frameError
 ownResponse (Control code n) = controlFrame (responseCode code) (0x15 ∷ [])
 ownResponse (Write sector m footer) = writeFrame sector (writtenBytes 0x15 0x15 0) End
 
--- "all answered E0 with 05" (02 §3), as is a code that is no request
+-- "E0 with 05": a code that is no request, and every parameter fault (02 §3)
 abbrev pub parameterError : List ℕ
-parameterError = controlFrame 0xE0 (0x05 ∷ [])
+parameterError = 0x01 ∷ 0x02 ∷ 0xE0 ∷ 0x05 ∷ 0x19 ∷ 0x03 ∷ []
 
 -- ---- what comes of it
 

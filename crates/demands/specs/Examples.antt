@@ -1,4 +1,4 @@
--- The paper's worked examples 1 to 11 as one table with one claim (01, 'Worked examples to hold').
+-- The paper's worked examples 1 to 11 as one table with one claim (01, 'Worked examples to hold'; 7 and 8 as 02 §3 reads them).
 -- Assumes nothing.
 use mathlib.Core.Path.{_≡_}
 use mathlib.Core.Bool.{Bool, true, false, not, _&&_}
@@ -43,9 +43,9 @@ pub data Example : Type 0 where
   Answers : (State → Bool) → List ℕ → List ℕ → Example
   -- in such a state a control frame with this code has this answer, whatever parameters it has
   Codes : (State → Bool) → ℕ → List ℕ → Example
-  -- with so many sectors a packet for this sector is taken, or refused 05, whatever good number of bytes it has
+  -- with so many sectors a packet for this sector is taken, or refused by E0 with 05, whatever good number of bytes it has
   Sector : ℕ → ℕ → Bool → Example
-  -- a packet with so many bytes is taken, or refused 05, whatever sector of the bank it is for
+  -- a packet with so many bytes is taken, or refused by E0 with 05, whatever sector of the bank it is for
   Length : ℕ → Bool → Example
   -- a packet that was accepted, sent once more at once, is answered 06 and 1D, with the CRC of the sector
   Again : Example
@@ -65,10 +65,10 @@ pub record Brings (b : Board) (call : LentCall) (sector m : ℕ) : Type 0 where
   pub footer : Footer
   pub reads : readOf (call .datagram) ≡ Write sector m footer
 
--- taken with 06 or 1D, or refused by E0 with 05 (02 §3)
-abbrev pub Taken : Bool → Board → LentCall → Type 0
-Taken true b call = isStored (said (stepMachine b (Datagram call))) ≡ true
-Taken false b call = said (stepMachine b (Datagram call)) ≡ 0x01 ∷ 0x02 ∷ 0xE0 ∷ 0x05 ∷ 0x19 ∷ 0x03 ∷ []
+-- taken with 06 or 1D, or refused
+abbrev pub PacketTaken : Bool → Board → LentCall → Type 0
+PacketTaken true b call = isStored (said (stepMachine b (Datagram call))) ≡ true
+PacketTaken false b call = said (stepMachine b (Datagram call)) ≡ 0x01 ∷ 0x02 ∷ 0xE0 ∷ 0x05 ∷ 0x19 ∷ 0x03 ∷ []
 
 -- other numbers of bytes are wrong
 abbrev pub goodLength : ℕ → Bool
@@ -84,9 +84,9 @@ Holds (Codes states code answer) =
     (b : Board) (call : LentCall) (m : ℕ) → Calls b call → states (b .client .state) ≡ true → readOf (call .datagram) ≡ Control code m
     → said (stepMachine b (Datagram call)) ≡ answer
 Holds (Sector n sector good) =
-    (b : Board) (call : LentCall) (m : ℕ) → b .client .fixed .n ≡ n → goodLength m ≡ true → Brings b call sector m → Taken good b call
+    (b : Board) (call : LentCall) (m : ℕ) → b .client .fixed .n ≡ n → goodLength m ≡ true → Brings b call sector m → PacketTaken good b call
 Holds (Length m good) =
-    (b : Board) (call : LentCall) (sector : ℕ) → 1 ≤ sector → sector ≤ b .client .fixed .n → Brings b call sector m → Taken good b call
+    (b : Board) (call : LentCall) (sector : ℕ) → 1 ≤ sector → sector ≤ b .client .fixed .n → Brings b call sector m → PacketTaken good b call
 Holds Again =
     (b : Board) (call again : LentCall) (sector m : ℕ) → Brings b call sector m → isStored (said (stepMachine b (Datagram call))) ≡ true
     → again .datagram ≡ call .datagram → Lends (b .client .fixed .n) again

@@ -1,4 +1,4 @@
--- A response read (01, 'What comes back when it is no', "Number 6"; 'Frames', "Write response"; the table of codes).
+-- A response read (01, 'What comes back when it is no', "Number 6"; 'Frames', "Write response"; the table of codes; 02 §3).
 -- Assumes nothing.
 use mathlib.Core.Bool.{Bool, true, false, not, _&&_, _||_, cond}
 use mathlib.Core.List.{List}

@@ -42,10 +42,10 @@ resultWrong d (Control code n) = not (inTable9 (byteAt (parametersIn d) 0))
 resultWrong d (Write sector m footer) = not (inTable9 (byteAt (dataIn d) 0) && inTable9 (byteAt (dataIn d) 1))
 
 -- "05 as either result in any response but E0" (02 §3)
-abbrev pub faultElsewhere : List ℕ → Read → Bool
-faultElsewhere d Fault = false
-faultElsewhere d (Control code n) = not (eqb code errorCode) && eqb (byteAt (parametersIn d) 0) 0x05
-faultElsewhere d (Write sector m footer) = eqb (byteAt (dataIn d) 0) 0x05 || eqb (byteAt (dataIn d) 1) 0x05
+abbrev pub parameterErrorElsewhere : List ℕ → Read → Bool
+parameterErrorElsewhere d Fault = false
+parameterErrorElsewhere d (Control code n) = not (eqb code errorCode) && eqb (byteAt (parametersIn d) 0) 0x05
+parameterErrorElsewhere d (Write sector m footer) = eqb (byteAt (dataIn d) 0) 0x05 || eqb (byteAt (dataIn d) 1) 0x05
 
 -- "wrong for the code and result"
 abbrev pub addedBy : Coded → ℕ → ℕ
@@ -79,7 +79,7 @@ rulesBroken d (Write sector m footer) =
 
 unfoldable pub sixIn : List ℕ → Read → Bool
 sixIn d read =
-    frameFaulty read || noResponse read || resultWrong d read || faultElsewhere d read || lengthWrong d read
+    frameFaulty read || noResponse read || resultWrong d read || parameterErrorElsewhere d read || lengthWrong d read
     || bankExceeds d read || rulesBroken d read
 
 abbrev pub sixOf : List ℕ → Bool

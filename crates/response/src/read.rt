@@ -42,7 +42,7 @@ pub enum Response {
     },
 }
 
-// Its result, or number 6.
+// Its result, or number 6, which is also what 06 gives: that a response is unreadable, its case tells.
 pub fn response_number(response: Response) -> u8
     ensures { λ r. ⌜ ResponseNumber·Is response r ⌝ }
 {
