@@ -171,7 +171,10 @@ impl Client {
             }
             0x62 => (TAKEN, vec![self.other_bank() as u8], None),
             0x68 => (TAKEN, self.version_bytes(), None),
-            0x40 => (self.write_start(), vec![], None),
+            0x40 => {
+                self.write_start();
+                (TAKEN, vec![], None)
+            }
             0x45 => (self.write_end(lent), vec![], None),
             _ => (TAKEN, vec![], Some(Notice::Ended(self.mode_end()))),
         };
@@ -209,7 +212,7 @@ impl Client {
         pair == self.pair(self.other_bank()) || self.is(Wrong::TakesRunning) && pair == self.pair(self.running)
     }
 
-    fn write_start(&mut self) -> u8 {
+    fn write_start(&mut self) {
         self.state = State::Write;
         if !self.is(Wrong::KeepsReceived) {
             self.received.clear();
@@ -217,7 +220,6 @@ impl Client {
         if !self.is(Wrong::KeepsNext) {
             self.next = self.running;
         }
-        TAKEN
     }
 
     fn sweep(&self, bank: &mut [u8]) {

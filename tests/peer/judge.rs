@@ -1,8 +1,9 @@
 //! The user's demands, looked for in what a board wrote, with the script beside it and no client of the peer's own:
 //!
 //! 1. Every line has one of the documented forms, the record keeps N, running bank and version, and the running bank keeps its bytes: its CRC
-//!    is asked for before the first datagram of a case and after the last, and is the same each time. 05 comes by Respond Error alone, and for
-//!    wrong parameters or values alone; what has these is never carried out. Whether it is 15 first, no demand says.
+//!    is asked for before the first datagram of a case and after the last, and is the same each time. 05 comes by Respond Error alone, for
+//!    a code that is no request and for wrong parameters or values alone; what has these is never carried out. Whether it is 15 first, no
+//!    demand says.
 //! 2. A line `# expect ANSWER | ANSWER..` in the script says what the next command has to write: demands.rs puts these on deliveries.
 //! 3. The target holds what the script put there, but for the sectors that the board itself accepted, and after an end answered 06 or 1E it
 //!    holds these and 0xFF. Of two boards whose leftovers differ, the answers are alike but for 06 or 1D, and so is all else.

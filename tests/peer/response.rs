@@ -1,4 +1,4 @@
-//! Responses, and which are unreadable: number 6 of the paper's 'What comes back when it is no'.
+//! Responses, and which are unreadable: number 6 of the paper's 'What comes back when it is no', with 02 §3.
 use crate::frame::{self, Frame};
 
 /// Table 9 of the J11 specification.

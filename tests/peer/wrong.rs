@@ -1,5 +1,6 @@
 //! Clients that go wrong on purpose: what the checks have to see. The paper's 'Shortcuts that bring the leftovers back', what it shuts out
-//! under 'How much each function must say', slips of order, and 05 where it stood before 02 §3.
+//! under 'How much each function must say', slips of order, 05 where it stood before 02 §3, and the "discarded" of J11 7.2 taken for
+//! all that the session received.
 
 #[derive(Clone, Copy, PartialEq, Debug)]
 pub enum Wrong {
