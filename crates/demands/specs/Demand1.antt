@@ -129,11 +129,11 @@ wornSector marks Fault = false
 wornSector marks (Control code n) = false
 wornSector marks (Write sector m footer) = isWorn (getD marks (sector - 1) 0)
 
--- 15 "in the command's own response"; of a packet "the write result repeats it", and the CRC field is 0
-abbrev pub ownResponse : Read → List ℕ
-ownResponse Fault = frameError
-ownResponse (Control code n) = controlFrame (responseCode code) (0x15 ∷ [])
-ownResponse (Write sector m footer) = writeFrame sector (writtenBytes 0x15 0x15 0) End
+-- 15, J11's negative response, "in the command's own response"; of a packet "the write result repeats it", and the CRC field is 0
+abbrev pub negativeResponse : Read → List ℕ
+negativeResponse Fault = frameError
+negativeResponse (Control code n) = controlFrame (responseCode code) (0x15 ∷ [])
+negativeResponse (Write sector m footer) = writeFrame sector (writtenBytes 0x15 0x15 0) End
 
 -- "E0 with 05": a code that is no request, and every parameter fault (02 §3)
 abbrev pub parameterError : List ℕ
@@ -195,7 +195,7 @@ afterFrame b call r =
     -- code, parameter length, state, values, worn
     row (noRequest r) (answered b call parameterError)
     ∷ row (wrongLength r) (answered b call parameterError)
-    ∷ row (wrongState (c .state) r) (answered b call (ownResponse r))
+    ∷ row (wrongState (c .state) r) (answered b call (negativeResponse r))
     ∷ row (wrongValues c (call .datagram) r) (answered b call parameterError)
     ∷ row (wornSector (call .marks) r) (packetWorn b call r)
     ∷ row (isCode 0x45 r && anyWorn (call .marks)) (changed b call (ended Otherwise c) noNotice (controlFrame 0x75 (0x1C ∷ [])))
