@@ -21,6 +21,8 @@ use Rattle.layout.specs.Layout.{sectorSize, goodN, sectorStart, sectorOffset, s
 use Rattle.layout.proofs.Layouts.{good-high, good-below, offset-good, sector-part, lent-out}
 use Rattle.sender.specs.declared.made.Made.{Made}
 use Rattle.sender.specs.declared.made.Made.the-variants.{BadN, BadLength, PastLast, Frame}
+use Rattle.sender.specs.declared.packet.Placed.{Placed}
+use Rattle.sender.specs.declared.packet.Placed.the-variants.{BadN as NoN, BadLength as NotSoLong, PastLast as NoneSuch, At}
 use Rattle.sender.specs.declared.packet.Seen.{Seen}
 use Rattle.sender.specs.declared.packet.Tally.{Tally}
 use Rattle.sender.specs.declared.packet.Tally.the-variants.{BadN as NoBank, BadLength as NoImage, Packets}
@@ -35,10 +37,13 @@ use Rattle.sender.specs.Packet.{
   tallyOf,
   tallySaid,
   seenOf,
+  placedOf,
+  placedSaid,
   Count·Is,
+  Place·Is,
   Packet·Is,
 }
-use Rattle.sender.proofs.Refusals.{packet-says, count-says}
+use Rattle.sender.proofs.Refusals.{packet-says, place-says, count-says}
 
 -- ---- a sector of an image
 
@@ -191,6 +196,28 @@ module _ (image : List ℕ) (n : ℕ) where
   tally-packets {count} q g e = count-is (Packets count) (ap Packets q ∙ rw (g, eq-eqb (length image) (sectorSize * n) e))
 
 module _ (image : List ℕ) (n p : ℕ) where
+  place-is : (r : Placed) → r ≡ placedOf image n p → Place·Is image n p r
+  place-is r e = record { answered = e; says = ap placedSaid e ∙ place-says image n p }
+
+  pub place-bad-n : goodN n ≡ false → Place·Is image n p NoN
+  unfolding placedOf
+  place-bad-n g = place-is NoN (rw g)
+
+  pub place-bad-image : goodN n ≡ true → (length image ≡ sectorSize * n → ⊥) → Place·Is image n p NotSoLong
+  unfolding placedOf
+  place-bad-image g e = place-is NotSoLong (rw (g, ne-eqb (length image) (sectorSize * n) e))
+
+  pub place-past : goodN n ≡ true → length image ≡ sectorSize * n → packetCount image n ≤ p → Place·Is image n p NoneSuch
+  unfolding placedOf
+  place-past g e q = place-is NoneSuch (rw (g, eq-eqb (length image) (sectorSize * n) e, le-ltb p (packetCount image n) q))
+
+  pub place-found : {sector count : ℕ} → sector ≡ packetSector image n p → count ≡ packetCount image n → goodN n ≡ true → length image ≡ sectorSize * n
+      → p < packetCount image n → Place·Is image n p (At sector count)
+  unfolding placedOf
+  place-found {sector} {count} k c g e q =
+      place-is (At sector count)
+      (ap₂ At k c ∙ rw (g, eq-eqb (length image) (sectorSize * n) e, lt-ltb p (packetCount image n) q))
+
   frame-length : goodN n ≡ true → length image ≡ sectorSize * n → p < packetCount image n → length (packetFrame image n p) ≡ sectorSize + 7
   unfolding packetFrame
   frame-length g e q =

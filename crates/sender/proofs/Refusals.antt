@@ -11,11 +11,12 @@ use Rattle.buffer.proofs.Bools.{no-way}
 use Rattle.layout.specs.Layout.{sectorSize, goodN}
 use Rattle.layout.specs.Said.{number}
 use Rattle.sender.specs.declared.made.Made.the-variants.{BadN, BadLength, PastLast, Frame}
+use Rattle.sender.specs.declared.packet.Placed.the-variants.{BadN as NoN, BadLength as NotSoLong, PastLast as NoneSuch, At}
 use Rattle.sender.specs.declared.packet.Tally.the-variants.{BadN as NoBank, BadLength as NoImage, Packets}
 use Rattle.sender.specs.declared.request.Request.{Request}
 use Rattle.sender.specs.Made.{room, madeSaid, senderSays, roomFor}
 use Rattle.sender.specs.Request.{requestFrame, givenGood, requestMade, requestSays}
-use Rattle.sender.specs.Packet.{packetCount, packetFrame, imageGood, packetMade, packetSays, tallyOf, tallySaid, countSays}
+use Rattle.sender.specs.Packet.{packetCount, packetSector, packetFrame, imageGood, packetMade, packetSays, tallyOf, tallySaid, countSays, placedOf, placedSaid, placeSays}
 
 by-tests :
     (a b c : Bool) (n : ℕ) → madeSaid (cond a (cond b (cond c (Frame n) PastLast) BadLength) BadN) ≡ senderSays (not a) (not b) (not c) n
@@ -37,6 +38,16 @@ count-says image n = by (goodN n) (imageGood image n) (packetCount image n)
     by true true k = refl
     by true false k = refl
     by false b k = refl
+
+pub place-says : (image : List ℕ) (n p : ℕ) → placedSaid (placedOf image n p) ≡ placeSays image n p
+unfolding placedOf senderSays
+place-says image n p = by (goodN n) (imageGood image n) (ltb p (packetCount image n)) (packetSector image n p) (packetCount image n)
+  where
+    by : (a b c : Bool) (k m : ℕ) → placedSaid (cond a (cond b (cond c (At k m) NoneSuch) NotSoLong) NoN) ≡ senderSays (not a) (not b) (not c) k
+    by true true true k m = refl
+    by true true false k m = refl
+    by true false c k m = refl
+    by false b c k m = refl
 
 module _ (image : List ℕ) (n p size : ℕ) where
   pub packet-says : madeSaid (packetMade image n p size) ≡ packetSays image n p size

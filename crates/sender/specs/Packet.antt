@@ -14,6 +14,8 @@ use Rattle.layout.specs.Layout.{sectorSize, goodN, sectorOf}
 use Rattle.layout.specs.Said.{Said, number, value, code}
 use Rattle.sender.specs.declared.made.Made.{Made}
 use Rattle.sender.specs.declared.made.Made.the-variants.{BadN, BadLength, PastLast, Frame}
+use Rattle.sender.specs.declared.packet.Placed.{Placed}
+use Rattle.sender.specs.declared.packet.Placed.the-variants.{BadN as NoN, BadLength as NotSoLong, PastLast as NoneSuch, At}
 use Rattle.sender.specs.declared.packet.Seen.{Seen}
 use Rattle.sender.specs.declared.packet.Tally.{Tally}
 use Rattle.sender.specs.declared.packet.Tally.the-variants.{BadN as NoBank, BadLength as NoImage, Packets}
@@ -58,6 +60,22 @@ abbrev pub packetSays : List ℕ → ℕ → ℕ → ℕ → Said
 packetSays image n p size =
     senderSays (not (goodN n)) (not (imageGood image n && leb room size)) (not (ltb p (packetCount image n))) (length (packetFrame image n p))
 
+-- 3, 2, 5, and else the sector of packet p, and how many packets there are; the same in the paper's numbers, with the sector
+unfoldable pub placedOf : List ℕ → ℕ → ℕ → Placed
+placedOf image n p =
+    cond (goodN n)
+    (cond (imageGood image n) (cond (ltb p (packetCount image n)) (At (packetSector image n p) (packetCount image n)) NoneSuch) NotSoLong)
+    NoN
+
+abbrev pub placedSaid : Placed → Said
+placedSaid NoN = number 3
+placedSaid NotSoLong = number 2
+placedSaid NoneSuch = number 5
+placedSaid (At sector count) = value sector
+
+abbrev pub placeSays : List ℕ → ℕ → ℕ → Said
+placeSays image n p = senderSays (not (goodN n)) (not (imageGood image n)) (not (ltb p (packetCount image n))) (packetSector image n p)
+
 -- 3, 2, and else how many
 unfoldable pub tallyOf : List ℕ → ℕ → Tally
 tallyOf image n = cond (goodN n) (cond (imageGood image n) (Packets (packetCount image n)) NoImage) NoBank
@@ -80,6 +98,10 @@ seenOf image k p = record { count = packetCount image k; sector = packetSector i
 pub record Count·Is (image : List ℕ) (n : ℕ) (r : Tally) : Type 0 where
   pub answered : r ≡ tallyOf image n
   pub says : tallySaid r ≡ countSays image n
+
+pub record Place·Is (image : List ℕ) (n p : ℕ) (r : Placed) : Type 0 where
+  pub answered : r ≡ placedOf image n p
+  pub says : placedSaid r ≡ placeSays image n p
 
 pub record Packet·Is (image : List ℕ) (n p : ℕ) (before : List ℕ) (r : Made) (after : List ℕ) : Type 0 where
   pub answered : r ≡ packetMade image n p (length before)

@@ -8,7 +8,7 @@ ghost use mathlib.Core.Bool.{true};
 ghost use Prim.Native.Nat.{_+_, _*_, _<_, _≤_};
 ghost use lib.ListN.{length};
 ghost use Rattle.layout.specs.Layout.{sectorSize, goodN};
-ghost use Rattle.sender.specs.Packet.{seenOf, footerOf, TallyNumber·Is, Packet·Is, Count·Is};
+ghost use Rattle.sender.specs.Packet.{seenOf, footerOf, TallyNumber·Is, Packet·Is, Count·Is, Place·Is};
 
 // How many packets an image has.
 pub enum Tally {
@@ -28,6 +28,18 @@ pub fn tally_number(tally: Tally) -> usize
         Tally::BadLength => 2,
         Tally::Packets(count) => count,
     }
+}
+
+// Where a packet stands.
+pub enum Placed {
+    // No bank has so many sectors.
+    BadN,
+    // The image is not that many sectors long.
+    BadLength,
+    // There is no packet of that number.
+    PastLast,
+    // Its sector, and how many packets the image has.
+    At { sector: usize, count: usize },
 }
 
 // How many of the sectors that were looked at are sent, and the one that is packet p, or 0.
@@ -102,6 +114,25 @@ pub fn count(image: &[u8], n: usize) -> Tally
     }
     let seen = survey(image, n, 0);
     Tally::Packets(seen.count)
+}
+
+pub fn place(image: &[u8], n: usize, p: usize) -> Placed
+    ensures { λ r. ⌜ Place·Is (now (image .entry)) n p r ⌝ }
+{
+    if !layout::good_n(n) {
+        return Placed::BadN;
+    }
+    if image.len() != SECTOR * n {
+        return Placed::BadLength;
+    }
+    let seen = survey(image, n, p);
+    if seen.count <= p {
+        return Placed::PastLast;
+    }
+    Placed::At {
+        sector: seen.sector,
+        count: seen.count,
+    }
 }
 
 pub fn packet(image: &[u8], n: usize, p: usize, buffer: &mut [u8]) -> Made

@@ -1,0 +1,5 @@
+pub mod Call
+pub mod Judge
+pub mod Lent
+pub mod Name
+pub mod Record
