@@ -20,7 +20,7 @@ use Rattle.night.specs.declared.name.Name.the-variants.{ModeStart, Versi
 use Rattle.night.specs.declared.record.Why.the-variants.{WrongBank, Unknown}
 
 -- the result in a command's own response; 0, which is none, in any other
-unfoldable pub ownResult : Command → Response → ℕ
+abbrev pub ownResult : Command → Response → ℕ
 ownResult command Unreadable = 0
 ownResult command (Plain other result) = cond (eqb (responseCode other) (responseCode command)) result 0
 ownResult command (Error result) = 0
@@ -35,7 +35,7 @@ ownVerdict command repeated declined response =
     (cond (repeated && eqb (ownResult command response) 0x15) declined Spent)
 
 -- any ID and version
-unfoldable pub versionVerdict : Response → Verdict
+abbrev pub versionVerdict : Response → Verdict
 versionVerdict Unreadable = Spent
 versionVerdict (Plain command result) = Spent
 versionVerdict (Error result) = Spent
@@ -44,7 +44,7 @@ versionVerdict (Firmware id major minor revision) = Settled
 versionVerdict (Written sector response write crc) = Spent
 
 -- "stops at a bank that isn't the image's"
-unfoldable pub bankVerdict : Bank → Response → Verdict
+abbrev pub bankVerdict : Bank → Response → Verdict
 bankVerdict bank Unreadable = Spent
 bankVerdict bank (Plain command result) = Spent
 bankVerdict bank (Error result) = Spent
@@ -56,7 +56,7 @@ bankVerdict bank (Written sector response write crc) = Spent
 unfoldable pub fieldsAwaited : ℕ → ℕ → ℕ → ℕ → Bool
 fieldsAwaited sector number result write = eqb number sector && eqb result 0x06 && (eqb write 0x06 || eqb write 0x1D)
 
-unfoldable pub packetVerdict : List ℕ → ℕ → Response → Verdict
+abbrev pub packetVerdict : List ℕ → ℕ → Response → Verdict
 packetVerdict image sector Unreadable = Spent
 packetVerdict image sector (Plain command result) = Spent
 packetVerdict image sector (Error result) = Spent

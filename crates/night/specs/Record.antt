@@ -16,7 +16,7 @@ use Rattle.night.specs.declared.record.Stand.the-variants as stand
 use Rattle.night.specs.declared.record.Why.the-variants.{Tries}
 
 -- the request behind one that is settled, of an image with so many packets
-unfoldable pub followingOf : Name → ℕ → Stand
+abbrev pub followingOf : Name → ℕ → Stand
 followingOf ModeStart count = stand.At VersionInfo 1
 followingOf VersionInfo count = stand.At BankInfo 1
 followingOf BankInfo count = stand.At WriteStart 1

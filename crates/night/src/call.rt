@@ -37,12 +37,10 @@ fn goes_on(night: Night, image: &[u8], buffer: &mut [u8]) -> Called
     ensures { λ r. ⌜ GoesOn·Is night (now (image .entry)) (now (buffer .entry)) r (now (buffer .exit)) ⌝ }
 {
     let stand = night.stand;
+    let bank = night.bank;
     match stand {
         Stand::NotBegun => told(night, Next::NotBegun),
-        Stand::At { name, gone: _ } => told(
-            night,
-            make::make(name, night.bank, night.n, image, buffer),
-        ),
+        Stand::At { name, gone: _ } => told(night, make::make(name, bank, night.n, image, buffer)),
         Stand::Finished => told(night, Next::Finished),
         Stand::GaveUp { name, why } => told(night, Next::GaveUp { name, why }),
     }
@@ -52,7 +50,7 @@ fn goes_on(night: Night, image: &[u8], buffer: &mut [u8]) -> Called
 fn over(night: Night, p: usize, end: Next, image: &[u8], room: usize) -> Called
     ensures { λ r. ⌜ r ≡ overOf night p end (now (image .entry)) room ⌝ }
 {
-    match lent::looked(image, night.n, night.tries, room, p) {
+    match lent::look(image, night.n, night.tries, room, p) {
         Looked::Refused(why) => told(night, why),
         Looked::Good {
             sector: _,
@@ -71,7 +69,8 @@ fn at_hand(
 ) -> Called
     ensures { λ r. ⌜ AtHand·Is night name gone response (now (image .entry)) (now (buffer .entry)) r (now (buffer .exit)) ⌝ }
 {
-    match lent::looked(
+    let bank = night.bank;
+    match lent::look(
         image,
         night.n,
         night.tries,
@@ -80,7 +79,7 @@ fn at_hand(
     ) {
         Looked::Refused(why) => told(night, why),
         Looked::Good { sector, count } => {
-            let verdict = judge::judge(name, gone >= 2, night.bank, image, sector, response);
+            let verdict = judge::judge(name, gone >= 2, bank, image, sector, response);
             let stand = record::moved(name, gone, night.tries, count, verdict);
             goes_on(Night { stand, ..night }, image, buffer)
         }
@@ -109,7 +108,7 @@ fn step(night: Night, response: Response, image: &[u8], buffer: &mut [u8]) -> Ca
 pub fn start(image: &[u8], bank: Bank, n: usize, tries: usize, buffer: &mut [u8]) -> Called
     ensures { λ r. ⌜ Start·Is (now (image .entry)) bank n tries (now (buffer .entry)) r (now (buffer .exit)) ⌝ }
 {
-    match lent::looked(image, n, tries, buffer.len(), 0) {
+    match lent::look(image, n, tries, buffer.len(), 0) {
         Looked::Refused(why) => told(
             Night {
                 bank,

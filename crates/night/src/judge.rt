@@ -94,8 +94,8 @@ fn version(response: Response) -> Verdict
     }
 }
 
-fn bank(image_is_for: Bank, response: Response) -> Verdict
-    ensures { λ r. ⌜ r ≡ bankVerdict image_is_for response ⌝ }
+fn bank(ours: Bank, response: Response) -> Verdict
+    ensures { λ r. ⌜ r ≡ bankVerdict ours response ⌝ }
 {
     match response {
         Response::Unreadable => Verdict::Spent,
@@ -105,7 +105,7 @@ fn bank(image_is_for: Bank, response: Response) -> Verdict
         } => Verdict::Spent,
         Response::Error { result: _ } => Verdict::Spent,
         Response::Target { bank: target } => {
-            if layout::bank_number(target) == layout::bank_number(image_is_for) {
+            if layout::bank_number(target) == layout::bank_number(ours) {
                 Verdict::Settled
             } else {
                 Verdict::Stops(Why::WrongBank)
@@ -191,19 +191,19 @@ fn packet(image: &[u8], sector: usize, response: Response) -> Verdict
 pub(crate) fn judge(
     name: Name,
     repeated: bool,
-    image_is_for: Bank,
+    ours: Bank,
     image: &[u8],
     sector: usize,
     response: Response,
 ) -> Verdict
     requires { ⌜ goodN sector ≡ true ⌝ }
     requires { ⌜ sector * sectorSize ≤ length (now image) ⌝ }
-    ensures { λ r. ⌜ r ≡ judgeOf name repeated image_is_for (now (image .entry)) sector response ⌝ }
+    ensures { λ r. ⌜ r ≡ judgeOf name repeated ours (now (image .entry)) sector response ⌝ }
 {
     match name {
         Name::ModeStart => own(Command::ModeStart, repeated, Verdict::Settled, response),
         Name::VersionInfo => version(response),
-        Name::BankInfo => bank(image_is_for, response),
+        Name::BankInfo => bank(ours, response),
         Name::WriteStart => own(Command::WriteStart, repeated, Verdict::Settled, response),
         Name::Packet(_) => packet(image, sector, response),
         Name::WriteEnd => own(

@@ -31,7 +31,7 @@ fn room_given(room: usize, tries: usize, found: Looked) -> Looked
     found
 }
 
-pub(crate) fn looked(image: &[u8], n: usize, tries: usize, room: usize, p: usize) -> Looked
+pub(crate) fn look(image: &[u8], n: usize, tries: usize, room: usize, p: usize) -> Looked
     ensures { λ r. ⌜ r ≡ lookedOf (now (image .entry)) n tries room p ⌝ }
 {
     match sender::packet::place(image, n, p) {

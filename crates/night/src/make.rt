@@ -40,7 +40,7 @@ pub(crate) fn make(name: Name, bank: Bank, n: usize, image: &[u8], buffer: &mut 
             name,
             sender::request::make(Request::WriteStart { bank, n }, buffer),
         ),
-        Name::Packet(p) => sent(name, sender::packet::packet(image, n, p, buffer)),
+        Name::Packet(p) => sent(Name::Packet(p), sender::packet::packet(image, n, p, buffer)),
         Name::WriteEnd => sent(name, sender::request::make(Request::WriteEnd, buffer)),
         Name::ModeEnd => sent(name, sender::request::make(Request::ModeEnd, buffer)),
     }

@@ -54,6 +54,11 @@ module _ (code : ℕ) (parameters before : List ℕ) where
         stands = p ∙ control-fits before code parameters l ∙ ap (λ (m : Made). bufferAfter m before frame) e;
       }
 
+-- a request whose N is good, where there is room
+pub request-made : (request : Request) (size : ℕ) → givenGood request ≡ true → room ≤ size → requestMade request size ≡ Frame (length (requestFrame request))
+unfolding requestMade roomFor
+request-made request size g h = rw (g, le-leb room size h)
+
 -- what is answered and what stands is all: what it says follows
 request-is : (request : Request) (before after : List ℕ) (r : Made) → r ≡ requestMade request (length before)
     → after ≡ bufferAfter (requestMade request (length before)) before (requestFrame request) → Request·Is request before r after

@@ -9,6 +9,7 @@ use native.Mathlib.Numerals.{add-one}
 use native.Mathlib.Omega.{arith}
 use lib.ListN.{length, getD, take, drop, length-append, List·getD-append, List·getD-eq-default}
 use lib.Seq.{getD-at}
+use lib.Dec.{ltb}
 use borrow.Author.Tests.{eq-eqb, ne-eqb, le-leb, lt-leb, lt-ltb, le-ltb}
 use Rattle.buffer.specs.Compare.{blankOf}
 use Rattle.buffer.specs.Place.{frontOf}
@@ -34,6 +35,7 @@ use Rattle.sender.specs.Packet.{
   footerOf,
   packetFrame,
   packetMade,
+  imageGood,
   tallyOf,
   tallySaid,
   seenOf,
@@ -196,6 +198,12 @@ module _ (image : List ℕ) (n : ℕ) where
   tally-packets {count} q g e = count-is (Packets count) (ap Packets q ∙ rw (g, eq-eqb (length image) (sectorSize * n) e))
 
 module _ (image : List ℕ) (n p : ℕ) where
+  -- where it stands, as the crates above take it
+  pub placed-is : placedOf image n p
+      ≡ cond (goodN n) (cond (imageGood image n) (cond (ltb p (packetCount image n)) (At (packetSector image n p) (packetCount image n)) NoneSuch) NotSoLong) NoN
+  unfolding placedOf
+  placed-is = refl
+
   place-is : (r : Placed) → r ≡ placedOf image n p → Place·Is image n p r
   place-is r e = record { answered = e; says = ap placedSaid e ∙ place-says image n p }
 
@@ -249,6 +257,10 @@ module _ (image : List ℕ) (n p : ℕ) where
       made-frame h q =
           rw (g, eq-eqb (length image) (sectorSize * n) e, le-leb room size h, lt-ltb p (packetCount image n) q)
           (ap Frame (sym (frame-length g e q)))
+
+      -- a packet that there is, where there is room
+      pub packet-made : room ≤ size → p < packetCount image n → packetMade image n p size ≡ Frame (length (packetFrame image n p))
+      packet-made h q = sym (made-frame h q) ∙ ap Frame (sym (frame-length g e q))
 
   -- what is answered and what stands is all: what it says follows
   packet-is : (before after : List ℕ) (m : Made) → m ≡ packetMade image n p (length before)
