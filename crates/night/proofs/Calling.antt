@@ -1,20 +1,17 @@
 -- Each way out of a call.
 -- Assumes nothing.
 use mathlib.Core.Path.{_≡_, refl, sym, ap, subst, _∙_}
-use mathlib.Core.Bool.{true}
 use mathlib.Core.List.{List}
-use Prim.Native.Nat.{ℕ, _+_, _≤_, _<_}
+use Prim.Native.Nat.{ℕ, _+_, _<_}
 use native.Mathlib.Omega.{arith}
 use lib.Dec.{leb, ltb}
 use lib.ListN.{length}
 use borrow.Author.Tests.{ltb-true}
-use Rattle.buffer.specs.Place.{frontOf}
 use Rattle.buffer.proofs.Bools.{split}
 use Rattle.layout.specs.declared.Bank.{Bank}
 use Rattle.layout.specs.Layout.{goodN}
 use Rattle.response.specs.declared.read.Response.{Response}
-use Rattle.sender.specs.Made.{room}
-use Rattle.sender.specs.Packet.{packetCount, packetSector, imageGood}
+use Rattle.sender.specs.Packet.{packetCount}
 use Rattle.night.specs.declared.judge.Verdict.{Verdict}
 use Rattle.night.specs.declared.judge.Verdict.the-variants.{Settled, Spent, Stops}
 use Rattle.night.specs.declared.lent.Looked.{Looked}
@@ -53,9 +50,9 @@ use Rattle.night.specs.Call.{
 }
 use Rattle.night.specs.Judge.{judgeOf}
 use Rattle.night.specs.Lent.{triesGood, lengthsGood, lookedOf}
-use Rattle.night.specs.Name.{numberOf, frameOf}
+use Rattle.night.specs.Name.{numberOf}
 use Rattle.night.specs.Record.{followingOf, againOf, movedOf, standing, nextNumber}
-use Rattle.night.proofs.Lending.{Lent, lent, says-refused, says-good}
+use Rattle.night.proofs.Lending.{says-refused, says-good}
 
 -- ---- where the record moves there is a packet
 

@@ -1,6 +1,6 @@
 -- What is lent, looked at: each refusal, and what is known where nothing is refused.
 -- Assumes nothing.
-use mathlib.Core.Path.{_≡_, refl, sym, ap, _∙_}
+use mathlib.Core.Path.{_≡_, refl, ap, _∙_}
 use mathlib.Core.Bool.{Bool, true, false, not, _&&_, cond}
 use mathlib.Core.List.{List}
 use Prim.Native.Nat.{ℕ, _*_, _≤_, _<_}
@@ -8,7 +8,7 @@ use native.Mathlib.Omega.{arith}
 use lib.Dec.{leb, ltb}
 use lib.ListN.{length}
 use borrow.Author.Tests.{eqb-true, le-leb, lt-leb, leb-true, ltb-true}
-use Rattle.buffer.proofs.Bools.{and-left, and-right, no-way}
+use Rattle.buffer.proofs.Bools.{no-way}
 use Rattle.layout.specs.Layout.{sectorSize, goodN}
 use Rattle.layout.proofs.Layouts.{good-below}
 use Rattle.sender.specs.declared.packet.Placed.{Placed}

@@ -19,7 +19,6 @@ ghost use lib.ListN.{length};
 ghost use Rattle.layout.specs.Layout.{goodN};
 ghost use Rattle.sender.specs.Made.{room};
 ghost use Rattle.sender.specs.Packet.{imageGood, packetCount};
-ghost use Rattle.night.specs.Name.{numberOf};
 ghost use Rattle.night.specs.Call.{called, standsAt, overOf, GoesOn·Is, AtHand·Is, Step·Is, Start·Is, Heard·Is, Silent·Is};
 
 fn told(night: Night, next: Next) -> Called

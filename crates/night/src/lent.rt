@@ -3,7 +3,6 @@ use crate::record::Next;
 use sender::made::ROOM;
 use sender::packet::Placed;
 ghost use mathlib.Core.Path.{_≡_};
-ghost use lib.ListN.{length};
 ghost use Rattle.night.specs.Lent.{triesGood, roomGiven, lookedOf};
 
 pub(crate) enum Looked {

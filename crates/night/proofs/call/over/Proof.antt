@@ -1,6 +1,6 @@
 -- `night::call::over` meets its contract: each way out is a case of the definition.
 -- Assumes nothing.
-use mathlib.Core.Path.{sym, ap, _∙_}
+use mathlib.Core.Path.{sym, _∙_}
 use Rattle.night.proofs.Calling.{over-refused, over-told}
 use borrow.Author.Needs.{needs}
 use Rattle.night.proofs.call.over.Statement.{statement}

@@ -1,6 +1,5 @@
 -- `night::judge::written` meets its contract: each way out is a case of the definition.
 -- Assumes nothing.
-use mathlib.Core.Path.{sym, _∙_}
 use borrow.Author.Tests.{not-true, not-false}
 use Rattle.night.proofs.Judging.{fields-other, crc-same, crc-other}
 use borrow.Author.Needs.{needs}

@@ -1,6 +1,6 @@
 -- `night::make::sent` meets its contract: each way out is a case of the definition.
 -- Assumes nothing.
-use mathlib.Core.Path.{sym, ap, _∙_}
+use mathlib.Core.Path.{sym, ap}
 use Rattle.night.specs.Call.{sentBy}
 use borrow.Author.Needs.{needs}
 use Rattle.night.proofs.make.sent.Statement.{statement}

@@ -1,6 +1,5 @@
 -- `night::record::again` meets its contract: each way out is a case of the definition.
 -- Assumes nothing.
-use native.Mathlib.Omega.{arith}
 use Rattle.night.proofs.Moving.{goes-again, given-up}
 use borrow.Author.Needs.{needs}
 use Rattle.night.proofs.record.again.Statement.{statement}
