@@ -10,6 +10,7 @@ pub mod EndToEnd
 pub mod Examples
 pub mod Fresh
 pub mod New
+pub mod Night
 pub mod Packets
 pub mod Requests
 pub mod Responses

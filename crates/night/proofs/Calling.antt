@@ -56,7 +56,7 @@ use Rattle.night.proofs.Lending.{says-refused, says-good}
 
 -- ---- where the record moves there is a packet
 
-following-there : (name : Name) (count : ℕ) → numberOf name < count → standsAt (followingOf name count) < count
+pub following-there : (name : Name) (count : ℕ) → numberOf name < count → standsAt (followingOf name count) < count
 following-there ModeStart count h = h
 following-there VersionInfo count h = h
 following-there BankInfo count h = h
@@ -66,7 +66,7 @@ following-there (Packet p) count h =
 following-there WriteEnd count h = h
 following-there ModeEnd count h = h
 
-moved-there : (name : Name) (gone tries count : ℕ) (verdict : Verdict) → numberOf name < count → standsAt (movedOf name gone tries count verdict) < count
+pub moved-there : (name : Name) (gone tries count : ℕ) (verdict : Verdict) → numberOf name < count → standsAt (movedOf name gone tries count verdict) < count
 unfolding againOf
 moved-there name gone tries count Settled h = following-there name count h
 moved-there name gone tries count Spent h = split (λ (s : Stand). standsAt s < count) (ltb gone tries) (λ _. h) (λ _. h)

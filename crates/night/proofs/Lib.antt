@@ -1,4 +1,5 @@
 pub mod Calling
+pub mod Going
 pub mod Judging
 pub mod Lending
 pub mod Making
