@@ -1,4 +1,5 @@
 pub mod Acknowledging
+pub mod Arriving
 pub mod Asking
 pub mod Banks
 pub mod Bytes
