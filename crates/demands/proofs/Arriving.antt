@@ -1,14 +1,12 @@
--- What comes of a datagram on any board, whatever it lends: it is refused, or the first row behind the frame's whose test holds. And what an answer says
--- to the night sender.
+-- What comes of a datagram on any board, whatever it lends: it is refused, or the first row behind the frame's whose test holds decides.
 -- Assumes nothing.
 use mathlib.Core.Path.{_≡_, refl, sym, ap, subst, _∙_}
-use mathlib.Core.Bool.{Bool, true, false, not, _&&_, _||_}
+use mathlib.Core.Bool.{Bool, true, false, cond, false≢true}
 use mathlib.Core.List.{List, [], _∷_}
-use mathlib.Core.Option.{some}
+use mathlib.Core.Option.{Option, none, some}
 use Prim.Native.Nat.{ℕ, _≤_}
 use lib.Dec.{eqb}
 use lib.ListN.{length}
-use Rattle.buffer.proofs.Bools.{no-way}
 use Rattle.frame.specs.Read.{readOf}
 use Rattle.layout.specs.Layout.{goodN, bankSize}
 use Rattle.layout.specs.Pair.{bankIn}
@@ -16,11 +14,38 @@ use Rattle.exchange.specs.State.{isClosed}
 use Rattle.decision.specs.Plan.{lentGood}
 use Rattle.decision.proofs.Planning.{lent}
 use Rattle.calls.specs.Call.{Board}
-use Rattle.demands.specs.Board.{LentCall, Datagram, Outcome, lentOf, lentTarget, stepMachine}
-use Rattle.demands.specs.Demand1.{firstOf, isFault, refused, afterFrame, callRows}
+use Rattle.demands.specs.Board.{LentCall, Input, Datagram, Outcome, lentOf, lentTarget, stepMachine}
+use Rattle.demands.specs.Demand1.{Row, firstOf, isFault, refused, afterFrame, callRows, tableOf}
 use Rattle.demands.proofs.Demand1.{table}
-use Rattle.demands.proofs.Reading.{Every, first-of}
-use Rattle.demands.proofs.Rows.{Heard, comes}
+use Rattle.demands.proofs.Rows.{Heard, given, comes}
+
+-- ---- rows, one behind the other: each where its test holds and none before it did
+
+pub data First (P : Outcome → Type 0) : List Row → Type 0 where
+  last : First P []
+  first : {r : Row} {rows : List Row} → (r .when ≡ true → P (r .comes)) → (r .when ≡ false → First P rows) → First P (r ∷ rows)
+
+pub skip : {P : Outcome → Type 0} {r : Row} {rows : List Row} → r .when ≡ false → First P rows → First P (r ∷ rows)
+skip e rest = first (λ t. absurd (false≢true (sym e ∙ t))) (λ _. rest)
+
+isSome : Option Outcome → Bool
+isSome none = false
+isSome (some o) = true
+
+pub first-of : (P : Outcome → Type 0) (rows : List Row) (o : Outcome) → First P rows → firstOf rows ≡ some o → P o
+unfolding isSome
+first-of P [] o last e = absurd (false≢true (ap isSome e))
+first-of P (r ∷ rows) o (first h hs) e = by (r .when) refl (λ f. first-of P rows o (hs f))
+  where
+    by : (t : Bool) → r .when ≡ t → (r .when ≡ false → firstOf rows ≡ some o → P o) → P o
+    by true t rest = subst P (ap (given o) (sym (ap (λ (x : Bool). cond x (some (r .comes)) (firstOf rows)) t) ∙ e)) (h t)
+    by false t rest = rest t (sym (ap (λ (x : Bool). cond x (some (r .comes)) (firstOf rows)) t) ∙ e)
+
+-- a host command, by its own rows
+pub hosted : (P : Outcome → Type 0) (b : Board) (i : Input) → First P (tableOf b i) → P (stepMachine b i)
+hosted P b i rows = first-of P (tableOf b i) (stepMachine b i) rows (table b i)
+
+-- ---- a datagram
 
 module _ (b : Board) (call : LentCall) where
   abbrev runs : Bool
@@ -34,8 +59,8 @@ module _ (b : Board) (call : LentCall) where
       lent (b .client .fixed .n) (length (lentTarget b call)) (length (call .marks)) (length (call .address)) (length (call .buffer)) (h .lengths) .roomy
 
   pub came : (P : Outcome → Type 0) → ((number : ℕ) → P (refused b (call .buffer) number)) → isFault (readOf (call .datagram)) ≡ false
-      → (Heard b call → Every P (afterFrame b call (readOf (call .datagram)))) → P (stepMachine b (Datagram call))
-  came P r f every = by (goodN (b .client .fixed .n)) runs lengths (isClosed (b .client .state)) refl refl refl refl
+      → (Heard b call → First P (afterFrame b call (readOf (call .datagram)))) → P (stepMachine b (Datagram call))
+  came P r f rows = by (goodN (b .client .fixed .n)) runs lengths (isClosed (b .client .state)) refl refl refl refl
     where
       refuses : (k : ℕ) → firstOf (callRows b call) ≡ some (refused b (call .buffer) k) → P (stepMachine b (Datagram call))
       refuses k e = subst P (sym (comes b (Datagram call) (refused b (call .buffer) k) e)) (r k)
@@ -48,5 +73,5 @@ module _ (b : Board) (call : LentCall) where
       by true true true false eg eu el ec =
           let rest : firstOf (callRows b call) ≡ firstOf (afterFrame b call (readOf (call .datagram))) = rw (eg, eu, el, ec, f) in
           first-of P (afterFrame b call (readOf (call .datagram))) (stepMachine b (Datagram call))
-          (every (record { good = eg; runs = eu; lengths = el; live = ec }))
+          (rows (record { good = eg; runs = eu; lengths = el; live = ec }))
           (sym rest ∙ table b (Datagram call))

@@ -110,7 +110,7 @@ written-short sector result write crc = answer-short (Written sector result writ
 
 -- ---- a whole sector
 
-padded-whole : (bytes : List ℕ) → length bytes ≡ 512 → paddedOf bytes ≡ bytes
+pub padded-whole : (bytes : List ℕ) → length bytes ≡ 512 → paddedOf bytes ≡ bytes
 unfolding paddedOf
 padded-whole bytes e = rw e (append-nil bytes)
 

@@ -16,6 +16,7 @@ pub mod Fresh
 pub mod Latest
 pub mod Lending
 pub mod New
+pub mod NightBoard
 pub mod Packets
 pub mod Reading
 pub mod Requests

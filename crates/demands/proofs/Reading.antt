@@ -113,7 +113,7 @@ small d bytes sector m footer e =
 -- ---- the rows
 
 -- what the first row that holds brings
-pub data Every (P : Outcome → Type 0) : List Row → Type 0 where
+data Every (P : Outcome → Type 0) : List Row → Type 0 where
   last : Every P []
   every : {r : Row} {rows : List Row} → (r .when ≡ true → P (r .comes)) → Every P rows → Every P (r ∷ rows)
 
@@ -121,7 +121,7 @@ isSome : Option Outcome → Bool
 isSome none = false
 isSome (some o) = true
 
-pub first-of : (P : Outcome → Type 0) (rows : List Row) (o : Outcome) → Every P rows → firstOf rows ≡ some o → P o
+first-of : (P : Outcome → Type 0) (rows : List Row) (o : Outcome) → Every P rows → firstOf rows ≡ some o → P o
 unfolding isSome
 first-of P [] o last e = absurd (false≢true (ap isSome e))
 first-of P (r ∷ rows) o (every h hs) e = by (r .when) refl (first-of P rows o hs)
@@ -131,7 +131,7 @@ first-of P (r ∷ rows) o (every h hs) e = by (r .when) refl (first-of P rows o 
     by false t rest = rest (sym (ap (λ (x : Bool). cond x (some (r .comes)) (firstOf rows)) t) ∙ e)
 
 -- a row whose test does not hold
-pub never : {P : Outcome → Type 0} {r : Row} {rows : List Row} → r .when ≡ false → Every P rows → Every P (r ∷ rows)
+never : {P : Outcome → Type 0} {r : Row} {rows : List Row} → r .when ≡ false → Every P rows → Every P (r ∷ rows)
 never e rest = every (λ t. absurd (false≢true (sym e ∙ t))) rest
 
 bank-readable : (bank : Bank) → Readable (controlFrame 0x72 (0x06 ∷ bankNumber bank ∷ []))
@@ -142,11 +142,11 @@ unfolding bytesOf
 version-readable major minor revision h =
     back (controlFrame 0x78 (versionBytes major minor revision)) (Firmware 0x0400 major minor revision) (version-back 0x0400 major minor revision (omega arith) h) refl refl
 
-bank-short : (bank : Bank) → length (controlFrame 0x72 (0x06 ∷ bankNumber bank ∷ [])) ≤ 14
+pub bank-short : (bank : Bank) → length (controlFrame 0x72 (0x06 ∷ bankNumber bank ∷ [])) ≤ 14
 unfolding answerBytes
 bank-short bank = answer-short (BankIs bank)
 
-version-short : (major minor revision : ℕ) → length (controlFrame 0x78 (versionBytes major minor revision)) ≤ 14
+pub version-short : (major minor revision : ℕ) → length (controlFrame 0x78 (versionBytes major minor revision)) ≤ 14
 unfolding answerBytes
 version-short major minor revision = answer-short (VersionIs major minor revision)
 

@@ -1,0 +1,727 @@
+-- What a board does with the requests of a night, whatever is lent with them, and with its host's commands: a session that shows nothing but sectors of the
+-- image stays one, and what an answer says to the night sender is so.
+-- Assumes nothing.
+use mathlib.Core.Path.{_≡_, refl, sym, ap, ap₂, subst, _∙_}
+use mathlib.Core.Logic.{_⊎_, inl, inr}
+use mathlib.Core.Bool.{Bool, true, false, not, _&&_, _||_, or-true, false≢true}
+use mathlib.Core.List.{List, [], _∷_, _++_}
+use Prim.Native.Nat.{ℕ, zero, suc, _+_, _-_, _*_, _^_, _≤_, _<_}
+use native.Mathlib.Decide.{ℕ-discrete}
+use native.Mathlib.Omega.{arith}
+use lib.Dec.{eqb}
+use lib.ListN.{length, take}
+use lib.Seq.{length-take-le}
+use borrow.Author.Tests.{eqb-true, not-false}
+use Rattle.buffer.specs.Compare.{blankOf, sameOf}
+use Rattle.buffer.specs.Number.{bytesOf, numberAt}
+use Rattle.buffer.specs.Place.{frontOf}
+use Rattle.buffer.proofs.Bools.{and-left, and-right, no-way}
+use Rattle.crc.specs.Crc.{crcOf}
+use Rattle.crc.proofs.Laws.{of-lt}
+use Rattle.frame.specs.Frame.{framed, controlFrame, writeFrame}
+use Rattle.frame.specs.Read.{readOf, parametersIn, dataIn}
+use Rattle.frame.specs.declared.read.Footer.{Footer}
+use Rattle.frame.specs.declared.read.Footer.the-variants.{End}
+use Rattle.frame.specs.declared.read.Read.{Read}
+use Rattle.frame.specs.declared.read.Read.the-variants.{Control, Write}
+use Rattle.flash.specs.Bank.{withSector, blankSector}
+use Rattle.flash.specs.Sector.{paddedOf}
+use Rattle.flash.proofs.Blanks.{blank-whole, sector-blanks}
+use Rattle.flash.proofs.Sectors.{Lies, ext-sector, with-here, with-other}
+use Rattle.flash.proofs.Sweeps.{length-sweep}
+use Rattle.layout.specs.declared.Bank.{Bank}
+use Rattle.layout.specs.Layout.{goodN, bankSize, bankNumber, otherOf, startOf, endOf, sectorOf}
+use Rattle.layout.proofs.Layouts.{good-high}
+use Rattle.commands.specs.declared.Command.{Command}
+use Rattle.commands.specs.declared.Command.the-variants as command
+use Rattle.commands.specs.Command.{responseCode}
+use Rattle.response.specs.declared.read.Response.{Response}
+use Rattle.response.specs.declared.read.Response.the-variants.{Unreadable, Plain, Error, Target, Firmware, Written}
+use Rattle.response.specs.Response.{mayCarry, addedOf, repeatsOf, storedOf, crcFits, responseIn, responseOf}
+use Rattle.response.proofs.Answers.{plain-back, error-back, bank-back, version-back, written-back}
+use Rattle.sender.specs.declared.request.Request.the-variants as request
+use Rattle.sender.specs.Packet.{packetCount, packetSector, footerOf, packetFrame}
+use Rattle.sender.specs.Request.{requestFrame}
+use Rattle.sender.proofs.Image.{SentAt, used-sent, packet-read, packet-data}
+use Rattle.sender.proofs.Packets.{Sent, sent-in, sector-length}
+use Rattle.exchange.specs.declared.state.State.{State}
+use Rattle.exchange.specs.declared.state.State.the-variants as state
+use Rattle.exchange.specs.Answer.{versionBytes, writtenBytes, answerBytes}
+use Rattle.client.specs.Perform.{Accepted, storeResult}
+use Rattle.client.specs.declared.notice.Kind.the-variants.{Started, Ended}
+use Rattle.client.specs.declared.notice.Notice.{Notice}
+use Rattle.client.specs.declared.record.Client.{Client}
+use Rattle.client.specs.Notice.{noNotice, noticeWith, latestNumber}
+use Rattle.client.specs.Record.{starting, initiated, terminated, opened, modeEnded, begun, ended}
+use Rattle.client.specs.declared.record.Latest.the-variants.{Good}
+use Rattle.decision.specs.declared.plan.Fixed.{Fixed}
+use Rattle.calls.proofs.Courses.{accepted, not-write}
+use Rattle.calls.specs.Call.{Board, board}
+use Rattle.demands.specs.Board.{LentCall, Input, Initiate, Terminate, Datagram, Outcome, said, targetBank, sectorsIn, lentTarget, stepMachine}
+use Rattle.demands.specs.Demand1.{acceptedIn, takesPackets, isFault, parameterError, hostDone, answered, changed, stored, packetStored, sweptTarget, refused, afterFrame}
+use Rattle.demands.specs.Session.{isBegin, isStored, endsSession, allBlank, exchanged, noted}
+use Rattle.night.specs.declared.name.Name.{Name}
+use Rattle.night.specs.declared.name.Name.the-variants.{ModeStart, VersionInfo, BankInfo, WriteStart, Packet, WriteEnd, ModeEnd}
+use Rattle.night.specs.Name.{numberOf, frameOf}
+use Rattle.demands.specs.Night.{Startable, AnyVersion, version}
+use Rattle.demands.proofs.Arriving.{First, last, first, skip, hosted, roomy, came}
+use Rattle.demands.proofs.Asking.{request-read, start-read, pairGood, start-tells}
+use Rattle.demands.proofs.Demand1.{parameter-bytes}
+use Rattle.demands.proofs.Demand2.{said-back, control-short, written-short, padded-whole, begins-blank}
+use Rattle.demands.proofs.Bytes.{written-begin, written-stored}
+use Rattle.demands.proofs.Reading.{bank-short, version-short}
+use Rattle.demands.proofs.Rows.{Heard}
+use Rattle.demands.proofs.Sessions.{Session, Shows, step-shows, step-closes}
+use Rattle.demands.proofs.Steps.{machine-stays}
+
+-- ---- when a request may go out: before the packets, or behind them
+
+abbrev pub isEarly : Name → Bool
+isEarly ModeStart = true
+isEarly VersionInfo = true
+isEarly BankInfo = true
+isEarly WriteStart = true
+isEarly (Packet p) = false
+isEarly WriteEnd = false
+isEarly ModeEnd = false
+
+abbrev pub isEnding : Name → Bool
+isEnding ModeStart = false
+isEnding VersionInfo = false
+isEnding BankInfo = false
+isEnding WriteStart = false
+isEnding (Packet p) = false
+isEnding WriteEnd = true
+isEnding ModeEnd = true
+
+-- ---- what an answer may tell the night sender of the board
+
+-- neither a version, nor a sector stored, nor a session ended with 06
+abbrev isEnd : Command → Bool
+isEnd command.ModeStart = false
+isEnd command.BankInfo = false
+isEnd command.VersionInfo = false
+isEnd command.WriteStart = false
+isEnd command.WriteEnd = true
+isEnd command.ModeEnd = false
+
+abbrev idle : Response → Bool
+idle Unreadable = true
+idle (Plain c r) = not (isEnd c && eqb r 0x06)
+idle (Error r) = true
+idle (Target x) = true
+idle (Firmware id major minor revision) = false
+idle (Written s r w crc) = not (eqb r 0x06 && (eqb w 0x06 || eqb w 0x1D))
+
+empty-idle : idle (responseOf []) ≡ true
+unfolding readOf responseIn
+empty-idle = refl
+
+-- ---- the sessions of this image
+
+module _ (image : List ℕ) (bank : Bank) (n : ℕ) where
+  -- a session for this bank and N, which shows sectors of the image and 0xFF
+  pub record Ours (b : Board) (g : List ℕ) : Type 0 where
+    pub session : Session b g
+    pub sectors : b .client .fixed .n ≡ n
+    pub target : otherOf (b .client .fixed .running) ≡ bank
+    pub made : (s : ℕ) → 1 ≤ s → s ≤ n → (sectorOf g s ≡ sectorOf image s) ⊎ (sectorOf g s ≡ blankSector)
+
+  abbrev pub Clean : Board → List ℕ → Type 0
+  Clean b g = b .client .state ≡ state.Write → Ours b g
+
+  -- the update is in, and no session is under way
+  pub record Done (b : Board) : Type 0 where
+    pub sectors : b .client .fixed .n ≡ n
+    pub target : otherOf (b .client .fixed .running) ≡ bank
+    pub is-image : sectorsIn n b ≡ image
+    pub starts-next : b .client .next ≡ bank
+    pub resting : b .client .state ≡ state.Write → ⊥
+
+  -- each sector that is sent is shown
+  abbrev pub AllIn : List ℕ → Type 0
+  AllIn g = (q : ℕ) → q < packetCount image n → sectorOf g (packetSector image n q) ≡ sectorOf image (packetSector image n q)
+
+  -- what a response of this board says, where the request of this name arrived: before it g was shown, and now h is
+  abbrev pub Says : Name → Board → List ℕ → Board → List ℕ → Response → Type 0
+  Says k b g c h Unreadable = Unit {0}
+  Says k b g c h (Plain command.ModeStart r) = Unit {0}
+  Says k b g c h (Plain command.BankInfo r) = Unit {0}
+  Says k b g c h (Plain command.VersionInfo r) = Unit {0}
+  Says k b g c h (Plain command.WriteStart r) = Unit {0}
+  Says k b g c h (Plain command.WriteEnd r) = r ≡ 0x06 → (k ≡ WriteEnd) × ((b .client .state ≡ state.Write) × (Clean b g → AllIn g → Done c))
+  Says k b g c h (Plain command.ModeEnd r) = Unit {0}
+  Says k b g c h (Error r) = Unit {0}
+  Says k b g c h (Target x) = Unit {0}
+  Says k b g c h (Firmware id major minor revision) = Clean c h
+  Says k b g c h (Written s r w crc) =
+      Clean b g → r ≡ 0x06 → Accepted w → (isEarly k ≡ false) × (c .client .state ≡ state.Write → sectorOf h s ≡ sectorOf image s)
+
+  -- what one input does while the request of this name is at hand
+  pub record Moves (k : Name) (b : Board) (g : List ℕ) (o : Outcome) (h : List ℕ) : Type 0 where
+    pub clean : Clean b g → Clean (o .board) h
+    pub kept : isEarly k ≡ false → Clean b g → o .board .client .state ≡ state.Write
+        → (b .client .state ≡ state.Write) × ((s : ℕ) → 1 ≤ s → s ≤ n → sectorOf g s ≡ sectorOf image s → sectorOf h s ≡ sectorOf image s)
+    pub done : isEnding k ≡ true → Done b → Done (o .board)
+    pub says : Says k b g (o .board) h (responseOf (said o))
+
+-- ---- answers that tell nothing
+
+plain-idle : (c : Command) (r : ℕ) → mayCarry false r ≡ true → addedOf c r ≡ 0 → idle (Plain c r) ≡ true → idle (responseOf (controlFrame (responseCode c) (r ∷ []))) ≡ true
+plain-idle c r m z i = ap idle (sym (plain-back c r m z)) ∙ i
+
+error-idle : idle (responseOf parameterError) ≡ true
+unfolding mayCarry
+error-idle = ap (λ (l : List ℕ). idle (responseOf l)) (sym parameter-bytes) ∙ ap idle (sym (error-back 0x05 refl))
+
+declined-idle : (s : ℕ) → s < 65536 → idle (responseOf (writeFrame s (writtenBytes 0x15 0x15 0) End)) ≡ true
+unfolding mayCarry repeatsOf crcFits
+declined-idle s h = ap idle (sym (written-back s 0x15 0x15 0 h (omega arith) refl refl refl refl))
+
+worn-idle : (s : ℕ) → s < 65536 → idle (responseOf (writeFrame s (writtenBytes 0x06 0x1C 0) End)) ≡ true
+unfolding mayCarry repeatsOf crcFits
+worn-idle s h = ap idle (sym (written-back s 0x06 0x1C 0 h (omega arith) refl refl refl refl))
+
+stored-back : (s w crc : ℕ) → s < 65536 → crc < 2 ^ 32 → Accepted w → responseOf (writeFrame s (writtenBytes 0x06 w crc) End) ≡ Written s 0x06 w crc
+unfolding mayCarry repeatsOf crcFits storedOf
+stored-back s w crc h c (inl e) = rw e (sym (written-back s 0x06 0x06 crc h c refl refl refl (or-true (eqb crc 0))))
+stored-back s w crc h c (inr e) = rw e (sym (written-back s 0x06 0x1D crc h c refl refl refl (or-true (eqb crc 0))))
+
+-- a write response that tells of no sector stored
+other-stored : (s r w crc : ℕ) → (eqb r 0x06 && (eqb w 0x06 || eqb w 0x1D)) ≡ false → isStored (writeFrame s (writtenBytes r w crc) End) ≡ false
+unfolding writeFrame framed bytesOf
+other-stored s r w crc e = e
+
+stored-shows : (n : ℕ) (g datagram : List ℕ) (s w crc : ℕ) (footer : Footer) → Accepted w → readOf datagram ≡ Write s 512 footer
+    → exchanged n g datagram (writeFrame s (writtenBytes 0x06 w crc) End) ≡ withSector g s (paddedOf (dataIn datagram))
+unfolding answerBytes
+stored-shows n g datagram s w crc footer a e = rw (written-begin s 0x06 w crc, written-stored s w crc a, e)
+
+ends-so : endsSession (controlFrame 0x75 (0x06 ∷ [])) ≡ true
+unfolding controlFrame framed
+ends-so = refl
+
+-- ---- states
+
+in-control : (s : State) (code : ℕ) → acceptedIn state.Idle code ≡ false → acceptedIn state.Write code ≡ false → acceptedIn s code ≡ true → s ≡ state.Control
+in-control state.Closed code i w e = absurd (false≢true e)
+in-control state.Idle code i w e = absurd (false≢true (sym i ∙ e))
+in-control state.Control code i w e = refl
+in-control state.Write code i w e = absurd (false≢true (sym w ∙ e))
+
+in-write : (s : State) → takesPackets s ≡ true → s ≡ state.Write
+in-write state.Closed e = absurd (false≢true e)
+in-write state.Idle e = absurd (false≢true e)
+in-write state.Control e = absurd (false≢true e)
+in-write state.Write e = refl
+
+ends-write : (s : State) → acceptedIn s 0x45 ≡ true → s ≡ state.Write
+ends-write state.Closed e = absurd (false≢true e)
+ends-write state.Idle e = absurd (false≢true e)
+ends-write state.Control e = absurd (false≢true e)
+ends-write state.Write e = refl
+
+module _ (image : List ℕ) (bank : Bank) (n : ℕ) where
+  idle-says : (k : Name) (b : Board) (g : List ℕ) (c : Board) (h : List ℕ) (r : Response) → idle r ≡ true → Says image bank n k b g c h r
+  idle-says k b g c h Unreadable e = tt
+  idle-says k b g c h (Plain command.ModeStart r) e = tt
+  idle-says k b g c h (Plain command.BankInfo r) e = tt
+  idle-says k b g c h (Plain command.VersionInfo r) e = tt
+  idle-says k b g c h (Plain command.WriteStart r) e = tt
+  idle-says k b g c h (Plain command.WriteEnd r) e = λ q. absurd (false≢true (sym (ap (λ (x : ℕ). not (eqb x 0x06)) q) ∙ e))
+  idle-says k b g c h (Plain command.ModeEnd r) e = tt
+  idle-says k b g c h (Error r) e = tt
+  idle-says k b g c h (Target x) e = tt
+  idle-says k b g c h (Firmware id major minor revision) e = absurd (false≢true e)
+  idle-says k b g c h (Written s r w crc) e = λ _ q a. absurd (false≢true (sym (told q a) ∙ e))
+    where
+      told : r ≡ 0x06 → Accepted w → not (eqb r 0x06 && (eqb w 0x06 || eqb w 0x1D)) ≡ false
+      told q (inl a) = rw (q, a)
+      told q (inr a) = rw (q, a)
+
+  module _ (k : Name) (b : Board) (g : List ℕ) (o : Outcome) (h : List ℕ) where
+    -- nothing changed
+    stands : o .board ≡ b → h ≡ g → Says image bank n k b g (o .board) h (responseOf (said o)) → Moves image bank n k b g o h
+    stands e q says =
+        record {
+          clean = λ c. subst (λ (x : Board). Clean image bank n x h) (sym e) (subst (λ (x : List ℕ). Clean image bank n b x) (sym q) c);
+          kept = λ _ _ w. (sym (ap (λ (x : Board). x .client .state) e) ∙ w, λ s l u z. ap (λ (x : List ℕ). sectorOf x s) q ∙ z);
+          done = λ _ d. subst (Done image bank n) (sym e) d;
+          says = says;
+        }
+
+    stays : o .board ≡ b → h ≡ g → idle (responseOf (said o)) ≡ true → Moves image bank n k b g o h
+    stays e q i = stands e q (idle-says k b g (o .board) h (responseOf (said o)) i)
+
+    -- the session, if there was one, is over
+    rests : (o .board .client .state ≡ state.Write → ⊥) → (isEnding k ≡ true → Done image bank n b → Done image bank n (o .board))
+        → Says image bank n k b g (o .board) h (responseOf (said o)) → Moves image bank n k b g o h
+    rests r d s = record { clean = λ _ w. absurd (r w); kept = λ _ _ w. absurd (r w); done = d; says = s }
+
+  -- ---- what an answer leaves shown
+
+  module _ (k : Name) (b : Board) (g : List ℕ) (call : LentCall) where
+    abbrev shown : Outcome → List ℕ
+    shown o = noted (b .client .fixed .n) g (Datagram call) o
+
+    abbrev Fine : Outcome → Type 0
+    Fine o = stepMachine b (Datagram call) ≡ o → Moves image bank n k b g o (shown o)
+
+    refused-fine : (number : ℕ) → Fine (refused b (call .buffer) number)
+    refused-fine number _ = stays k b g (refused b (call .buffer) number) g refl refl empty-idle
+
+    abbrev spoken : List ℕ → List ℕ
+    spoken answer = take (length answer) (frontOf (call .buffer) answer)
+
+    quietly : (answer : List ℕ) → spoken answer ≡ answer → isBegin answer ≡ false → isStored answer ≡ false
+        → exchanged (b .client .fixed .n) g (call .datagram) (spoken answer) ≡ g
+    quietly answer e i s = ap (exchanged (b .client .fixed .n) g (call .datagram)) e ∙ rw (i, s)
+
+    module _ (room : 14 ≤ length (call .buffer)) where
+      answered-fine : (answer : List ℕ) → length answer ≤ 14 → isBegin answer ≡ false → isStored answer ≡ false → idle (responseOf answer) ≡ true
+          → Fine (answered b call answer)
+      answered-fine answer l i s d _ =
+          let e : spoken answer ≡ answer = said-back call answer l room in
+          stays k b g (answered b call answer) (shown (answered b call answer)) refl (quietly answer e i s) (ap (λ (x : List ℕ). idle (responseOf x)) e ∙ d)
+
+      parameter-fine : Fine (answered b call parameterError)
+      parameter-fine = answered-fine parameterError (omega arith) refl refl error-idle
+
+      -- a response with a result alone, and a record that is no session's
+      changed-fine : (c : Client) (notice : Notice) (answer : List ℕ) → length answer ≤ 14 → idle (responseOf answer) ≡ true
+          → (c .state ≡ state.Write → ⊥) → (isEnding k ≡ true → Done image bank n b → Done image bank n (board c (b .pair))) → Fine (changed b call c notice answer)
+      changed-fine c notice answer l d r e _ =
+          let o : Outcome = changed b call c notice answer in
+          rests k b g o (shown o) r e
+          (idle-says k b g (o .board) (shown o) (responseOf (said o)) (ap (λ (x : List ℕ). idle (responseOf x)) (said-back call answer l room) ∙ d))
+
+  -- ---- the requests, one by one
+
+  module _ (b : Board) (g : List ℕ) (call : LentCall) where
+    abbrev Arrived : Name → Type 0
+    Arrived k = Moves image bank n k b g (stepMachine b (Datagram call)) (shown k b g call (stepMachine b (Datagram call)))
+
+    by-rows : (k : Name) (r : Read) → readOf (call .datagram) ≡ r → isFault r ≡ false → (Heard b call → First (Fine k b g call) (afterFrame b call r)) → Arrived k
+    by-rows k r e f rows =
+        came b call (Fine k b g call) (refused-fine k b g call) (ap isFault e ∙ f)
+        (λ h. subst (λ (x : Read). First (Fine k b g call) (afterFrame b call x)) (sym e) (rows h)) refl
+
+    pub mode-start-moves : call .datagram ≡ requestFrame request.ModeStart → Arrived ModeStart
+    unfolding controlFrame framed mayCarry addedOf
+    mode-start-moves e =
+        by-rows ModeStart (Control 0x61 0) (ap readOf e ∙ request-read request.ModeStart) refl
+        (λ h.
+        skip refl
+        (skip refl
+        (first
+        (λ _.
+        answered-fine ModeStart b g call (roomy b call h) (controlFrame 0x71 (0x15 ∷ [])) (control-short 0x71 0x15) refl refl
+        (plain-idle command.ModeStart 0x15 refl refl refl))
+        (λ _.
+        skip refl
+        (skip refl
+        (skip refl
+        (skip refl
+        (first
+        (λ _.
+        changed-fine ModeStart b g call (roomy b call h) (opened (b .client)) (noticeWith Started 0 (call .address)) (controlFrame 0x71 (0x06 ∷ []))
+        (control-short 0x71 0x06) (plain-idle command.ModeStart 0x06 refl refl refl) (not-write state.Control refl) (λ x. absurd (false≢true x)))
+        (λ x. absurd (false≢true (sym x)))))))))))
+
+    -- a version is told in control state
+    version-fine : b .client .fixed .revision < 2 ^ 32 → 14 ≤ length (call .buffer) → b .client .state ≡ state.Control
+        → Fine VersionInfo b g call (answered b call (controlFrame 0x78 (versionBytes (b .client .fixed .major) (b .client .fixed .minor) (b .client .fixed .revision))))
+    unfolding controlFrame framed bytesOf
+    version-fine revision room c _ =
+        let f : Fixed = b .client .fixed in
+        let answer : List ℕ = controlFrame 0x78 (versionBytes (f .major) (f .minor) (f .revision)) in
+        let o : Outcome = answered b call answer in
+        let e : said o ≡ answer = said-back call answer (version-short (f .major) (f .minor) (f .revision)) room in
+        let reads : responseOf (said o) ≡ Firmware 0x0400 (f .major) (f .minor) (f .revision) =
+        ap responseOf e ∙ sym (version-back 0x0400 (f .major) (f .minor) (f .revision) (omega arith) revision) in
+        stands VersionInfo b g o (shown VersionInfo b g call o) refl (quietly VersionInfo b g call answer e refl refl)
+        (subst (Says image bank n VersionInfo b g b (shown VersionInfo b g call o)) (sym reads) (λ w. absurd (not-write state.Control refl (sym c ∙ w))))
+
+    pub version-moves : b .client .fixed .revision < 2 ^ 32 → call .datagram ≡ requestFrame request.VersionInfo → Arrived VersionInfo
+    unfolding controlFrame framed mayCarry addedOf
+    version-moves revision e =
+        by-rows VersionInfo (Control 0x68 0) (ap readOf e ∙ request-read request.VersionInfo) refl
+        (λ h.
+        skip refl
+        (skip refl
+        (first
+        (λ _.
+        answered-fine VersionInfo b g call (roomy b call h) (controlFrame 0x78 (0x15 ∷ [])) (control-short 0x78 0x15) refl refl
+        (plain-idle command.VersionInfo 0x15 refl refl refl))
+        (λ w.
+        skip refl
+        (skip refl
+        (skip refl
+        (skip refl
+        (skip refl
+        (skip refl
+        (first (λ _. version-fine revision (roomy b call h) (in-control (b .client .state) 0x68 refl refl (not-false _ w)))
+        (λ x. absurd (false≢true (sym x)))))))))))))
+
+    pub bank-moves : call .datagram ≡ requestFrame request.BankInfo → Arrived BankInfo
+    unfolding controlFrame framed mayCarry addedOf
+    bank-moves e =
+        let target : Bank = otherOf (b .client .fixed .running) in
+        by-rows BankInfo (Control 0x62 0) (ap readOf e ∙ request-read request.BankInfo) refl
+        (λ h.
+        skip refl
+        (skip refl
+        (first
+        (λ _.
+        answered-fine BankInfo b g call (roomy b call h) (controlFrame 0x72 (0x15 ∷ [])) (control-short 0x72 0x15) refl refl
+        (plain-idle command.BankInfo 0x15 refl refl refl))
+        (λ _.
+        skip refl
+        (skip refl
+        (skip refl
+        (skip refl
+        (skip refl
+        (first
+        (λ _.
+        answered-fine BankInfo b g call (roomy b call h) (controlFrame 0x72 (0x06 ∷ bankNumber target ∷ [])) (bank-short target) refl refl
+        (ap idle (sym (bank-back target))))
+        (λ x. absurd (false≢true (sym x))))))))))))
+
+    pub mode-end-moves : call .datagram ≡ requestFrame request.ModeEnd → Arrived ModeEnd
+    unfolding controlFrame framed mayCarry addedOf
+    mode-end-moves e =
+        by-rows ModeEnd (Control 0x64 0) (ap readOf e ∙ request-read request.ModeEnd) refl
+        (λ h.
+        skip refl
+        (skip refl
+        (first
+        (λ _.
+        answered-fine ModeEnd b g call (roomy b call h) (controlFrame 0x74 (0x15 ∷ [])) (control-short 0x74 0x15) refl refl
+        (plain-idle command.ModeEnd 0x15 refl refl refl))
+        (λ _.
+        skip refl
+        (skip refl
+        (skip refl
+        (skip refl
+        (skip refl
+        (skip refl
+        (skip refl
+        (skip refl
+        (first
+        (λ _.
+        changed-fine ModeEnd b g call (roomy b call h) (modeEnded (b .client)) (noticeWith Ended (latestNumber (b .client .latest)) (call .address))
+        (controlFrame 0x74 (0x06 ∷ [])) (control-short 0x74 0x06) (plain-idle command.ModeEnd 0x06 refl refl refl) (not-write state.Idle refl)
+        (λ _ d.
+        record {
+          sectors = d .sectors;
+          target = d .target;
+          is-image = d .is-image;
+          starts-next = d .starts-next;
+          resting = not-write state.Idle refl;
+        }))
+        (λ x. absurd (false≢true (sym x)))))))))))))))
+
+    -- ---- a session begins
+
+    -- what is shown then
+    shows-then : (o : Outcome) → stepMachine b (Datagram call) ≡ o → Shows b g → Shows (o .board) (noted (b .client .fixed .n) g (Datagram call) o)
+    shows-then o e v =
+        subst (λ (x : Outcome). Shows (x .board) (noted (b .client .fixed .n) g (Datagram call) x)) e (step-shows b g (Datagram call) v)
+
+    begun-fine : 14 ≤ length (call .buffer) → b .client .state ≡ state.Control → otherOf (b .client .fixed .running) ≡ bank → b .client .fixed .n ≡ n
+        → Fine WriteStart b g call (changed b call (begun (starting (b .client .fixed .running) (b .client))) noNotice (controlFrame 0x70 (0x06 ∷ [])))
+    unfolding mayCarry addedOf
+    begun-fine room c target sectors e =
+        let o : Outcome = changed b call (begun (starting (b .client .fixed .running) (b .client))) noNotice (controlFrame 0x70 (0x06 ∷ [])) in
+        let s : said o ≡ controlFrame 0x70 (0x06 ∷ []) = said-back call (controlFrame 0x70 (0x06 ∷ [])) (control-short 0x70 0x06) room in
+        let h : List ℕ = shown WriteStart b g call o in
+        let blank : h ≡ allBlank n =
+        ap (exchanged (b .client .fixed .n) g (call .datagram)) s ∙ begins-blank (b .client .fixed .n) g (call .datagram) ∙ ap allBlank sectors in
+        record {
+          clean = λ _ w.
+              record {
+                session = shows-then o e (λ x. absurd (not-write state.Control refl (sym c ∙ x))) w;
+                sectors = sectors;
+                target = target;
+                made = λ k l u. inr (ap (λ (x : List ℕ). sectorOf x k) blank ∙ sector-blanks n k l u);
+              };
+          kept = λ x. absurd (false≢true (sym x));
+          done = λ x. absurd (false≢true x);
+          says =
+              idle-says WriteStart b g (o .board) h (responseOf (said o))
+              (ap (λ (x : List ℕ). idle (responseOf x)) s ∙ plain-idle command.WriteStart 0x06 refl refl refl);
+        }
+
+    pub write-start-moves : goodN n ≡ true → call .datagram ≡ requestFrame (request.WriteStart bank n) → Arrived WriteStart
+    unfolding controlFrame framed mayCarry addedOf
+    write-start-moves good e =
+        by-rows WriteStart (Control 0x40 8) (ap readOf e ∙ start-read bank n) refl
+        (λ h.
+        skip refl
+        (skip refl
+        (first
+        (λ _.
+        answered-fine WriteStart b g call (roomy b call h) (controlFrame 0x70 (0x15 ∷ [])) (control-short 0x70 0x15) refl refl
+        (plain-idle command.WriteStart 0x15 refl refl refl))
+        (λ w.
+        first (λ _. parameter-fine WriteStart b g call (roomy b call h))
+        (λ v.
+        let told = start-tells (b .client .fixed) bank n good (h .good) (subst (pairGood (b .client .fixed)) e (not-false _ v)) in
+        skip refl
+        (skip refl
+        (skip refl
+        (skip refl
+        (skip refl
+        (skip refl
+        (first (λ _. begun-fine (roomy b call h) (in-control (b .client .state) 0x40 refl refl (not-false _ w)) (told .0) (told .1))
+        (λ x. absurd (false≢true (sym x))))))))))))))
+
+  -- ---- a session of ours
+
+  -- the session's image has n sectors
+  ours-long : (b : Board) (g : List ℕ) → Ours image bank n b g → length g ≡ bankSize n
+  ours-long b g o =
+      let s = o .session in
+      sym (ap length (s .shows))
+      ∙ length-sweep (sectorsIn (b .client .fixed .n) b) (b .client .fixed .n) (b .client .received)
+      ∙ length-take-le (bankSize (b .client .fixed .n)) (targetBank b) (s .room)
+      ∙ ap bankSize (o .sectors)
+
+  -- all that is sent is shown, and nothing else but 0xFF: it is the image
+  whole-image : length image ≡ bankSize n → (b : Board) (g : List ℕ) → Ours image bank n b g → AllIn image bank n g → g ≡ image
+  whole-image size b g o all = ext-sector g image n (ours-long b g o) size each
+    where
+      each : (s : ℕ) → 1 ≤ s → s ≤ n → sectorOf g s ≡ sectorOf image s
+      each zero a l = absurd (omega arith)
+      each (suc j) a l = by (blankOf (sectorOf image (suc j))) refl (o .made (suc j) a l)
+        where
+          by : (t : Bool) → blankOf (sectorOf image (suc j)) ≡ t → (sectorOf g (suc j) ≡ sectorOf image (suc j)) ⊎ (sectorOf g (suc j) ≡ blankSector)
+              → sectorOf g (suc j) ≡ sectorOf image (suc j)
+          by t e (inl m) = m
+          by true e (inr m) = m ∙ sym (blank-whole (sectorOf image (suc j)) (sector-length image n (omega (arith, size)) (suc j) a l) e)
+          by false e (inr m) =
+              let s : SentAt image n (suc j) (packetCount image j) = used-sent image n j l e in
+              sym (ap (sectorOf g) (s .sector)) ∙ all (packetCount image j) (s .below) ∙ ap (sectorOf image) (s .sector)
+
+  -- ---- a packet
+
+  module _ (good : goodN n ≡ true) (size : length image ≡ bankSize n) (p : ℕ) (there : p < packetCount image n) where
+    abbrev k : ℕ
+    k = packetSector image n p
+
+    sent : Sent image n k
+    sent = sent-in image n p there
+
+    by-sectors : length image ≡ 512 * n
+    by-sectors = omega (arith, size)
+
+    small : k < 65536
+    small = omega (arith, sent .high, good-high n good)
+
+    full : length (sectorOf image k) ≡ 512
+    full = sector-length image n by-sectors k (sent .low) (sent .high)
+
+    module _ (b : Board) (g : List ℕ) (call : LentCall) (brings : call .datagram ≡ packetFrame image n p) where
+      reads : readOf (call .datagram) ≡ Write k 512 (footerOf (packetCount image n) p)
+      reads = ap readOf brings ∙ sym (packet-read image n p good by-sectors there)
+
+      padded-are : paddedOf (dataIn (call .datagram)) ≡ sectorOf image k
+      padded-are = ap paddedOf (ap dataIn brings ∙ packet-data image n p) ∙ padded-whole (sectorOf image k) full
+
+      -- the sector is shown, and the others as before
+      module _ (o : Ours image bank n b g) where
+        lies : (s : ℕ) → 1 ≤ s → s ≤ n → Lies (length g) s
+        lies s l u = record { first = l; last = omega (arith, ours-long b g o) }
+
+        here : sectorOf (withSector g k (sectorOf image k)) k ≡ sectorOf image k
+        here = with-here g k (sectorOf image k) (lies k (sent .low) (sent .high)) full
+
+        others : (s : ℕ) → 1 ≤ s → s ≤ n → (s ≡ k → ⊥) → sectorOf (withSector g k (sectorOf image k)) s ≡ sectorOf g s
+        others s l u ne = with-other g k (sectorOf image k) (lies k (sent .low) (sent .high)) full s (lies s l u) ne
+
+        still-made : (s : ℕ) → 1 ≤ s → s ≤ n → (sectorOf g s ≡ sectorOf image s) ⊎ (sectorOf g s ≡ blankSector)
+            → (sectorOf (withSector g k (sectorOf image k)) s ≡ sectorOf image s) ⊎ (sectorOf (withSector g k (sectorOf image k)) s ≡ blankSector)
+        still-made s l u m = by (ℕ-discrete s k) m
+          where
+            by : Dec (s ≡ k) → (sectorOf g s ≡ sectorOf image s) ⊎ (sectorOf g s ≡ blankSector)
+                → (sectorOf (withSector g k (sectorOf image k)) s ≡ sectorOf image s) ⊎ (sectorOf (withSector g k (sectorOf image k)) s ≡ blankSector)
+            by (yes e) m = inl (ap (sectorOf (withSector g k (sectorOf image k))) e ∙ here ∙ ap (sectorOf image) (sym e))
+            by (no ne) (inl m) = inl (others s l u ne ∙ m)
+            by (no ne) (inr m) = inr (others s l u ne ∙ m)
+
+        still-in : (s : ℕ) → 1 ≤ s → s ≤ n → sectorOf g s ≡ sectorOf image s → sectorOf (withSector g k (sectorOf image k)) s ≡ sectorOf image s
+        still-in s l u m = by (ℕ-discrete s k)
+          where
+            by : Dec (s ≡ k) → sectorOf (withSector g k (sectorOf image k)) s ≡ sectorOf image s
+            by (yes e) = ap (sectorOf (withSector g k (sectorOf image k))) e ∙ here ∙ ap (sectorOf image) (sym e)
+            by (no ne) = others s l u ne ∙ m
+
+      stored-fine : 14 ≤ length (call .buffer) → b .client .state ≡ state.Write
+          → Fine (Packet p) b g call (packetStored b call (Write k 512 (footerOf (packetCount image n) p)))
+      unfolding mayCarry repeatsOf crcFits storedOf
+      stored-fine room w e =
+          let o : Outcome = packetStored b call (Write k 512 (footerOf (packetCount image n) p)) in
+          let bytes : List ℕ = dataIn (call .datagram) in
+          let already : Bool = sameOf (sectorOf (lentTarget b call) k) (paddedOf bytes) in
+          let result : ℕ = storeResult (blankOf bytes) already in
+          let crc : ℕ = crcOf (paddedOf bytes) in
+          let answer : List ℕ = writeFrame k (writtenBytes 0x06 result crc) End in
+          let s : said o ≡ answer = said-back call answer (written-short k 0x06 result crc) room in
+          let taken : Accepted result = accepted (blankOf bytes) already in
+          let h : List ℕ = shown (Packet p) b g call o in
+          let is : h ≡ withSector g k (sectorOf image k) =
+          ap (exchanged (b .client .fixed .n) g (call .datagram)) s
+          ∙ stored-shows (b .client .fixed .n) g (call .datagram) k result crc (footerOf (packetCount image n) p) taken reads
+          ∙ ap (withSector g k) padded-are in
+          let says-stored : responseOf (said o) ≡ Written k 0x06 result crc = ap responseOf s ∙ stored-back k result crc small (of-lt (paddedOf bytes)) taken in
+          record {
+            clean = λ c v.
+                let ours = c w in
+                record {
+                  session = shows-then b g call o e (λ _. ours .session) v;
+                  sectors = ours .sectors;
+                  target = ours .target;
+                  made = λ j l u.
+                      subst (λ (x : List ℕ). (sectorOf x j ≡ sectorOf image j) ⊎ (sectorOf x j ≡ blankSector)) (sym is) (still-made ours j l u (ours .made j l u));
+                };
+            kept = λ _ c v. (w, λ j l u m. ap (λ (x : List ℕ). sectorOf x j) is ∙ still-in (c w) j l u m);
+            done = λ x. absurd (false≢true x);
+            says =
+                subst (Says image bank n (Packet p) b g (o .board) h) (sym says-stored)
+                (λ c _ _. (refl, λ _. ap (λ (x : List ℕ). sectorOf x k) is ∙ here (c w)));
+          }
+
+      pub packet-moves : Moves image bank n (Packet p) b g (stepMachine b (Datagram call)) (shown (Packet p) b g call (stepMachine b (Datagram call)))
+      unfolding answerBytes
+      packet-moves =
+          by-rows b g call (Packet p) (Write k 512 (footerOf (packetCount image n) p)) reads refl
+          (λ h.
+          let room = roomy b call h in
+          skip refl
+          (skip refl
+          (first
+          (λ _.
+          answered-fine (Packet p) b g call room (writeFrame k (writtenBytes 0x15 0x15 0) End) (written-short k 0x15 0x15 0)
+          (written-begin k 0x15 0x15 0) (other-stored k 0x15 0x15 0 refl) (declined-idle k small))
+          (λ w.
+          first (λ _. parameter-fine (Packet p) b g call room)
+          (λ _.
+          first
+          (λ _.
+          answered-fine (Packet p) b g call room (writeFrame k (writtenBytes 0x06 0x1C 0) End) (written-short k 0x06 0x1C 0)
+          (written-begin k 0x06 0x1C 0) (other-stored k 0x06 0x1C 0 refl) (worn-idle k small))
+          (λ _. skip refl (first (λ _. stored-fine room (in-write (b .client .state) (not-false _ w))) (λ x. absurd (false≢true (sym x))))))))))
+
+  -- ---- the write end
+
+  module _ (size : length image ≡ bankSize n) (b : Board) (g : List ℕ) (call : LentCall) where
+    -- a session is over, without 06
+    over-fine : 14 ≤ length (call .buffer) → b .client .state ≡ state.Write → (result : ℕ) → (o : Outcome) → o .board .client .state ≡ state.Control
+        → said o ≡ controlFrame 0x75 (result ∷ []) → idle (responseOf (controlFrame 0x75 (result ∷ []))) ≡ true → Fine WriteEnd b g call o
+    over-fine room w result o c s d _ =
+        rests WriteEnd b g o (shown WriteEnd b g call o) (λ x. absurd (not-write state.Control refl (sym c ∙ x))) (λ _ d. absurd (d .resting w))
+        (idle-says WriteEnd b g (o .board) (shown WriteEnd b g call o) (responseOf (said o)) (ap (λ (x : List ℕ). idle (responseOf x)) s ∙ d))
+
+    abbrev goodEnd : Outcome
+    goodEnd = stored b call (starting (otherOf (b .client .fixed .running)) (ended Good (b .client))) (sweptTarget b call) (controlFrame 0x75 (0x06 ∷ []))
+
+    ended-fine : 14 ≤ length (call .buffer) → b .client .state ≡ state.Write → Fine WriteEnd b g call goodEnd
+    unfolding mayCarry addedOf
+    ended-fine room w e =
+        let o : Outcome = goodEnd in
+        let h : List ℕ = shown WriteEnd b g call o in
+        let s : said o ≡ controlFrame 0x75 (0x06 ∷ []) = said-back call (controlFrame 0x75 (0x06 ∷ [])) (control-short 0x75 0x06) room in
+        let reads : responseOf (said o) ≡ Plain command.WriteEnd 0x06 = ap responseOf s ∙ sym (plain-back command.WriteEnd 0x06 refl refl) in
+        rests WriteEnd b g o h (not-write state.Control refl) (λ _ d. absurd (d .resting w))
+        (subst (Says image bank n WriteEnd b g (o .board) h) (sym reads)
+        (λ _. (
+          refl,
+          (
+            w,
+            λ c all.
+                let ours = c w in
+                let closed : sectorsIn (b .client .fixed .n) (o .board) ≡ g =
+                subst (λ (x : Outcome). sectorsIn (b .client .fixed .n) (x .board) ≡ g) e
+                (step-closes b g (Datagram call) (λ _. ours .session) (ap (λ (x : Outcome). endsSession (said x)) e ∙ ap endsSession s ∙ ends-so)) in
+                record {
+                  sectors = ours .sectors;
+                  target = ours .target;
+                  is-image = ap (λ (x : ℕ). sectorsIn x (o .board)) (sym (ours .sectors)) ∙ closed ∙ whole-image size b g ours all;
+                  starts-next = ours .target;
+                  resting = not-write state.Control refl;
+                },
+          ),
+        )))
+
+    pub write-end-moves : call .datagram ≡ requestFrame request.WriteEnd
+        → Moves image bank n WriteEnd b g (stepMachine b (Datagram call)) (shown WriteEnd b g call (stepMachine b (Datagram call)))
+    unfolding controlFrame framed mayCarry addedOf
+    write-end-moves e =
+        by-rows b g call WriteEnd (Control 0x45 0) (ap readOf e ∙ request-read request.WriteEnd) refl
+        (λ h.
+        let room = roomy b call h in
+        skip refl
+        (skip refl
+        (first
+        (λ _.
+        answered-fine WriteEnd b g call room (controlFrame 0x75 (0x15 ∷ [])) (control-short 0x75 0x15) refl refl
+        (plain-idle command.WriteEnd 0x15 refl refl refl))
+        (λ v.
+        let w = ends-write (b .client .state) (not-false _ v) in
+        skip refl
+        (skip refl
+        (first
+        (λ _.
+        over-fine room w 0x1C _ refl (said-back call (controlFrame 0x75 (0x1C ∷ [])) (control-short 0x75 0x1C) room)
+        (plain-idle command.WriteEnd 0x1C refl refl refl))
+        (λ _.
+        skip refl
+        (skip refl
+        (skip refl
+        (skip refl
+        (skip refl
+        (skip refl
+        (first (λ _. ended-fine room w)
+        (λ _.
+        first
+        (λ _.
+        over-fine room w 0x1E _ refl (said-back call (controlFrame 0x75 (0x1E ∷ [])) (control-short 0x75 0x1E) room)
+        (plain-idle command.WriteEnd 0x1E refl refl refl))
+        (λ x. absurd (false≢true (sym x)))))))))))))))))
+
+  -- ---- the host
+
+  module _ (k : Name) (b : Board) (g : List ℕ) where
+    refused-host : (number : ℕ) → Moves image bank n k b g (refused b [] number) g
+    refused-host number = stays k b g (refused b [] number) g refl refl empty-idle
+
+    done-host : (c : Client) → (c .state ≡ state.Write → ⊥) → (Done image bank n b → Done image bank n (board c (b .pair))) → Moves image bank n k b g (hostDone b c) g
+    done-host c r d = rests k b g (hostDone b c) g r (λ _. d) (idle-says k b g (board c (b .pair)) g (responseOf []) empty-idle)
+
+    pub initiate-moves : Moves image bank n k b g (stepMachine b Initiate) g
+    initiate-moves =
+        hosted (λ (o : Outcome). Moves image bank n k b g o g) b Initiate
+        (first (λ _. refused-host 3)
+        (λ _.
+        first (λ _. refused-host 4)
+        (λ _.
+        first
+        (λ _.
+        done-host (initiated (b .client)) (not-write state.Idle refl)
+        (λ d.
+        record { sectors = d .sectors; target = d .target; is-image = d .is-image; starts-next = d .starts-next; resting = not-write state.Idle refl }))
+        (λ _. last))))
+
+    pub terminate-moves : Moves image bank n k b g (stepMachine b Terminate) g
+    terminate-moves =
+        hosted (λ (o : Outcome). Moves image bank n k b g o g) b Terminate
+        (first (λ _. refused-host 3)
+        (λ _.
+        first (λ _. refused-host 4)
+        (λ _.
+        first
+        (λ _.
+        done-host (terminated (b .client)) (not-write state.Closed refl)
+        (λ d.
+        record { sectors = d .sectors; target = d .target; is-image = d .is-image; starts-next = d .starts-next; resting = not-write state.Closed refl }))
+        (λ _. last))))
