@@ -17,6 +17,7 @@ pub mod Latest
 pub mod Lending
 pub mod New
 pub mod NightBoard
+pub mod NightLoop
 pub mod Packets
 pub mod Reading
 pub mod Requests

@@ -1,25 +1,24 @@
 -- What a board does with the requests of a night, whatever is lent with them, and with its host's commands: a session that shows nothing but sectors of the
 -- image stays one, and what an answer says to the night sender is so.
 -- Assumes nothing.
-use mathlib.Core.Path.{_≡_, refl, sym, ap, ap₂, subst, _∙_}
+use mathlib.Core.Path.{_≡_, refl, sym, ap, subst, _∙_}
 use mathlib.Core.Logic.{_⊎_, inl, inr}
 use mathlib.Core.Bool.{Bool, true, false, not, _&&_, _||_, or-true, false≢true}
-use mathlib.Core.List.{List, [], _∷_, _++_}
-use Prim.Native.Nat.{ℕ, zero, suc, _+_, _-_, _*_, _^_, _≤_, _<_}
+use mathlib.Core.List.{List, [], _∷_}
+use Prim.Native.Nat.{ℕ, zero, suc, _-_, _*_, _^_, _≤_, _<_}
 use native.Mathlib.Decide.{ℕ-discrete}
 use native.Mathlib.Omega.{arith}
 use lib.Dec.{eqb}
 use lib.ListN.{length, take}
 use lib.Seq.{length-take-le}
-use borrow.Author.Tests.{eqb-true, not-false}
+use borrow.Author.Tests.{not-false}
 use Rattle.buffer.specs.Compare.{blankOf, sameOf}
-use Rattle.buffer.specs.Number.{bytesOf, numberAt}
+use Rattle.buffer.specs.Number.{bytesOf}
 use Rattle.buffer.specs.Place.{frontOf}
-use Rattle.buffer.proofs.Bools.{and-left, and-right, no-way}
 use Rattle.crc.specs.Crc.{crcOf}
 use Rattle.crc.proofs.Laws.{of-lt}
 use Rattle.frame.specs.Frame.{framed, controlFrame, writeFrame}
-use Rattle.frame.specs.Read.{readOf, parametersIn, dataIn}
+use Rattle.frame.specs.Read.{readOf, dataIn}
 use Rattle.frame.specs.declared.read.Footer.{Footer}
 use Rattle.frame.specs.declared.read.Footer.the-variants.{End}
 use Rattle.frame.specs.declared.read.Read.{Read}
@@ -30,7 +29,7 @@ use Rattle.flash.proofs.Blanks.{blank-whole, sector-blanks}
 use Rattle.flash.proofs.Sectors.{Lies, ext-sector, with-here, with-other}
 use Rattle.flash.proofs.Sweeps.{length-sweep}
 use Rattle.layout.specs.declared.Bank.{Bank}
-use Rattle.layout.specs.Layout.{goodN, bankSize, bankNumber, otherOf, startOf, endOf, sectorOf}
+use Rattle.layout.specs.Layout.{goodN, bankSize, bankNumber, otherOf, sectorOf}
 use Rattle.layout.proofs.Layouts.{good-high}
 use Rattle.commands.specs.declared.Command.{Command}
 use Rattle.commands.specs.declared.Command.the-variants as command
@@ -57,13 +56,11 @@ use Rattle.client.specs.declared.record.Latest.the-variants.{Good}
 use Rattle.decision.specs.declared.plan.Fixed.{Fixed}
 use Rattle.calls.proofs.Courses.{accepted, not-write}
 use Rattle.calls.specs.Call.{Board, board}
-use Rattle.demands.specs.Board.{LentCall, Input, Initiate, Terminate, Datagram, Outcome, said, targetBank, sectorsIn, lentTarget, stepMachine}
+use Rattle.demands.specs.Board.{LentCall, Initiate, Terminate, Datagram, Outcome, said, targetBank, sectorsIn, lentTarget, stepMachine}
 use Rattle.demands.specs.Demand1.{acceptedIn, takesPackets, isFault, parameterError, hostDone, answered, changed, stored, packetStored, sweptTarget, refused, afterFrame}
 use Rattle.demands.specs.Session.{isBegin, isStored, endsSession, allBlank, exchanged, noted}
 use Rattle.night.specs.declared.name.Name.{Name}
 use Rattle.night.specs.declared.name.Name.the-variants.{ModeStart, VersionInfo, BankInfo, WriteStart, Packet, WriteEnd, ModeEnd}
-use Rattle.night.specs.Name.{numberOf, frameOf}
-use Rattle.demands.specs.Night.{Startable, AnyVersion, version}
 use Rattle.demands.proofs.Arriving.{First, last, first, skip, hosted, roomy, came}
 use Rattle.demands.proofs.Asking.{request-read, start-read, pairGood, start-tells}
 use Rattle.demands.proofs.Demand1.{parameter-bytes}
@@ -72,7 +69,6 @@ use Rattle.demands.proofs.Bytes.{written-begin, written-stored}
 use Rattle.demands.proofs.Reading.{bank-short, version-short}
 use Rattle.demands.proofs.Rows.{Heard}
 use Rattle.demands.proofs.Sessions.{Session, Shows, step-shows, step-closes}
-use Rattle.demands.proofs.Steps.{machine-stays}
 
 -- ---- when a request may go out: before the packets, or behind them
 
@@ -155,7 +151,7 @@ module _ (image : List ℕ) (bank : Bank) (n : ℕ) where
   Says k b g c h (Target x) = Unit {0}
   Says k b g c h (Firmware id major minor revision) = Clean c h
   Says k b g c h (Written s r w crc) =
-      Clean b g → r ≡ 0x06 → Accepted w → (isEarly k ≡ false) × (c .client .state ≡ state.Write → sectorOf h s ≡ sectorOf image s)
+      r ≡ 0x06 → Accepted w → (isEarly k ≡ false) × (Clean b g → c .client .state ≡ state.Write → sectorOf h s ≡ sectorOf image s)
 
   -- what one input does while the request of this name is at hand
   pub record Moves (k : Name) (b : Board) (g : List ℕ) (o : Outcome) (h : List ℕ) : Type 0 where
@@ -233,7 +229,7 @@ module _ (image : List ℕ) (bank : Bank) (n : ℕ) where
   idle-says k b g c h (Error r) e = tt
   idle-says k b g c h (Target x) e = tt
   idle-says k b g c h (Firmware id major minor revision) e = absurd (false≢true e)
-  idle-says k b g c h (Written s r w crc) e = λ _ q a. absurd (false≢true (sym (told q a) ∙ e))
+  idle-says k b g c h (Written s r w crc) e = λ q a. absurd (false≢true (sym (told q a) ∙ e))
     where
       told : r ≡ 0x06 → Accepted w → not (eqb r 0x06 && (eqb w 0x06 || eqb w 0x1D)) ≡ false
       told q (inl a) = rw (q, a)
@@ -588,7 +584,7 @@ module _ (image : List ℕ) (bank : Bank) (n : ℕ) where
             done = λ x. absurd (false≢true x);
             says =
                 subst (Says image bank n (Packet p) b g (o .board) h) (sym says-stored)
-                (λ c _ _. (refl, λ _. ap (λ (x : List ℕ). sectorOf x k) is ∙ here (c w)));
+                (λ _ _. (refl, λ c _. ap (λ (x : List ℕ). sectorOf x k) is ∙ here (c w)));
           }
 
       pub packet-moves : Moves image bank n (Packet p) b g (stepMachine b (Datagram call)) (shown (Packet p) b g call (stepMachine b (Datagram call)))
