@@ -15,6 +15,8 @@ pub mod Fresh
 pub mod Latest
 pub mod Lending
 pub mod New
+pub mod NightOrder
+pub mod NightRuns
 pub mod Packets
 pub mod Reading
 pub mod Requests
