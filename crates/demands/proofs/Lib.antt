@@ -17,6 +17,7 @@ pub mod Lending
 pub mod New
 pub mod NightOrder
 pub mod NightRuns
+pub mod NightSettled
 pub mod Packets
 pub mod Reading
 pub mod Requests
