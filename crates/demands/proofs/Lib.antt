@@ -18,6 +18,9 @@ pub mod Lending
 pub mod New
 pub mod NightBoard
 pub mod NightLoop
+pub mod NightOrder
+pub mod NightRuns
+pub mod NightSettled
 pub mod Packets
 pub mod Reading
 pub mod Requests

@@ -2,84 +2,46 @@
 -- Assumes nothing.
 use mathlib.Core.Path.{_≡_, refl, sym, ap, subst, _∙_}
 use mathlib.Core.Logic.{_⊎_, inl, inr}
-use mathlib.Core.Bool.{Bool, true, false, cond, false≢true}
+use mathlib.Core.Bool.{true, false, false≢true}
 use mathlib.Core.List.{List, [], _∷_, _++_, append-assoc, append-nil}
-use Prim.Native.Nat.{ℕ, zero, suc, _+_, _*_, _^_, _≤_, _<_}
+use Prim.Native.Nat.{ℕ, zero, suc, _+_, _^_, _≤_, _<_}
 use native.Mathlib.Decide.{decLt}
 use native.Mathlib.Omega.{arith}
-use lib.Dec.{eqb, leb, ltb}
-use lib.ListN.{length, getD, take}
-use borrow.Author.Tests.{ltb-true, ltb-false, eqb-true}
-use Rattle.buffer.specs.Place.{frontOf}
-use Rattle.buffer.proofs.Bools.{split, and-left, and-right, no-way}
+use lib.Dec.{leb, ltb}
+use lib.ListN.{length, getD}
+use borrow.Author.Tests.{ltb-false}
+use Rattle.buffer.proofs.Bools.{split, no-way}
 use Rattle.buffer.proofs.Places.{front-take}
-use Rattle.crc.specs.Crc.{crcOf}
 use Rattle.frame.specs.Read.{readOf}
-use Rattle.frame.proofs.Writing.{length-control, length-write}
 use Rattle.layout.specs.declared.Bank.{Bank}
-use Rattle.layout.specs.Layout.{sectorSize, goodN, bankSize, otherOf, sectorOf}
-use Rattle.commands.specs.declared.Command.{Command}
+use Rattle.layout.specs.Layout.{bankSize, sectorOf}
 use Rattle.commands.specs.declared.Command.the-variants as command
 use Rattle.response.specs.declared.read.Response.{Response}
 use Rattle.response.specs.declared.read.Response.the-variants.{Unreadable, Plain, Error, Target, Firmware, Written}
 use Rattle.response.specs.Response.{responseIn, responseOf}
-use Rattle.sender.specs.declared.request.Request.{Request}
 use Rattle.sender.specs.declared.request.Request.the-variants as request
 use Rattle.sender.specs.Made.{room}
-use Rattle.sender.specs.Packet.{packetCount, packetSector, footerOf, packetFrame}
-use Rattle.sender.specs.Request.{asksFor, requestFrame}
-use Rattle.sender.proofs.Packets.{Sent, sent-in, sector-length}
+use Rattle.sender.specs.Packet.{packetCount, packetSector}
+use Rattle.sender.proofs.Packets.{Sent, sent-in}
 use Rattle.exchange.specs.declared.state.State.the-variants as state
 use Rattle.client.specs.Perform.{Accepted}
 use Rattle.decision.specs.declared.plan.Fixed.{Fixed}
 use Rattle.calls.specs.Call.{Board}
-use Rattle.night.specs.declared.judge.Verdict.{Verdict}
-use Rattle.night.specs.declared.judge.Verdict.the-variants.{Settled, Spent, Stops}
 use Rattle.night.specs.declared.name.Name.{Name}
 use Rattle.night.specs.declared.name.Name.the-variants.{ModeStart, VersionInfo, BankInfo, WriteStart, Packet, WriteEnd, ModeEnd}
-use Rattle.night.specs.declared.record.Called.{Called}
-use Rattle.night.specs.declared.record.Next.{Next}
 use Rattle.night.specs.declared.record.Next.the-variants as next
 use Rattle.night.specs.declared.record.Night.{Night}
 use Rattle.night.specs.declared.record.Stand.{Stand}
 use Rattle.night.specs.declared.record.Stand.the-variants.{NotBegun, At, Finished, GaveUp}
-use Rattle.night.specs.declared.record.Why.the-variants.{Tries, Unknown}
-use Rattle.night.specs.Call.{Event, Heard, Silence, heardIn, standsAt, nextOf, goneOn, stepOf, nightOf, startOf, bufferBy}
-use Rattle.night.specs.Judge.{ownResult, ownVerdict, fieldsAwaited, packetVerdict, judgeOf}
+use Rattle.night.specs.Call.{Event, heardIn, nextOf}
 use Rattle.night.specs.Name.{numberOf, frameOf}
-use Rattle.night.specs.Record.{followingOf, againOf, movedOf, standing}
-use Rattle.night.proofs.Calling.{moved-there}
-use Rattle.night.proofs.Going.{Fits, start-goes, hand-goes, finished-again, gave-up-again}
-use Rattle.demands.specs.Board.{LentCall, Input, Initiate, Terminate, Datagram, Outcome, said, after, outcomes, sectorsIn, stepMachine}
+use Rattle.night.specs.Record.{followingOf}
+use Rattle.night.proofs.Judged.{Moved, onward, again, up, moved-by, own-ended, version-settled, Fields, packet-settled}
+use Rattle.demands.specs.Board.{LentCall, Input, Initiate, Terminate, Datagram, Outcome, said, after, outcomes, stepMachine}
 use Rattle.demands.specs.Demand1.{Unchanged}
 use Rattle.demands.specs.Session.{noted}
-use Rattle.demands.specs.Night.{Told, nightSender, toldBy, Startable, AnyVersion, version, Stored}
-use Rattle.demands.specs.NightLoop.{
-  Arrival,
-  Passage,
-  HostInitiates,
-  HostTerminates,
-  Arrives,
-  callOf,
-  inputOf,
-  inputsOf,
-  Comes,
-  Nothing,
-  Answer,
-  Round,
-  RoomyRounds,
-  no-round,
-  round-more,
-  Loop,
-  requestAfter,
-  saidIn,
-  eventBy,
-  round,
-  rounds,
-  begins,
-  isIn,
-  MeetsLoop,
-}
+use Rattle.demands.specs.Night.{Told, NightSender, nightSender, Startable, AnyVersion, version, Stored}
+use Rattle.demands.specs.NightLoop.{Passage, HostInitiates, HostTerminates, Arrives, callOf, inputOf, inputsOf, Comes, Nothing, Answer, Round, RoomyRounds, no-round, round-more, Loop, requestAfter, saidIn, eventBy, round, rounds, begins, isIn, MeetsLoop}
 use Rattle.demands.proofs.NightBoard.{
   isEarly,
   isEnding,
@@ -98,6 +60,7 @@ use Rattle.demands.proofs.NightBoard.{
   initiate-moves,
   terminate-moves,
 }
+use Rattle.demands.proofs.NightRuns.{Right, SettlesAt, moves, toldAt, stays-right, begins-right, start-is, event-is, frame-short}
 use Rattle.demands.proofs.Steps.{machine-stays, run-stays, run-running}
 
 -- ---- answers of this run
@@ -298,12 +261,10 @@ module _ (image : List ℕ) (bank : Bank) (n tries : ℕ) (st : Startable image 
   pub input-keeps : (k : Name) (b : Board) (answers : List (List ℕ)) (v : Inv k b answers) (i : Input) (h : List ℕ)
       → Moves image bank n k b (v .ghost) (stepMachine b i) h → Inv k (stepMachine b i .board) (answers ++ (said (stepMachine b i) ∷ []))
   input-keeps k b answers v i h m =
-      let o : Outcome = stepMachine b i in
-      let c = cleans k b answers v in
       record {
         ghost = h;
-        known = λ a among. by a (among-parts answers (said o) among);
-        past = past-more k answers (said o ∷ []) (v .past);
+        known = λ a among. by a (among-parts answers (said (stepMachine b i)) among);
+        past = past-more k answers (said (stepMachine b i) ∷ []) (v .past);
         revision = subst (λ (f : Fixed). f .revision < 2 ^ 32) (sym (machine-stays b i)) (v .revision);
       }
     where
@@ -341,3 +302,243 @@ module _ (image : List ℕ) (bank : Bank) (n tries : ℕ) (st : Startable image 
       let o : Outcome = stepMachine b i in
       subst (Inv k (after stepMachine (o .board) (inputsOf request ps))) (append-assoc answers (said o ∷ []) (saidIn (outcomes stepMachine (o .board) (inputsOf request ps))))
       (passages-keep k l request e ps (o .board) (answers ++ (said o ∷ [])) (passage-keeps k l request e b answers p v))
+
+  -- ---- an event
+
+  -- a later request: what was told is told of it too
+  advance : (k l : Name) → (isEarly k ≡ false → isEarly l ≡ false) → (isEnding k ≡ true → isEnding l ≡ true) → (b : Board) (answers : List (List ℕ)) → Past l answers
+      → Inv k b answers → Inv l b answers
+  advance k l early ending b answers past v =
+      record { ghost = v .ghost; known = λ a among. by (responseOf a) (v .known a among); past = past; revision = v .revision }
+    where
+      by : (r : Response) → Tells k b (v .ghost) r → Tells l b (v .ghost) r
+      by Unreadable t = tt
+      by (Plain command.ModeStart r) t = tt
+      by (Plain command.BankInfo r) t = tt
+      by (Plain command.VersionInfo r) t = tt
+      by (Plain command.WriteStart r) t = tt
+      by (Plain command.WriteEnd r) t = λ e. (ending (t e .0), t e .1)
+      by (Plain command.ModeEnd r) t = tt
+      by (Error r) t = tt
+      by (Target x) t = tt
+      by (Firmware id major minor revision) t = t
+      by (Written s r w crc) t = λ e a. (early (t e a .0), t e a .1)
+
+  -- the request that went out last, by where the record stands
+  abbrev pub lastName : Stand → Name
+  lastName NotBegun = ModeStart
+  lastName (At name gone) = name
+  lastName Finished = ModeEnd
+  lastName (GaveUp name why) = name
+
+  abbrev pub InvAt : Stand → Board → List (List ℕ) → Type 0
+  InvAt stand b answers = Inv (lastName stand) b answers
+
+  -- one packet more was heard
+  packet-more : (p : ℕ) (answers : List (List ℕ)) → PacketsHeard p answers → HeardIn answers (Stored image (packetSector image n p)) → PacketsHeard (p + 1) answers
+  packet-more p answers before h q l = by (decLt q p)
+    where
+      by : Dec (q < p) → HeardIn answers (Stored image (packetSector image n q))
+      by (yes m) = before q m
+      by (no m) =
+          let e : p ≡ q = omega arith in
+          subst (λ (x : ℕ). HeardIn answers (Stored image (packetSector image n x))) e h
+
+  no-version : AnyVersion Unreadable → ⊥
+  no-version a = by Unreadable refl a
+    where
+      by : (r : Response) → r ≡ Unreadable → AnyVersion r → ⊥
+      by r e (version id major minor revision) = no-way cc
+
+  follow : (k : Name) (gone : ℕ) (event : Event) (b : Board) (answers : List (List ℕ)) → numberOf k < count → SettlesAt image bank n tries k gone event
+      → From answers (heardIn event) → Inv k b answers → InvAt (followingOf k count) b answers
+  follow ModeStart gone event b answers l t f v = advance ModeStart VersionInfo (λ e. absurd (false≢true (sym e))) (λ e. absurd (false≢true e)) b answers tt v
+  follow VersionInfo gone event b answers l t f v =
+      advance VersionInfo BankInfo (λ e. absurd (false≢true (sym e))) (λ e. absurd (false≢true e)) b answers
+      (heard-from answers AnyVersion (heardIn event) f no-version (version-settled AnyVersion version (heardIn event) t)) v
+  follow BankInfo gone event b answers l t f v = advance BankInfo WriteStart (λ e. absurd (false≢true (sym e))) (λ e. absurd (false≢true e)) b answers (v .past) v
+  follow WriteStart gone event b answers l t f v =
+      advance WriteStart (Packet 0) (λ _. refl) (λ e. absurd (false≢true e)) b answers (v .past, λ q h. absurd (omega arith)) v
+  follow (Packet p) gone event b answers l t f v =
+      split (λ (s : Stand). InvAt s b answers) (ltb (p + 1) count)
+      (λ _. advance (Packet p) (Packet (p + 1)) (λ e. e) (λ e. e) b answers (v .past .0, more) v)
+      (λ e.
+      let least = ltb-false (p + 1) count e in
+      let is : p + 1 ≡ count = omega arith in
+      advance (Packet p) WriteEnd (λ _. refl) (λ e. absurd (false≢true e)) b answers
+      (v .past .0, subst (λ (x : ℕ). PacketsHeard x answers) is more) v)
+    where
+      is-stored : (number result write crc : ℕ) → Fields image (packetSector image n p) number result write crc → Stored image (packetSector image n p) (Written number result write crc)
+      is-stored number result write crc a =
+          record {
+            write = write;
+            accepted = a .write-is;
+            reads = rw (a .number-is, a .result-is, a .crc-is);
+          }
+
+      more : PacketsHeard (p + 1) answers
+      more =
+          packet-more p answers (v .past .1)
+          (heard-from answers (Stored image (packetSector image n p)) (heardIn event) f (λ s. no-way (cc (s .reads)))
+          (packet-settled image (packetSector image n p) (Stored image (packetSector image n p)) is-stored (heardIn event) t))
+  follow WriteEnd gone event b answers l t f v =
+      advance WriteEnd ModeEnd (λ _. refl) (λ _. refl) b answers
+      (heard-from answers (λ (r : Response). r ≡ Plain command.WriteEnd 0x06) (heardIn event) f (λ e. no-way cc) (own-ended command.WriteEnd (leb 2 gone) (heardIn event) t)) v
+  follow ModeEnd gone event b answers l t f v = v
+
+  pub event-keeps : (stand : Stand) (event : Event) (b : Board) (answers : List (List ℕ)) → Right count tries stand → From answers (heardIn event)
+      → InvAt stand b answers → InvAt (moves image bank n tries stand event) b answers
+  event-keeps NotBegun event b answers r f v = v
+  event-keeps (At name gone) event b answers r f v =
+      by (moved-by name gone bank image (packetSector image n (numberOf name)) (heardIn event) count tries)
+    where
+      by : {stand : Stand} → Moved count tries name gone (SettlesAt image bank n tries name gone event) stand → InvAt stand b answers
+      by (onward t) = follow name gone event b answers (r .2) t f v
+      by (again n h) = v
+      by (up n) = v
+  event-keeps Finished event b answers r f v = v
+  event-keeps (GaveUp name why) event b answers r f v = v
+
+  -- ---- the loop
+
+  pub record LoopInv (l : Loop Night) : Type 0 where
+    pub stand : Stand
+    pub buffer : List ℕ
+    pub told : l .told ≡ toldAt image bank n tries buffer stand
+    pub right : Right count tries stand
+    pub request : l .request ≡ frameOf image bank n (lastName stand)
+    pub inv : InvAt stand (l .board) (l .answers)
+
+  named : (stand : Stand) → Right count tries stand → numberOf (lastName stand) < count
+  named NotBegun r = absurd r
+  named (At name gone) r = r .2
+  named Finished r = st .some
+  named (GaveUp name why) r = r
+
+  -- an end names the request that was at hand
+  abbrev AtEnd : Name → Stand → Type 0
+  AtEnd name NotBegun = Unit {0}
+  AtEnd name (At k gone) = Unit {0}
+  AtEnd name Finished = name ≡ ModeEnd
+  AtEnd name (GaveUp k why) = name ≡ k
+
+  following-end : (name : Name) → AtEnd name (followingOf name count)
+  following-end ModeStart = tt
+  following-end VersionInfo = tt
+  following-end BankInfo = tt
+  following-end WriteStart = tt
+  following-end (Packet p) = split (AtEnd (Packet p)) (ltb (p + 1) count) (λ _. tt) (λ _. tt)
+  following-end WriteEnd = tt
+  following-end ModeEnd = refl
+
+  at-end : (name : Name) (gone : ℕ) (event : Event) {stand : Stand} → Moved count tries name gone (SettlesAt image bank n tries name gone event) stand → AtEnd name stand
+  at-end name gone event (onward t) = following-end name
+  at-end name gone event (again n h) = tt
+  at-end name gone event (up n) = refl
+
+  -- what is at hand then
+  request-then : (stand : Stand) (event : Event) (buffer former : List ℕ) → Right count tries stand → room ≤ length buffer → former ≡ frameOf image bank n (lastName stand)
+      → requestAfter (toldAt image bank n tries buffer (moves image bank n tries stand event) .next) (toldAt image bank n tries buffer (moves image bank n tries stand event) .buffer) former
+      ≡ frameOf image bank n (lastName (moves image bank n tries stand event))
+  request-then NotBegun event buffer former r h e = absurd r
+  request-then (At name gone) event buffer former r h e =
+      by (moves image bank n tries (At name gone) event) (stays-right image bank n tries st (At name gone) event r)
+      (at-end name gone event (moved-by name gone bank image (packetSector image n (numberOf name)) (heardIn event) count tries))
+    where
+      by : (s : Stand) → Right count tries s → AtEnd name s
+          → requestAfter (toldAt image bank n tries buffer s .next) (toldAt image bank n tries buffer s .buffer) former ≡ frameOf image bank n (lastName s)
+      by NotBegun q a = absurd q
+      by (At k g) q a =
+          let f = frame-short image bank n tries st k (q .2) in
+          front-take buffer (frameOf image bank n k) (omega arith)
+      by Finished q a = e ∙ ap (frameOf image bank n) a
+      by (GaveUp k why) q a = e ∙ ap (frameOf image bank n) a
+  request-then Finished event buffer former r h e = e
+  request-then (GaveUp name why) event buffer former r h e = e
+
+  pub round-keeps : (l : Loop Night) (r : Round) → room ≤ length (r .buffer) → LoopInv l → LoopInv (round nightSender stepMachine image l r)
+  round-keeps l r h v =
+      let inputs : List Input = inputsOf (l .request) (r .passages) in
+      let b : Board = after stepMachine (l .board) inputs in
+      let answers : List (List ℕ) = l .answers ++ saidIn (outcomes stepMachine (l .board) inputs) in
+      let event : Event = eventBy answers (r .comes) in
+      let s : Stand = v .stand in
+      let told-then : nightSender .event (l .told .record-then) event image (r .buffer) ≡ toldAt image bank n tries (r .buffer) (moves image bank n tries s event) =
+      ap (λ (o : Told Night). nightSender .event (o .record-then) event image (r .buffer)) (v .told)
+      ∙ event-is image bank n tries st s event (r .buffer) (v .right) h in
+      record {
+        stand = moves image bank n tries s event;
+        buffer = r .buffer;
+        told = told-then;
+        right = stays-right image bank n tries st s event (v .right);
+        request =
+            ap (λ (o : Told Night). requestAfter (o .next) (o .buffer) (l .request)) told-then
+            ∙ request-then s event (r .buffer) (l .request) (v .right) h (v .request);
+        inv =
+            event-keeps s event b answers (v .right) (event-from answers (r .comes))
+            (passages-keep (lastName s) (named s (v .right)) (l .request) (v .request) (r .passages) (l .board) (l .answers) (v .inv));
+      }
+
+  pub rounds-keep : (rs : List Round) (l : Loop Night) → RoomyRounds rs → LoopInv l → LoopInv (rounds nightSender stepMachine image l rs)
+  rounds-keep [] l no-round v = v
+  rounds-keep (r ∷ rs) l (round-more h hs) v = rounds-keep rs (round nightSender stepMachine image l r) hs (round-keeps l r h v)
+
+  pub begins-so : (before : List ℕ) (b : Board) → room ≤ length before → b .client .fixed .revision < 2 ^ 32
+      → LoopInv (begins nightSender stepMachine image bank n tries before b)
+  begins-so before b h revision =
+      let told-then = start-is image bank n tries st before h in
+      let f = frame-short image bank n tries st ModeStart (st .some) in
+      record {
+        stand = At ModeStart 1;
+        buffer = before;
+        told = told-then;
+        right = begins-right image bank n tries st;
+        request =
+            ap (λ (o : Told Night). requestAfter (o .next) (o .buffer) []) told-then
+            ∙ front-take before (frameOf image bank n ModeStart) (omega arith);
+        inv = record { ghost = []; known = λ a among. absurd (nothing-yet a among); past = tt; revision = revision };
+      }
+    where
+      nothing-yet : (a : List ℕ) → Among a [] → ⊥
+      nothing-yet a m = by [] refl m
+        where
+          by : (l : List (List ℕ)) → l ≡ [] → Among a l → ⊥
+          by (x ∷ l) e here = no-way cc
+          by (x ∷ l) e (behind m) = no-way cc
+
+  -- it is in where that is told
+  in-done : (stand : Stand) → Right count tries stand → isIn (nextOf image bank n stand) ≡ true → (b : Board) (answers : List (List ℕ)) → InvAt stand b answers
+      → Done image bank n b
+  in-done NotBegun r e b answers v = absurd r
+  in-done (At name gone) r e b answers v = absurd (false≢true e)
+  in-done Finished r e b answers v = done-heard ModeEnd b answers v (v .past)
+  in-done (GaveUp ModeStart why) r e b answers v = absurd (false≢true e)
+  in-done (GaveUp VersionInfo why) r e b answers v = absurd (false≢true e)
+  in-done (GaveUp BankInfo why) r e b answers v = absurd (false≢true e)
+  in-done (GaveUp WriteStart why) r e b answers v = absurd (false≢true e)
+  in-done (GaveUp (Packet p) why) r e b answers v = absurd (false≢true e)
+  in-done (GaveUp WriteEnd why) r e b answers v = absurd (false≢true e)
+  in-done (GaveUp ModeEnd why) r e b answers v = done-heard ModeEnd b answers v (v .past)
+
+-- what no input changes is unchanged after all rounds
+unchanged : {S : Type 0} (m : NightSender S) (image : List ℕ) (rs : List Round) (l : Loop S) → Unchanged (l .board) (rounds m stepMachine image l rs .board)
+unchanged m image [] l = record { client = refl; bytes = refl }
+unchanged m image (r ∷ rs) l =
+    let inputs : List Input = inputsOf (l .request) (r .passages) in
+    let rest = unchanged m image rs (round m stepMachine image l r) in
+    record { client = rest .client ∙ run-stays inputs (l .board); bytes = rest .bytes ∙ run-running inputs (l .board) }
+
+pub loop-met : MeetsLoop nightSender stepMachine
+loop-met image bank n tries before b rs st h hs revision e =
+    let l : Loop Night = begins nightSender stepMachine image bank n tries before b in
+    let v = rounds-keep image bank n tries st rs l hs (begins-so image bank n tries st before b h revision) in
+    let last : Loop Night = rounds nightSender stepMachine image l rs in
+    let d =
+    in-done image bank n tries st (v .stand) (v .right) (sym (ap (λ (o : Told Night). isIn (o .next)) (v .told)) ∙ e) (last .board) (last .answers) (v .inv) in
+    record {
+      sectors = d .sectors;
+      target = d .target;
+      is-image = d .is-image;
+      starts-next = d .starts-next;
+      kept = unchanged nightSender image rs l;
+    }

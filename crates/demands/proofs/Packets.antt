@@ -26,6 +26,13 @@ use Rattle.sender.proofs.Packets.{Sent, sent-in, sector-length}
 use Rattle.demands.specs.Packets.{Made·Out, Maker, Packet, MeetsPackets, packetMaker, InventsNumber, firstMaker}
 use Rattle.demands.proofs.Witness.{image, image-size, two-packets, two-good, sectors-are}
 
+pub packet-long : (img : List ℕ) (n p : ℕ) → length img ≡ 512 * n → p < packetCount img n → length (packetFrame img n p) ≡ 519
+unfolding packetFrame
+packet-long img n p sized h =
+    let s : Sent img n (packetSector img n p) = sent-in img n p h in
+    length-write (packetSector img n p) (sectorOf img (packetSector img n p)) (footerOf (packetCount img n) p)
+    ∙ ap (λ (x : ℕ). x + 7) (sector-length img n sized (packetSector img n p) (s .low) (s .high))
+
 module _ (img : List ℕ) (n p : ℕ) (before : List ℕ) (g : goodN n ≡ true) (l : (imageGood img n && leb room (length before)) ≡ true) where
   roomy : 519 ≤ length before
   roomy = leb-true 519 (length before) (and-right (imageGood img n) (leb room (length before)) l)
@@ -39,11 +46,7 @@ module _ (img : List ℕ) (n p : ℕ) (before : List ℕ) (g : goodN n ≡ true)
     made-is = rw (g, l, lt-ltb p (packetCount img n) h)
 
     frame-long : length (packetFrame img n p) ≡ 519
-    unfolding packetFrame
-    frame-long =
-        let s : Sent img n (packetSector img n p) = sent-in img n p h in
-        length-write (packetSector img n p) (sectorOf img (packetSector img n p)) (footerOf (packetCount img n) p)
-        ∙ ap (λ (x : ℕ). x + 7) (sector-length img n sized (packetSector img n p) (s .low) (s .high))
+    frame-long = packet-long img n p sized h
 
     buffer-is : packetMaker img n p before .buffer ≡ frontOf before (packetFrame img n p)
     buffer-is = ap (λ (m : Made). bufferAfter m before (packetFrame img n p)) made-is

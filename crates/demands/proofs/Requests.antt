@@ -32,7 +32,7 @@ few (WriteStart bank n) =
 few WriteEnd = omega arith
 few ModeEnd = omega arith
 
-short : (request : Request) → length (requestFrame request) ≤ room
+pub short : (request : Request) → length (requestFrame request) ≤ room
 short request = omega (arith, length-control (requestCode (commandOf request)) (asksFor request), few request)
 
 module _ (request : Request) (before : List ℕ) (g : givenGood request ≡ true) (h : room ≤ length before) where

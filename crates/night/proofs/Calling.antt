@@ -26,6 +26,8 @@ use Rattle.night.specs.declared.record.Stand.{Stand}
 use Rattle.night.specs.declared.record.Stand.the-variants.{NotBegun, At, Finished, GaveUp}
 use Rattle.night.specs.declared.record.Why.{Why}
 use Rattle.night.specs.Call.{
+  Event,
+  heardIn,
   standsAt,
   called,
   nextOf,
@@ -35,6 +37,7 @@ use Rattle.night.specs.Call.{
   judged,
   atHandOf,
   byStand,
+  stepOf,
   nightOf,
   begun,
   startOf,
@@ -46,6 +49,7 @@ use Rattle.night.specs.Call.{
   AtHand·Is,
   Make·Is,
   Step·Is,
+  Event·Is,
   Start·Is,
 }
 use Rattle.night.specs.Judge.{judgeOf}
@@ -231,10 +235,15 @@ module _ (night : Night) (response : Response) (image before : List ℕ) (r : Ca
       (over-says night (numberOf name) (next.GaveUp name why) image (length before) refl)
       (over-keeps night (numberOf name) (next.GaveUp name why) image (length before) before refl)
 
--- a response, as it reads
-pub step-heard : (night : Night) (response heard : Response) (image before : List ℕ) (r : Called) (after : List ℕ) → response ≡ heard
-    → Step·Is night response image before r after → Step·Is night heard image before r after
-step-heard night response heard image before r after e s = subst (λ (x : Response). Step·Is night x image before r after) e s
+-- by what the event says
+pub step-event : (night : Night) (response : Response) (event : Event) (image before : List ℕ) (r : Called) (after : List ℕ) → response ≡ heardIn event
+    → Step·Is night response image before r after → Event·Is night event image before r after
+step-event night response event image before r after e s =
+    record {
+      answered = s .answered ∙ ap (λ (x : Response). stepOf night x image (length before)) e;
+      says = s .says;
+      stands = s .stands ∙ ap (λ (x : Response). bufferBy image before (stepOf night x image (length before))) e;
+    }
 
 -- ---- the start
 

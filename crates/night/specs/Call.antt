@@ -159,8 +159,7 @@ pub record Start·Is (image : List ℕ) (bank : Bank) (n tries : ℕ) (before : 
   pub says : nextNumber (r .next) ≡ lentSays image n tries (length before) 0
   pub stands : after ≡ bufferBy image before (startOf image bank n tries (length before))
 
-abbrev pub Heard·Is : Night → List ℕ → List ℕ → List ℕ → Called → List ℕ → Type 0
-Heard·Is night datagram image before r after = Step·Is night (heardIn (Heard datagram)) image before r after
-
-abbrev pub Silent·Is : Night → List ℕ → List ℕ → Called → List ℕ → Type 0
-Silent·Is night image before r after = Step·Is night (heardIn Silence) image before r after
+pub record Event·Is (night : Night) (event : Event) (image before : List ℕ) (r : Called) (after : List ℕ) : Type 0 where
+  pub answered : r ≡ stepOf night (heardIn event) image (length before)
+  pub says : nextNumber (r .next) ≡ stepSays image night (length before) (night .stand)
+  pub stands : after ≡ bufferBy image before (stepOf night (heardIn event) image (length before))

@@ -13,7 +13,7 @@ ghost use Rattle.layout.specs.Layout.{sectorSize, goodN, sectorOf};
 ghost use Rattle.crc.specs.Crc.{crcOf};
 ghost use Rattle.night.specs.Judge.{ownResult, ownVerdict, versionVerdict, bankVerdict, fieldsAwaited, packetVerdict, judgeOf};
 
-pub enum Verdict {
+pub(crate) enum Verdict {
     // It is the awaited one, or counts as done.
     Settled,
     Spent,

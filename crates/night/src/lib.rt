@@ -1,6 +1,6 @@
 // The night sender: an event comes, and the next request goes out. docs/NIGHT.md has the exchange.
 pub mod call;
-pub mod judge;
+mod judge;
 mod lent;
 mod make;
 pub mod name;
