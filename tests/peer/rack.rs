@@ -66,12 +66,12 @@ impl Evening {
     pub fn fitting(draw: &mut Draw) -> Evening {
         let n = if draw.below(12) == 0 { 32 } else { 2 + draw.below(11) };
         let (running, count) = (draw.below(2), 1 + draw.below(if n == 32 { 30 } else { 6 }));
-        let image = image::drawn(draw, n, count).bytes;
+        let image = if draw.below(5) == 0 { image::alike(draw, n) } else { image::drawn(draw, n, count) }.bytes;
         let (bank, tries) = (1 - running, 1 + draw.below(9));
         Evening { n, bank, tries, image, sound: true, board_n: n, running, state: State::Idle, worn: None }
     }
 
-    /// One bit off, until the bank check sees it; a bit off is always seen.
+    /// One bit off: a body's, the table's or one of the blanks.
     fn spoil(&mut self, draw: &mut Draw) {
         let at = draw.below(self.image.len());
         self.image[at] ^= 1 << draw.below(8);
