@@ -432,11 +432,10 @@ impl Cases {
         self.plain("0 2 3", in_lf(&LISTING));
         self.plain("0 3 2", in_lf(&LISTING).to_ascii_lowercase());
         for length in [LONGEST_TEXT, LONGEST_TEXT + 1] {
-            let mut lines = rows(bank::start(0), &[0x11; 2 * SECTOR], 16);
-            let left = length - in_lf(&lines).len() - END.len();
+            let mut text = in_lf(&rows(bank::start(0), &[0x11; 2 * SECTOR], 16));
+            // Filled up by data of no bytes, in lines of 12, or with CR LF of 13.
+            let left = length - text.len() - END.len();
             let (short, long) = (left / 12 - left % 12, left % 12);
-            let mut text = in_lf(&lines);
-            lines.clear();
             text.extend(in_lf(&vec![data(0, &[]); short]));
             text.extend(with_ends(&vec![data(0, &[]); long], "\r\n"));
             text.extend(END.bytes());
