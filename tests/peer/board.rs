@@ -4,6 +4,7 @@ use crate::client::{Client, Latest, Lent, Notice, State, Version};
 use crate::crc::crc32;
 use crate::hex;
 use crate::wrong::Wrong;
+use std::io::{self, BufRead, BufReader, Read, Write};
 
 const LONGEST_LINE: usize = 4_096;
 const ROOM: usize = 252_416;
@@ -62,6 +63,29 @@ pub fn run(script: &[u8], wrong: Option<Wrong>) -> Vec<String> {
         }
     }
     written
+}
+
+/// The script line by line: what a line writes is out before the next is waited for.
+pub fn talk(input: impl Read, mut output: impl Write) -> io::Result<()> {
+    let (mut board, mut input, mut line) = (Board::new(None), BufReader::new(input), Vec::new());
+    for i in 1.. {
+        line.clear();
+        if input.read_until(b'\n', &mut line)? == 0 {
+            break;
+        }
+        match board.line(line.strip_suffix(b"\n").unwrap_or(&line)) {
+            Ok(None) => (),
+            Ok(Some(text)) => writeln!(output, "{}", text)?,
+            Err(why) => {
+                writeln!(output, "line {}: {}", i, why)?;
+                break;
+            }
+        }
+        if input.buffer().is_empty() {
+            output.flush()?;
+        }
+    }
+    output.flush()
 }
 
 /// Those of the wrong boards that write nothing else than the right one does.

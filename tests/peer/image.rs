@@ -25,6 +25,14 @@ pub fn drawn(draw: &mut Draw, n: usize, count: usize) -> Image {
     image
 }
 
+/// One body of one byte over and over, up to the end: all sectors but the first are alike.
+pub fn alike(draw: &mut Draw, n: usize) -> Image {
+    let body = 20..n * SECTOR;
+    let mut image = Image { bytes: vec![draw.below(0xFF) as u8; n * SECTOR], bodies: vec![body] };
+    image.seal();
+    image
+}
+
 impl Image {
     /// Writes the table for the bodies as they are.
     fn seal(&mut self) {

@@ -10,6 +10,8 @@
 //!     peer packets           what the paper's program writes for the text on standard input
 //!     peer update BANK N     what `update` writes for the text on standard input
 //!     peer hexout BANK       what `hexout` writes for the image on standard input
+//!     peer night BANK N T FILE.hex
+//!                            what `night` does: requests on standard output, events on standard input, and its status
 //!     peer texts DIRECTORY   the texts that `packets` is tried with, each in a file of its own
 //!     peer images DIRECTORY  the images that `hexout` is tried with, each in a file of its own
 //!     peer board-cases       the script that `board` is tried with
@@ -18,6 +20,13 @@
 //!     peer demands DIR       two scripts, DIR/first.script and DIR/second.script, for the user's demands
 //!     peer judge DIR         whether DIR/first.output and DIR/second.output, as a board wrote them, meet the demands
 //!     peer wrong-boards      that the script tells each wrong board from a right one, and that the judge refuses it
+//!     peer night-cases DIR   the cases that `night` is tried with: DIR/NNN.words, NNN.hex and NNN.events
+//!     peer wrong-nights      that the cases tell each wrong night sender from a right one, and that its judge refuses it
+//!     peer nights SEED COUNT NIGHT BOARD
+//!                            so many nights over a radio by the seed, between the commands NIGHT, which is given its four words, and BOARD
+//!     peer nights-udp SEED COUNT NIGHT BOARD
+//!                            the same over sockets of the loopback, where there is one
+//!     peer late NIGHT BOARD  the night on which a write start comes too late
 mod bank;
 mod bank_cases;
 mod board;
@@ -35,14 +44,27 @@ mod hexout_images;
 mod image;
 mod intel;
 mod judge;
+mod late;
 mod lines;
+mod night;
+mod night_answers;
+mod night_cases;
+mod night_judge;
+mod night_run;
+mod night_steps;
+mod night_talk;
 mod packets;
 mod packets_texts;
+mod program;
+mod rack;
+mod radio;
+mod radio_udp;
 mod response;
 mod response_cases;
 mod script;
 mod selftest;
 mod selftest_hexout;
+mod selftest_night;
 mod selftest_sending;
 mod sender;
 mod sending;
@@ -51,8 +73,9 @@ mod text_cases;
 mod texts;
 mod update;
 mod wrong;
+mod wrong_nights;
 
-use std::io::{self, Read, Write};
+use std::io::{self, BufWriter, Read, Write};
 use std::path::Path;
 use std::process::exit;
 
@@ -62,12 +85,22 @@ fn main() {
         ["selftest"] => selftest::run(),
         ["cases"] => write_out(&[cases::all(), bank_cases::all()].concat()),
         ["vectors"] => read_in().and_then(|text| write_out(&lines::answers(&text))),
-        ["board"] => read_in().and_then(|script| write_out(&board::run(&script, None))),
+        ["board"] => board::talk(io::stdin(), BufWriter::new(io::stdout())).map_err(|e| e.to_string()),
         ["board-cases"] => write_out(&board_cases::all()),
         ["board-endings"] => write_out(&board_endings::all()),
         ["demands", directory] => demands::write(directory),
-        ["judge", directory] => demands::judge(directory).map(|said| println!("{}", said)),
-        ["wrong-boards"] => wrong_boards().map(|said| println!("{}", said)),
+        ["judge", directory] => told(demands::judge(directory)),
+        ["wrong-boards"] => told(wrong_boards()),
+        ["night", bank, n, tries, file] => exit(night_talk::called(&[bank, n, tries], file)),
+        ["night-cases", directory] => night_cases::write(directory),
+        ["nights", seed, count, night, board] => {
+            counted(seed, count).and_then(|(seed, count)| told(radio::nights(seed, count, night, board)))
+        }
+        ["nights-udp", seed, count, night, board] => {
+            counted(seed, count).and_then(|(seed, count)| told(radio_udp::nights(seed, count, night, board)))
+        }
+        ["late", night, board] => told(late::run(night, board)),
+        ["wrong-nights"] => told(wrong_nights::told()),
         ["sending-cases", ref files @ ..] => {
             let texts: Result<Vec<Vec<u8>>, String> = files.iter().map(|file| read_file(file)).collect();
             texts.and_then(|texts| write_out(&sending_cases::all(&texts)))
@@ -92,6 +125,15 @@ fn main() {
         eprintln!("peer: {}", why);
         exit(1);
     }
+}
+
+fn told(said: Result<String, String>) -> Result<(), String> {
+    said.map(|said| println!("{}", said))
+}
+
+fn counted(seed: &str, count: &str) -> Result<(u64, usize), String> {
+    let number = |word: &str| lines::decimal(word, 999_999).ok_or("SEED and COUNT are numbers");
+    Ok((number(seed)? as u64, number(count)?))
 }
 
 fn read_in() -> Result<Vec<u8>, String> {
