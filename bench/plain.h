@@ -16,5 +16,9 @@ size_t plain_take(crc_of *crc, size_t n, const uint8_t *slots, size_t length, ui
                   size_t size1, const uint8_t *marks, size_t mark_count, const uint8_t *address, size_t address_length,
                   uint8_t *buffer, size_t room);
 
+// With `indexed`, the packets' sectors are noted once, at the start.
+size_t plain_night(crc_of *crc, int indexed, const uint8_t *image, size_t size, size_t n, size_t tries, const uint8_t *slots,
+                   size_t length, uint8_t *buffer, size_t room);
+
 size_t plain_rows_length(const uint8_t *image, size_t size);
 size_t plain_rows_write(const uint8_t *image, size_t size, uint8_t *text, size_t room);

@@ -19,4 +19,5 @@ determined =
         p .given ∙ sym (q .given),
         (p .bank-zero ∙ sym (q .bank-zero), (p .bank-one ∙ sym (q .bank-one), p .buffer-left ∙ sym (q .buffer-left))),
       );
+      night-slots = λ image n tries slots before x y u v p q. (p .given ∙ sym (q .given), p .stands ∙ sym (q .stands));
     }

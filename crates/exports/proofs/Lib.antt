@@ -1,3 +1,4 @@
 pub mod Determined
+pub mod Hearing
 pub mod Taking
 pub mod Telling

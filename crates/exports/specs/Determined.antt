@@ -6,6 +6,7 @@ use Prim.Native.Nat.{ℕ}
 use Rattle.outcomes.specs.Once.{Once, Twice, Thrice, Fourfold}
 use Rattle.exports.specs.Check.{CheckNumber·Is}
 use Rattle.exports.specs.Text.{ReadNumbers·Is}
+use Rattle.exports.specs.Heard.{NightSlots·Is}
 use Rattle.exports.specs.Packet.{PacketNumber·Is}
 use Rattle.exports.specs.Slots.{TakeSlots·Is}
 use Rattle.exports.specs.Written.{LengthNumber·Is, WriteNumber·Is}
@@ -18,3 +19,4 @@ pub record Determined : Type 0 where
   pub packet-number : (image : List ℕ) (n p : ℕ) (before : List ℕ) → Twice (PacketNumber·Is image n p before)
   pub take-slots : (n : ℕ) (slots bank0 bank1 marks address buffer : List ℕ)
       → Fourfold (TakeSlots·Is n slots bank0 bank1 marks address buffer)
+  pub night-slots : (image : List ℕ) (n tries : ℕ) (slots before : List ℕ) → Twice (NightSlots·Is image n tries slots before)

@@ -1,5 +1,6 @@
 pub mod Check
 pub mod Determined
+pub mod Heard
 pub mod Packet
 pub mod Slots
 pub mod Text

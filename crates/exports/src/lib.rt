@@ -2,6 +2,7 @@
 pub mod check;
 pub mod checksum;
 pub mod crc32;
+pub mod heard;
 pub mod packet;
 pub mod slots;
 pub mod text;

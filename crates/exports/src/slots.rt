@@ -11,13 +11,13 @@ ghost use Rattle.client.specs.Step.{Step·Is};
 ghost use Rattle.exports.specs.Slots.{slotRoom, slotSize, sizeAt, datagramAt, slotsGood, givenOf, fresh, TakeSlots·Is};
 
 // A slot has a datagram's length in two bytes, high byte first, and room for the longest request.
-const SLOT: usize = 521;
+pub(crate) const SLOT: usize = 521;
 
 // The longest request.
 const ROOM: usize = 519;
 
 // The length that slot k says.
-fn size_at(slots: &[u8], k: usize) -> usize
+pub(crate) fn size_at(slots: &[u8], k: usize) -> usize
     requires { ⌜ (k + 1) * slotSize ≤ length (now slots) ⌝ }
     ensures { λ r. ⌜ r ≡ sizeAt (now (slots .entry)) k ⌝ }
 {
@@ -25,7 +25,7 @@ fn size_at(slots: &[u8], k: usize) -> usize
 }
 
 // Whether no slot says more than it has room for.
-fn slots_good(slots: &[u8], count: usize) -> bool
+pub(crate) fn slots_good(slots: &[u8], count: usize) -> bool
     requires { ⌜ count * slotSize ≤ length (now slots) ⌝ }
     ensures { λ r. ⌜ r ≡ slotsGood (now (slots .entry)) count ⌝ }
 {
