@@ -71,7 +71,7 @@ fn with_word(number: usize) {
 
 fn called() {
     let mut first = [0u8; 8];
-    let size = call::word(false, &mut first);
+    let size = call::word(0, &mut first);
     with_word(text::decimal(&first[..size], 1));
 }
 

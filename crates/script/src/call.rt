@@ -30,9 +30,15 @@ pub fn unwritten() {
     tell(b"o");
 }
 
-// The input could not be read to its end.
-pub fn unread() {
-    os::fail(b"standard input");
+// The input that is named could not be read, or not to its end.
+pub fn unread(name: &[u8]) {
+    os::fail(name);
+    tell(b"i");
+}
+
+// The input ended where more of it was needed.
+pub fn cut_short(why: &[u8]) {
+    io::write_all(STDERR_FILENO, why);
     tell(b"i");
 }
 
@@ -64,13 +70,9 @@ pub fn takes(words: usize, usage: &[u8]) -> bool
     false
 }
 
-// The first word or the second, to the front of `into`, and its length; 0 where it is missing or longer.
-pub fn word(second: bool, into: &mut [u8]) -> usize
+// A word of the call, counted from 0, to the front of `into`, and its length; 0 where it is missing or longer.
+pub fn word(number: u8, into: &mut [u8]) -> usize
     ensures { λ r. ⌜ Counts r (now (into .exit)) ⌝ }
 {
-    let at = before_words();
-    if second {
-        return os::arg(at + 1, into);
-    }
-    os::arg(at, into)
+    os::arg(before_words() + number as usize, into)
 }

@@ -37,7 +37,7 @@ pub fn before() -> Turn
 // Where a read failed that is told, and what was begun of a line is no line.
 fn failed(got: isize) -> bool {
     if got < 0 {
-        call::unread();
+        call::unread(b"standard input");
         return true;
     }
     false

@@ -160,8 +160,8 @@ fn with_words(number: usize, n: usize) {
 fn called() {
     let mut first = [0u8; 8];
     let mut second = [0u8; 8];
-    let one = call::word(false, &mut first);
-    let two = call::word(true, &mut second);
+    let one = call::word(0, &mut first);
+    let two = call::word(1, &mut second);
     with_words(
         text::decimal(&first[..one], 1),
         text::decimal(&second[..two], 6),

@@ -1,17 +1,17 @@
--- `script::input::all` is safe and ends: each turn gains a byte.
+-- `script::input::read` is safe and ends: each turn gains a byte.
 -- Assumes nothing.
 use Prim.Native.Nat.{_≤_, _-_}
 use mathlib.Core.Path.{_≡_}
 use lib.ListN.{length}
 use borrow.Author.Needs.{needs}
-use Rattle.script.proofs.input.all.Statement.{statement}
-use Rattle.script.proofs.input.all.Tie as tie
+use Rattle.script.proofs.input.read.Statement.{statement}
+use Rattle.script.proofs.input.read.Tie as tie
 
 abbrev Inv-loop : tie.InvT-loop
-Inv-loop room₀ done₀ room done = (done ≤ length room) × (length room ≡ length room₀)
+Inv-loop from name room₀ done₀ room done = (done ≤ length room) × (length room ≡ length room₀)
 
 abbrev μ-loop : tie.MeasureT-loop
-μ-loop room₀ done₀ room done = length room - done
+μ-loop from name room₀ done₀ room done = length room - done
 
 loop-holds : tie.Need-loop-holds Inv-loop μ-loop
 loop-holds c = search needs
@@ -70,8 +70,8 @@ same-length-3 c = search needs
 returns-3 : tie.Need-returns-3 Inv-loop μ-loop
 returns-3 c = search needs
 
-pub all-spec : {M : Type 1} → statement M
-all-spec =
+pub read-spec : {M : Type 1} → statement M
+read-spec =
     tie.close
     (tie.spec
     Inv-loop
