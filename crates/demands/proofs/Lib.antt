@@ -20,6 +20,7 @@ pub mod NightBoard
 pub mod NightLoop
 pub mod NightOrder
 pub mod NightRuns
+pub mod NightServed
 pub mod NightSettled
 pub mod Packets
 pub mod Reading

@@ -178,7 +178,7 @@ worn-idle : (s : ℕ) → s < 65536 → idle (responseOf (writeFrame s (writtenB
 unfolding mayCarry repeatsOf crcFits
 worn-idle s h = ap idle (sym (written-back s 0x06 0x1C 0 h (omega arith) refl refl refl refl))
 
-stored-back : (s w crc : ℕ) → s < 65536 → crc < 2 ^ 32 → Accepted w → responseOf (writeFrame s (writtenBytes 0x06 w crc) End) ≡ Written s 0x06 w crc
+pub stored-back : (s w crc : ℕ) → s < 65536 → crc < 2 ^ 32 → Accepted w → responseOf (writeFrame s (writtenBytes 0x06 w crc) End) ≡ Written s 0x06 w crc
 unfolding mayCarry repeatsOf crcFits storedOf
 stored-back s w crc h c (inl e) = rw e (sym (written-back s 0x06 0x06 crc h c refl refl refl (or-true (eqb crc 0))))
 stored-back s w crc h c (inr e) = rw e (sym (written-back s 0x06 0x1D crc h c refl refl refl (or-true (eqb crc 0))))
@@ -484,7 +484,7 @@ module _ (image : List ℕ) (bank : Bank) (n : ℕ) where
       ∙ ap bankSize (o .sectors)
 
   -- all that is sent is shown, and nothing else but 0xFF: it is the image
-  whole-image : length image ≡ bankSize n → (b : Board) (g : List ℕ) → Ours image bank n b g → AllIn image bank n g → g ≡ image
+  pub whole-image : length image ≡ bankSize n → (b : Board) (g : List ℕ) → Ours image bank n b g → AllIn image bank n g → g ≡ image
   whole-image size b g o all = ext-sector g image n (ours-long b g o) size each
     where
       each : (s : ℕ) → 1 ≤ s → s ≤ n → sectorOf g s ≡ sectorOf image s
@@ -518,10 +518,10 @@ module _ (image : List ℕ) (bank : Bank) (n : ℕ) where
     full = sector-length image n by-sectors k (sent .low) (sent .high)
 
     module _ (b : Board) (g : List ℕ) (call : LentCall) (brings : call .datagram ≡ packetFrame image n p) where
-      reads : readOf (call .datagram) ≡ Write k 512 (footerOf (packetCount image n) p)
+      pub reads : readOf (call .datagram) ≡ Write k 512 (footerOf (packetCount image n) p)
       reads = ap readOf brings ∙ sym (packet-read image n p good by-sectors there)
 
-      padded-are : paddedOf (dataIn (call .datagram)) ≡ sectorOf image k
+      pub padded-are : paddedOf (dataIn (call .datagram)) ≡ sectorOf image k
       padded-are = ap paddedOf (ap dataIn brings ∙ packet-data image n p) ∙ padded-whole (sectorOf image k) full
 
       -- the sector is shown, and the others as before

@@ -12,12 +12,13 @@ use Rattle.buffer.specs.Number.{numberAt}
 use Rattle.frame.specs.Read.{readOf, parametersIn}
 use Rattle.frame.specs.declared.read.Footer.{Footer}
 use Rattle.frame.specs.declared.read.Read.the-variants.{Fault, Control, Write}
-use Rattle.layout.specs.Layout.{goodN, bankSize, otherOf}
+use Rattle.layout.specs.Layout.{goodN, bankSize, bankNumber, otherOf}
 use Rattle.layout.specs.Pair.{bankIn}
 use Rattle.client.specs.declared.notice.Kind.the-variants.{Started, Ended}
 use Rattle.client.specs.declared.record.Latest.the-variants.{Good, Otherwise}
 use Rattle.exchange.specs.declared.state.State.{State}
 use Rattle.exchange.specs.declared.state.State.the-variants as state
+use Rattle.exchange.specs.Answer.{versionBytes}
 use Rattle.exchange.specs.State.{isClosed}
 use Rattle.client.specs.Notice.{noNotice, noticeWith, latestNumber}
 use Rattle.client.specs.Perform.{fitOf}
@@ -78,6 +79,37 @@ module _ (b : Board) (call : LentCall) (h : Heard b call) where
       → stepMachine b (Datagram call) ≡ changed b call (modeEnded (b .client)) (noticeWith Ended (latestNumber (b .client .latest)) (call .address)) (controlFrame 0x74 (0x06 ∷ []))
   mode-end s r =
       let t : acceptedIn (b .client .state) 0x64 ≡ true = ap (λ (x : State). acceptedIn x 0x64) s in
+      comes b (Datagram call) _ (rw (h .good, h .runs, h .lengths, h .live, r, t))
+
+  pub version : b .client .state ≡ state.Control → readOf (call .datagram) ≡ Control 0x68 0
+      → stepMachine b (Datagram call) ≡ answered b call (controlFrame 0x78 (versionBytes (b .client .fixed .major) (b .client .fixed .minor) (b .client .fixed .revision)))
+  version s r =
+      let t : acceptedIn (b .client .state) 0x68 ≡ true = ap (λ (x : State). acceptedIn x 0x68) s in
+      comes b (Datagram call) _ (rw (h .good, h .runs, h .lengths, h .live, r, t))
+
+  pub bank-told : b .client .state ≡ state.Control → readOf (call .datagram) ≡ Control 0x62 0
+      → stepMachine b (Datagram call) ≡ answered b call (controlFrame 0x72 (0x06 ∷ bankNumber (otherOf (b .client .fixed .running)) ∷ []))
+  bank-told s r =
+      let t : acceptedIn (b .client .state) 0x62 ≡ true = ap (λ (x : State). acceptedIn x 0x62) s in
+      comes b (Datagram call) _ (rw (h .good, h .runs, h .lengths, h .live, r, t))
+
+  -- out of its state: 15
+  pub mode-start-declined : b .client .state ≡ state.Control → readOf (call .datagram) ≡ Control 0x61 0
+      → stepMachine b (Datagram call) ≡ answered b call (controlFrame 0x71 (0x15 ∷ []))
+  mode-start-declined s r =
+      let t : acceptedIn (b .client .state) 0x61 ≡ false = ap (λ (x : State). acceptedIn x 0x61) s in
+      comes b (Datagram call) _ (rw (h .good, h .runs, h .lengths, h .live, r, t))
+
+  pub write-start-declined : b .client .state ≡ state.Write → readOf (call .datagram) ≡ Control 0x40 8
+      → stepMachine b (Datagram call) ≡ answered b call (controlFrame 0x70 (0x15 ∷ []))
+  write-start-declined s r =
+      let t : acceptedIn (b .client .state) 0x40 ≡ false = ap (λ (x : State). acceptedIn x 0x40) s in
+      comes b (Datagram call) _ (rw (h .good, h .runs, h .lengths, h .live, r, t))
+
+  pub mode-end-declined : b .client .state ≡ state.Idle → readOf (call .datagram) ≡ Control 0x64 0
+      → stepMachine b (Datagram call) ≡ answered b call (controlFrame 0x74 (0x15 ∷ []))
+  mode-end-declined s r =
+      let t : acceptedIn (b .client .state) 0x64 ≡ false = ap (λ (x : State). acceptedIn x 0x64) s in
       comes b (Datagram call) _ (rw (h .good, h .runs, h .lengths, h .live, r, t))
 
   -- refusals
