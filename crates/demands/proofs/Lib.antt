@@ -16,6 +16,7 @@ pub mod Fresh
 pub mod Latest
 pub mod Lending
 pub mod New
+pub mod NightArrival
 pub mod NightBoard
 pub mod NightLoop
 pub mod NightOrder

@@ -437,7 +437,7 @@ module _ (image : List ℕ) (bank : Bank) (n tries : ℕ) (st : Startable image 
   at-end name gone event (up n) = refl
 
   -- what is at hand then
-  request-then : (stand : Stand) (event : Event) (buffer former : List ℕ) → Right count tries stand → room ≤ length buffer → former ≡ frameOf image bank n (lastName stand)
+  pub request-then : (stand : Stand) (event : Event) (buffer former : List ℕ) → Right count tries stand → room ≤ length buffer → former ≡ frameOf image bank n (lastName stand)
       → requestAfter (toldAt image bank n tries buffer (moves image bank n tries stand event) .next) (toldAt image bank n tries buffer (moves image bank n tries stand event) .buffer) former
       ≡ frameOf image bank n (lastName (moves image bank n tries stand event))
   request-then NotBegun event buffer former r h e = absurd r
@@ -483,28 +483,34 @@ module _ (image : List ℕ) (bank : Bank) (n tries : ℕ) (st : Startable image 
   rounds-keep [] l no-round v = v
   rounds-keep (r ∷ rs) l (round-more h hs) v = rounds-keep rs (round nightSender stepMachine image l r) hs (round-keeps l r h v)
 
-  pub begins-so : (before : List ℕ) (b : Board) → room ≤ length before → b .client .fixed .revision < 2 ^ 32
-      → LoopInv (begins nightSender stepMachine image bank n tries before b)
-  begins-so before b h revision =
-      let told-then = start-is image bank n tries st before h in
-      let f = frame-short image bank n tries st ModeStart (st .some) in
-      record {
-        stand = At ModeStart 1;
-        buffer = before;
-        told = told-then;
-        right = begins-right image bank n tries st;
-        request =
-            ap (λ (o : Told Night). requestAfter (o .next) (o .buffer) []) told-then
-            ∙ front-take before (frameOf image bank n ModeStart) (omega arith);
-        inv = record { ghost = []; known = λ a among. absurd (nothing-yet a among); past = tt; revision = revision };
-      }
-    where
-      nothing-yet : (a : List ℕ) → Among a [] → ⊥
-      nothing-yet a m = by [] refl m
-        where
-          by : (l : List (List ℕ)) → l ≡ [] → Among a l → ⊥
-          by (x ∷ l) e here = no-way cc
-          by (x ∷ l) e (behind m) = no-way cc
+  module _ (before : List ℕ) (b : Board) (h : room ≤ length before) (revision : b .client .fixed .revision < 2 ^ 32) where
+    pub first-request : begins nightSender stepMachine image bank n tries before b .request ≡ frameOf image bank n ModeStart
+    first-request =
+        let f = frame-short image bank n tries st ModeStart (st .some) in
+        ap (λ (o : Told Night). requestAfter (o .next) (o .buffer) []) (start-is image bank n tries st before h)
+        ∙ front-take before (frameOf image bank n ModeStart) (omega arith)
+
+    -- nothing was answered yet
+    pub first-known : Inv ModeStart b []
+    first-known = record { ghost = []; known = λ a among. absurd (nothing-yet a among); past = tt; revision = revision }
+      where
+        nothing-yet : (a : List ℕ) → Among a [] → ⊥
+        nothing-yet a m = by [] refl m
+          where
+            by : (l : List (List ℕ)) → l ≡ [] → Among a l → ⊥
+            by (x ∷ l) e here = no-way cc
+            by (x ∷ l) e (behind m) = no-way cc
+
+    begins-so : LoopInv (begins nightSender stepMachine image bank n tries before b)
+    begins-so =
+        record {
+          stand = At ModeStart 1;
+          buffer = before;
+          told = start-is image bank n tries st before h;
+          right = begins-right image bank n tries st;
+          request = first-request;
+          inv = first-known;
+        }
 
   -- it is in where that is told
   in-done : (stand : Stand) → Right count tries stand → isIn (nextOf image bank n stand) ≡ true → (b : Board) (answers : List (List ℕ)) → InvAt stand b answers

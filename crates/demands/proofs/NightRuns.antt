@@ -47,7 +47,7 @@ packets-more p (suc k) h =
     let less : k ≡ suc k - 1 = omega arith in
     ap₂ (λ (x y : ℕ). Packet p ∷ packetsFrom x y) (sym (add-one p)) less
 
-packets-next : (count p k : ℕ) → k ≡ count - p → p < count → packetsFrom p k ++ (WriteEnd ∷ ModeEnd ∷ []) ≡ Packet p ∷ behind count (Packet p)
+pub packets-next : (count p k : ℕ) → k ≡ count - p → p < count → packetsFrom p k ++ (WriteEnd ∷ ModeEnd ∷ []) ≡ Packet p ∷ behind count (Packet p)
 packets-next count p k e h =
     let less : k - 1 ≡ count - (p + 1) = omega arith in
     ap (λ (l : List Name). l ++ (WriteEnd ∷ ModeEnd ∷ [])) (packets-more p k (omega arith))

@@ -25,13 +25,12 @@ use Rattle.layout.specs.Pair.{bankIn}
 use Rattle.layout.proofs.Layouts.{good-high}
 use Rattle.commands.specs.declared.Command.the-variants as command
 use Rattle.response.specs.declared.read.Response.{Response}
-use Rattle.response.specs.declared.read.Response.the-variants.{Plain, Target, Firmware, Written}
+use Rattle.response.specs.declared.read.Response.the-variants.{Target, Written}
 use Rattle.response.specs.Response.{mayCarry, addedOf, responseOf}
 use Rattle.response.proofs.Answers.{plain-back, bank-back, version-back}
 use Rattle.sender.specs.declared.request.Request.the-variants as request
 use Rattle.sender.specs.Packet.{packetCount, packetSector, footerOf}
 use Rattle.sender.specs.Request.{requestFrame}
-use Rattle.sender.proofs.Image.{packet-read}
 use Rattle.sender.proofs.Packets.{Sent, sent-in}
 use Rattle.exchange.specs.declared.state.State.{State}
 use Rattle.exchange.specs.declared.state.State.the-variants as state
@@ -53,8 +52,8 @@ use Rattle.demands.specs.Demand2.{Lends}
 use Rattle.demands.specs.Night.{Startable}
 use Rattle.demands.proofs.Asking.{request-read, start-read, pairGood, start-addressed}
 use Rattle.demands.proofs.Demand2.{lent-whole, heard, no-mark, said-back, control-short, written-short}
-use Rattle.demands.proofs.NightBoard.{Ours, whole-image, padded-are, stored-back}
-use Rattle.demands.proofs.NightLoop.{Past, Inv, all-heard, cleans}
+use Rattle.demands.proofs.NightBoard.{Ours, whole-image, reads, padded-are, stored-back}
+use Rattle.demands.proofs.NightLoop.{Inv, all-heard, cleans}
 use Rattle.demands.proofs.Reading.{bank-short, version-short}
 use Rattle.demands.proofs.Rows.{
   Heard,
@@ -187,3 +186,87 @@ module _ (image : List ℕ) (bank : Bank) (n tries : ℕ) (st : Startable image 
         (bank-told b call (in-state state.Control refl c) c (ap readOf e ∙ request-read request.BankInfo))
         (back (controlFrame 0x72 (0x06 ∷ bankNumber target ∷ [])) (bank-short target))
         (settled-bank bank _ (sym (bank-back target) ∙ ap Target (f .target))) c
+
+    serve-write-start : (gone : ℕ) → call .datagram ≡ requestFrame (request.WriteStart bank n) → Phase WriteStart gone b
+        → Served WriteStart gone (stepMachine b (Datagram call))
+    unfolding mayCarry addedOf
+    serve-write-start gone e (inl c) =
+        let own : call .datagram ≡ requestFrame (request.WriteStart (otherOf (b .client .fixed .running)) (b .client .fixed .n)) =
+        e
+        ∙ ap (λ (x : Bank). requestFrame (request.WriteStart x n)) (sym (f .target))
+        ∙ ap (λ (x : ℕ). requestFrame (request.WriteStart (otherOf (b .client .fixed .running)) x)) (sym (f .sectors)) in
+        served WriteStart gone _ (controlFrame 0x70 (0x06 ∷ []))
+        (write-start b call (in-state state.Control refl c) c (ap readOf e ∙ start-read bank n)
+        (subst (pairGood (b .client .fixed)) (sym own) (start-addressed (b .client .fixed) good)))
+        (back (controlFrame 0x70 (0x06 ∷ [])) (control-short 0x70 0x06))
+        (done-own command.WriteStart (leb 2 gone) _ (inl (sym (plain-back command.WriteStart 0x06 refl refl)))) refl
+    serve-write-start gone e (inr w) =
+        served WriteStart gone _ (controlFrame 0x70 (0x15 ∷ []))
+        (write-start-declined b call (in-state state.Write refl (w .0)) (w .0) (ap readOf e ∙ start-read bank n))
+        (back (controlFrame 0x70 (0x15 ∷ [])) (control-short 0x70 0x15))
+        (done-own command.WriteStart (leb 2 gone) _ (inr (sym (plain-back command.WriteStart 0x15 refl refl), le-leb 2 gone (w .1)))) (w .0)
+
+    -- the packet's sector is stored, or was so already
+    serve-packet : (p gone : ℕ) → p < count → call .datagram ≡ frameOf image bank n (Packet p) → Phase (Packet p) gone b
+        → Served (Packet p) gone (stepMachine b (Datagram call))
+    serve-packet p gone h e w =
+        let k : ℕ = packetSector image n p in
+        let s : Sent image n k = sent-in image n p h in
+        let low = s .low in
+        let high = s .high in
+        let most = good-high n (st .good) in
+        let padded : paddedOf (dataIn (call .datagram)) ≡ sectorOf image k = padded-are image bank n (st .good) size p h b [] call e in
+        let already : Bool = sameOf (sectorOf (lentTarget b call) k) (paddedOf (dataIn (call .datagram))) in
+        let result : ℕ = storeResult (blankOf (dataIn (call .datagram))) already in
+        let crc : ℕ = crcOf (paddedOf (dataIn (call .datagram))) in
+        let taken : Accepted result = accepted (blankOf (dataIn (call .datagram))) already in
+        let is : Written k 0x06 result (crcOf (sectorOf image k)) ≡ responseOf (writeFrame k (writtenBytes 0x06 result crc) End) =
+        ap (λ (l : List ℕ). Written k 0x06 result (crcOf l)) (sym padded)
+        ∙ sym (stored-back k result crc (omega arith) (of-lt (paddedOf (dataIn (call .datagram)))) taken) in
+        served (Packet p) gone _ (writeFrame k (writtenBytes 0x06 result crc) End)
+        (packet b call (in-state state.Write refl w) k 512 (footerOf count p) w (reads image bank n (st .good) size p h b [] call e)
+        (ap (λ (x : ℕ). valuesGood x k 512) (f .sectors) ∙ sym (values-words n k 512 low high (omega arith) (omega arith)))
+        (ap (λ (m : List ℕ). isWorn (getD m (k - 1) 0)) (l .marks) ∙ ap isWorn (getD-replicate {A = ℕ} n (k - 1) 0 0 (omega arith))))
+        (back (writeFrame k (writtenBytes 0x06 result crc) End) (written-short k 0x06 result crc))
+        (subst (λ (r : Response). Settling (Packet p) (leb 2 gone) bank image k r) is (settled-packet image k result taken)) w
+
+    serve-mode-end : (gone : ℕ) → call .datagram ≡ requestFrame request.ModeEnd → Phase ModeEnd gone b → Served ModeEnd gone (stepMachine b (Datagram call))
+    unfolding mayCarry addedOf
+    serve-mode-end gone e (inl c) =
+        served ModeEnd gone _ (controlFrame 0x74 (0x06 ∷ []))
+        (mode-end b call (in-state state.Control refl c) c (ap readOf e ∙ request-read request.ModeEnd))
+        (back (controlFrame 0x74 (0x06 ∷ [])) (control-short 0x74 0x06))
+        (done-own command.ModeEnd (leb 2 gone) _ (inl (sym (plain-back command.ModeEnd 0x06 refl refl)))) refl
+    serve-mode-end gone e (inr i) =
+        served ModeEnd gone _ (controlFrame 0x74 (0x15 ∷ []))
+        (mode-end-declined b call (in-state state.Idle refl (i .0)) (i .0) (ap readOf e ∙ request-read request.ModeEnd))
+        (back (controlFrame 0x74 (0x15 ∷ [])) (control-short 0x74 0x15))
+        (done-own command.ModeEnd (leb 2 gone) _ (inr (sym (plain-back command.ModeEnd 0x15 refl refl), le-leb 2 gone (i .1)))) (i .0)
+
+    -- every packet was heard to be stored, so the session shows the image, which is fit
+    serve-write-end : (gone : ℕ) → call .datagram ≡ requestFrame request.WriteEnd → Phase WriteEnd gone b → (answers : List (List ℕ))
+        → Inv image bank n tries st WriteEnd b answers → Served WriteEnd gone (stepMachine b (Datagram call))
+    unfolding mayCarry addedOf
+    serve-write-end gone e w answers v =
+        let ours : Ours image bank n b (v .ghost) = cleans image bank n tries st WriteEnd b answers v refl w in
+        let shown : v .ghost ≡ image =
+        whole-image image bank n size b (v .ghost) ours (all-heard image bank n tries st WriteEnd b answers v w (v .past .1)) in
+        let swept : sweptTarget b call ≡ image =
+        lent-shows b call (v .ghost) (λ _. ours .session)
+        (record { writing = w; good = good; whole = lent-whole b call (b .client .fixed .n) lends all (otherOf (b .client .fixed .running)) })
+        ∙ shown in
+        served WriteEnd gone _ (controlFrame 0x75 (0x06 ∷ []))
+        (write-end b call (in-state state.Write refl w) w (ap readOf e ∙ request-read request.WriteEnd)
+        (ap anyWorn (l .marks) ∙ no-mark n) (ap (fitOf (b .client .fixed)) swept ∙ f .sound))
+        (back (controlFrame 0x75 (0x06 ∷ [])) (control-short 0x75 0x06))
+        (ended-own command.WriteEnd (leb 2 gone) _ (sym (plain-back command.WriteEnd 0x06 refl refl))) refl
+
+    pub serve : (k : Name) (gone : ℕ) → numberOf k < count → call .datagram ≡ frameOf image bank n k → Phase k gone b → (answers : List (List ℕ))
+        → Inv image bank n tries st k b answers → Served k gone (stepMachine b (Datagram call))
+    serve ModeStart gone h e p answers v = serve-mode-start gone e p
+    serve VersionInfo gone h e p answers v = serve-version gone e p
+    serve BankInfo gone h e p answers v = serve-bank gone e p
+    serve WriteStart gone h e p answers v = serve-write-start gone e p
+    serve (Packet q) gone h e p answers v = serve-packet q gone h e p
+    serve WriteEnd gone h e p answers v = serve-write-end gone e p answers v
+    serve ModeEnd gone h e p answers v = serve-mode-end gone e p
