@@ -16,8 +16,10 @@ pub mod Latest
 pub mod Lending
 pub mod New
 pub mod NightOrder
+pub mod NightRecord
 pub mod NightRuns
 pub mod NightSettled
+pub mod NightTurns
 pub mod Packets
 pub mod Reading
 pub mod Requests
