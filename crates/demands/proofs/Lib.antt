@@ -19,6 +19,7 @@ pub mod NightOrder
 pub mod NightRecord
 pub mod NightRuns
 pub mod NightSettled
+pub mod NightShutOut
 pub mod NightTurns
 pub mod Packets
 pub mod Reading

@@ -11,6 +11,7 @@ pub mod Examples
 pub mod Fresh
 pub mod New
 pub mod Night
+pub mod NightShutOut
 pub mod Packets
 pub mod Requests
 pub mod Responses
