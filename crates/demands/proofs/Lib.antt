@@ -16,6 +16,7 @@ pub mod Latest
 pub mod Lending
 pub mod New
 pub mod NightOrder
+pub mod NightReached
 pub mod NightRecord
 pub mod NightRuns
 pub mod NightSettled

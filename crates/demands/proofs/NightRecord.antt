@@ -1,10 +1,9 @@
 -- Of an arbitrary record: a refusal changes nothing and uses up no event, and what has gone out T times does not go out again.
 -- Assumes nothing.
 use mathlib.Core.Path.{_≡_, refl, ap, _∙_}
-use mathlib.Core.List.{List, [], _∷_}
+use mathlib.Core.List.{List}
 use Prim.Native.Nat.{ℕ}
 use lib.ListN.{length}
-use Rattle.night.specs.declared.record.Night.{Night}
 use Rattle.night.specs.Call.{heardIn}
 use Rattle.night.proofs.Judged.{step-kept, not-again}
 use Rattle.demands.specs.Night.{

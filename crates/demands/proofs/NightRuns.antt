@@ -1,12 +1,12 @@
 -- A run of the night sender, by where its record stands: every event moves it, and what is told, what goes out and what is at hand follow.
 -- Assumes nothing.
-use mathlib.Core.Path.{_≡_, refl, sym, ap, ap₂, subst, _∙_}
+use mathlib.Core.Path.{_≡_, refl, sym, ap, ap₂, _∙_}
 use mathlib.Core.List.{List, [], _∷_, _++_}
 use Prim.Native.Nat.{ℕ, zero, suc, _+_, _-_, _≤_, _<_}
 use native.Mathlib.Numerals.{add-one}
 use native.Mathlib.Omega.{arith}
 use lib.Dec.{leb, ltb}
-use lib.ListN.{length, take}
+use lib.ListN.{length}
 use borrow.Author.Tests.{ltb-true, ltb-false}
 use Rattle.buffer.proofs.Bools.{split}
 use Rattle.buffer.proofs.Places.{front-take}
@@ -16,7 +16,6 @@ use Rattle.sender.specs.Made.{room}
 use Rattle.sender.specs.Packet.{packetCount, packetSector}
 use Rattle.night.specs.declared.name.Name.{Name}
 use Rattle.night.specs.declared.name.Name.the-variants.{ModeStart, VersionInfo, BankInfo, WriteStart, Packet, WriteEnd, ModeEnd}
-use Rattle.night.specs.declared.record.Next.{Next}
 use Rattle.night.specs.declared.record.Night.{Night}
 use Rattle.night.specs.declared.record.Stand.{Stand}
 use Rattle.night.specs.declared.record.Stand.the-variants.{NotBegun, At, Finished, GaveUp}
@@ -42,7 +41,6 @@ use Rattle.demands.specs.Night.{
   later,
   endsWith,
   packetsFrom,
-  namesOf,
   Sent,
   sent,
   wentOut,
@@ -216,7 +214,8 @@ module _ (image : List ℕ) (bank : Bank) (n tries : ℕ) where
         ∙ ap (λ (l : List Turn). turn (nextOf image bank n stand) (g .event) ∷ l)
         (turns-are (g .buffer) (moves stand (g .event)) gs (stays-right stand (g .event) r) hs)
 
-    last-is : (before : List ℕ) (stand : Stand) (gs : List Given) → lastTold (toldAt before stand) (toldsAt stand gs) .next ≡ nextOf image bank n (lastStand stand gs)
+    last-is : (before : List ℕ) (stand : Stand) (gs : List Given)
+        → lastTold (toldAt before stand) (toldsAt stand gs) .next ≡ nextOf image bank n (lastStand stand gs)
     last-is before stand [] = refl
     last-is before stand (g ∷ gs) = last-is (g .buffer) (moves stand (g .event)) gs
 

@@ -1,7 +1,7 @@
 -- Night senders that are shut out: finished at once, never over, a packet skipped; and one of each class.
 -- Assumes nothing.
 use mathlib.Core.Path.{_≡_, refl, sym, ap, subst, _∙_}
-use mathlib.Core.Bool.{true, false, or-true, false≢true}
+use mathlib.Core.Bool.{false, or-true, false≢true}
 use mathlib.Core.List.{List, [], _∷_}
 use mathlib.Core.Logic.{_⊎_, inl, inr}
 use Prim.Native.Nat.{ℕ, zero, suc, _+_, _*_, _≤_, _<_}
@@ -21,10 +21,10 @@ use Rattle.sender.specs.Made.{room}
 use Rattle.sender.specs.Packet.{packetCount, packetSector}
 use Rattle.sender.proofs.Packets.{packet-small}
 use Rattle.night.specs.declared.name.Name.{Name}
-use Rattle.night.specs.declared.name.Name.the-variants.{ModeStart, VersionInfo, BankInfo, WriteStart, Packet, WriteEnd, ModeEnd}
+use Rattle.night.specs.declared.name.Name.the-variants.{ModeStart, Packet}
 use Rattle.night.specs.declared.record.Next.{Next}
 use Rattle.night.specs.declared.record.Next.the-variants.{NotBegun, Send, Finished}
-use Rattle.night.specs.Call.{Event, Heard, Silence}
+use Rattle.night.specs.Call.{Heard, Silence}
 use Rattle.demands.specs.Night.{
   Told,
   NightSender,
@@ -34,8 +34,6 @@ use Rattle.demands.specs.Night.{
   more,
   tolds,
   lastTold,
-  first,
-  packetsFrom,
   namesOf,
   isOver,
   MeetsOrder,
@@ -63,6 +61,7 @@ use Rattle.demands.specs.NightShutOut.{
   silence,
   wrong,
   SkipsPacket,
+  Going,
   goingOn,
   heedless,
   otherCrc,
@@ -163,16 +162,18 @@ module _ (image : List ℕ) (bank : Bank) (n p : ℕ) where
       by (inl k) ih = wrong-hit (turn hand (Heard datagram)) datagram refl w k
       by (inr y) ih = ih y
 
+-- packet p among the names, behind the four first
+packet-in : (image : List ℕ) (bank : Bank) (n p : ℕ) {ts : List Turn} → p < packetCount image n
+    → EachSettled image bank n (namesOf (packetCount image n)) NotBegun ts → SettledIn image bank n (Packet p) NotBegun ts
+packet-in image bank n p h (one a (one b (one c (one d es)))) =
+    packet-among image bank n 0 (packetCount image n) p (omega arith) (omega arith) es
+
 pub no-skipper : {S : Type 0} (m : NightSender S) → SkipsPacket m → MeetsSettled m → ⊥
 no-skipper m k meets =
     let b = k .begin in
     never-right (b .image) (b .bank) (b .n) (k .packet) (k .skipped)
-    (by (meets .only (b .image) (b .bank) (b .n) (b .tries) (b .before) (k .events) (b .starts) (b .roomy) (k .roomy) (k .finishes)))
-  where
-    by : {ts : List Turn} → EachSettled (k .begin .image) (k .begin .bank) (k .begin .n) (namesOf (packetCount (k .begin .image) (k .begin .n))) NotBegun ts
-        → SettledIn (k .begin .image) (k .begin .bank) (k .begin .n) (Packet (k .packet)) NotBegun ts
-    by (one a (one b (one c (one d es)))) =
-        packet-among (k .begin .image) (k .begin .bank) (k .begin .n) 0 (packetCount (k .begin .image) (k .begin .n)) (k .packet) (omega arith) (omega (arith, k .there)) es
+    (packet-in (b .image) (b .bank) (b .n) (k .packet) (k .there)
+    (meets .only (b .image) (b .bank) (b .n) (b .tries) (b .before) (k .events) (b .starts) (b .roomy) (k .roomy) (k .finishes)))
 
 -- one of them
 
@@ -205,8 +206,8 @@ all-wrong m image n p datagram buffer w (suc k) o =
     wrong w (all-wrong m image n p datagram buffer w k (m .event (o .record-then) (Heard datagram) image buffer))
 
 heedless-ends : (image : List ℕ) (bank : Bank) (n : ℕ) (g : Given) (before : List ℕ) (names : List Name)
-    → lastTold (goingOn bank n image before names) (tolds heedless image (goingOn bank n image before names .record-then) (replicate (length names) g)) .next
-    ≡ Finished
+    → (let o : Told Going = goingOn bank n image before names in
+    lastTold o (tolds heedless image (o .record-then) (replicate (length names) g)) .next ≡ Finished)
 heedless-ends image bank n g before [] = refl
 heedless-ends image bank n g before (name ∷ names) = heedless-ends image bank n g (g .buffer) names
 
@@ -221,7 +222,9 @@ one-skipper =
       begin = b;
       events = wrongAnswers (b .image) (b .n);
       roomy = roomy-all (count + 6) g (omega (arith, length-replicate {A = ℕ} room 0));
-      finishes = subst (λ (k : ℕ). endsFrom heedless b (replicate k g) ≡ Finished) many (heedless-ends (b .image) (b .bank) (b .n) g (b .before) (namesOf count));
+      finishes =
+          subst (λ (k : ℕ). endsFrom heedless b (replicate k g) ≡ Finished) many
+          (heedless-ends (b .image) (b .bank) (b .n) g (b .before) (namesOf count));
       packet = 0;
       there = b .starts .some;
       skipped =

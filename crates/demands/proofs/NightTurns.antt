@@ -1,42 +1,34 @@
 -- The turns of a run of any night sender: which event settles a request, and that a sender that is as asked heard the write end answered.
 -- Assumes nothing.
 use mathlib.Core.Path.{_≡_, refl, sym, ap, ap₂, subst, _∙_}
-use mathlib.Core.Bool.{Bool, false}
+use mathlib.Core.Bool.{false}
 use mathlib.Core.List.{List, [], _∷_, _++_}
 use mathlib.Core.Logic.{_⊎_, inl, inr}
 use Prim.Native.Nat.{ℕ, zero, suc, _+_, _≤_, _<_}
 use native.Mathlib.Decide.{decLt}
 use native.Mathlib.Omega.{arith}
-use lib.ListN.{length}
 use Rattle.buffer.specs.Number.{byteAt}
 use Rattle.buffer.proofs.Bools.{no-way}
 use Rattle.commands.specs.declared.Command.the-variants as command
 use Rattle.frame.specs.Checksum.{checksumOf, takenAway}
 use Rattle.frame.specs.Frame.{framed, controlFrame}
 use Rattle.layout.specs.declared.Bank.{Bank}
-use Rattle.response.specs.declared.read.Response.{Response}
 use Rattle.response.specs.declared.read.Response.the-variants.{Plain}
 use Rattle.response.specs.Response.{responseOf}
 use Rattle.response.specs.Six.{sixOf}
 use Rattle.response.proofs.Six.{unreadable, six-exactly}
-use Rattle.sender.specs.Made.{room}
 use Rattle.sender.specs.Packet.{packetCount}
 use Rattle.night.specs.declared.name.Name.{Name}
 use Rattle.night.specs.declared.name.Name.the-variants.{ModeStart, VersionInfo, BankInfo, WriteStart, Packet, WriteEnd, ModeEnd}
 use Rattle.night.specs.declared.record.Next.{Next}
 use Rattle.night.specs.declared.record.Next.the-variants as next
-use Rattle.night.specs.Call.{Event, Heard, Silence}
+use Rattle.night.specs.Call.{Heard}
 use Rattle.demands.specs.Night.{
   Told,
   NightSender,
-  nightSender,
   Given,
-  Startable,
-  Roomy,
   first,
-  endsWith,
   packetsFrom,
-  namesOf,
   Turn,
   turn,
   turnsOf,
@@ -45,7 +37,6 @@ use Rattle.demands.specs.Night.{
   here,
   after,
   EachSettled,
-  all,
   one,
   MeetsSettled,
   EndAnswered,
@@ -53,7 +44,6 @@ use Rattle.demands.specs.Night.{
   later-answered,
   BytesIn,
   Bytewise,
-  unheard,
   heard,
   FinishedMeansEnded,
 }
@@ -140,7 +130,8 @@ module _ {S : Type 0} (m : NightSender S) (image : List ℕ) (bank : Bank) (n : 
       → EndAnswered (turnsOf m image o gs)
   ended o [] last b x = absurd (nothing-settled image bank n WriteEnd refl x)
   ended o (g ∷ gs) last (heard b bs) x =
-      by (now-or-later image bank n WriteEnd (turn (o .next) (g .event)) (turnsOf m image (m .event (o .record-then) (g .event) image (g .buffer)) gs) x refl)
+      by
+      (now-or-later image bank n WriteEnd (turn (o .next) (g .event)) (turnsOf m image (m .event (o .record-then) (g .event) image (g .buffer)) gs) x refl)
       (ended (m .event (o .record-then) (g .event) image (g .buffer)) gs (o .next) bs)
     where
       rest : List Turn

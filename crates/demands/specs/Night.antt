@@ -8,7 +8,6 @@ use mathlib.Core.List.{List, [], _∷_, _++_}
 use mathlib.Core.Logic.{_⊎_}
 use Prim.Native.Nat.{ℕ, zero, suc, _+_, _*_, _≤_, _<_}
 use lib.ListN.{length, take, replicate}
-use Rattle.buffer.specs.Number.{byteAt}
 use Rattle.crc.specs.Crc.{crcOf}
 use Rattle.commands.specs.declared.Command.the-variants as command
 use Rattle.layout.specs.declared.Bank.{Bank}
@@ -29,6 +28,7 @@ use Rattle.night.specs.declared.record.Stand.the-variants.{At}
 use Rattle.night.specs.Call.{Event, Heard, Silence, heardIn, stepOf, startOf, bufferBy}
 use Rattle.night.specs.Name.{frameOf}
 use Rattle.night.specs.Record.{nextNumber}
+use Rattle.demands.specs.Written.{AreBytes}
 
 -- ---- a night sender
 
@@ -83,6 +83,15 @@ pub record Given : Type 0 where
 pub data Roomy : List Given → Type 0 where
   none : Roomy []
   more : {g : Given} {gs : List Given} → room ≤ length (g .buffer) → Roomy gs → Roomy (g ∷ gs)
+
+-- what is heard is bytes
+abbrev pub BytesIn : Event → Type 0
+BytesIn (Heard datagram) = AreBytes datagram
+BytesIn Silence = Unit {0}
+
+pub data Bytewise : List Given → Type 0 where
+  unheard : Bytewise []
+  heard : {g : Given} {gs : List Given} → BytesIn (g .event) → Bytewise gs → Bytewise (g ∷ gs)
 
 -- what came of each event
 abbrev pub tolds : {S : Type 0} → NightSender S → List ℕ → S → List Given → List (Told S)
@@ -200,6 +209,19 @@ pub record MeetsOrder {S : Type 0} (m : NightSender S) : Type 0 where
   pub bounded : (image : List ℕ) (bank : Bank) (n tries : ℕ) (before : List ℕ) (gs : List Given) → Startable image n tries → room ≤ length before → Roomy gs
       → tries * (packetCount image n + 6) ≤ length gs → isOver (endsWith m image bank n tries before gs) ≡ true
 
+-- that many can come: after one event less it need not be over
+pub record StillRuns {S : Type 0} (m : NightSender S) (image : List ℕ) (bank : Bank) (n tries : ℕ) (before : List ℕ) : Type 0 where
+  pub events : List Given
+  pub roomy : Roomy events
+  pub bytes : Bytewise events
+  pub many : suc (length events) ≡ tries * (packetCount image n + 6)
+  pub runs : isOver (endsWith m image bank n tries before events) ≡ false
+
+abbrev pub BoundReached : {S : Type 0} → NightSender S → Type 0
+BoundReached m =
+    (image : List ℕ) (bank : Bank) (n tries : ℕ) (before : List ℕ) → Startable image n tries → room ≤ length before
+    → StillRuns m image bank n tries before
+
 -- ---- 2. finished exactly when every request was settled
 
 -- an event, and what had been told last before it came: the request at hand
@@ -273,15 +295,6 @@ pub record MeetsSettled {S : Type 0} (m : NightSender S) : Type 0 where
 pub data EndAnswered : List Turn → Type 0 where
   answered : {size : ℕ} {rest : List Turn} → EndAnswered (turn (Send WriteEnd size) (Heard (0x01 ∷ 0x02 ∷ 0x75 ∷ 0x06 ∷ 0x83 ∷ 0x03 ∷ [])) ∷ rest)
   later-answered : {t : Turn} {rest : List Turn} → EndAnswered rest → EndAnswered (t ∷ rest)
-
--- what is heard is bytes
-abbrev pub BytesIn : Event → Type 0
-BytesIn (Heard datagram) = (i : ℕ) → byteAt datagram i < 256
-BytesIn Silence = Unit {0}
-
-pub data Bytewise : List Given → Type 0 where
-  unheard : Bytewise []
-  heard : {g : Given} {gs : List Given} → BytesIn (g .event) → Bytewise gs → Bytewise (g ∷ gs)
 
 abbrev pub FinishedMeansEnded : {S : Type 0} → NightSender S → Type 0
 FinishedMeansEnded m =

@@ -23,7 +23,7 @@ use Rattle.night.specs.declared.name.Name.{Name}
 use Rattle.night.specs.declared.name.Name.the-variants.{ModeStart, Packet}
 use Rattle.night.specs.declared.record.Next.{Next}
 use Rattle.night.specs.declared.record.Next.the-variants.{Send, Finished}
-use Rattle.night.specs.Call.{Event, Heard, Silence}
+use Rattle.night.specs.Call.{Heard, Silence}
 use Rattle.night.specs.Name.{frameOf}
 use Rattle.demands.specs.Night.{Told, NightSender, Given, Roomy, Startable, first, endsWith, namesOf, isOver, Turn, turn, turnsOf}
 
