@@ -20,9 +20,13 @@ pub mod NightArrival
 pub mod NightBoard
 pub mod NightLoop
 pub mod NightOrder
+pub mod NightReached
+pub mod NightRecord
 pub mod NightRuns
 pub mod NightServed
 pub mod NightSettled
+pub mod NightShutOut
+pub mod NightTurns
 pub mod Packets
 pub mod Reading
 pub mod Requests

@@ -1,43 +1,40 @@
 -- The night sender's requests go out in their order, each at most T times, and it is over within T·(P + 6) events.
 -- Assumes nothing.
-use mathlib.Core.Path.{_≡_, refl, sym, ap, ap₂, subst, _∙_}
+use mathlib.Core.Path.{_≡_, refl, sym, ap, subst, _∙_}
 use mathlib.Core.Bool.{true}
 use mathlib.Core.List.{List, [], _∷_, _++_, append-assoc}
-use Prim.Native.Nat.{ℕ, zero, suc, _+_, _-_, _*_, _≤_, _<_}
+use Prim.Native.Nat.{ℕ, zero, suc, _+_, _*_, _≤_}
 use native.Mathlib.Nat.{mul-suc}
 use native.Mathlib.Omega.{arith}
 use lib.ListN.{length, replicate, length-append, replicate-append-replicate}
 use Rattle.layout.specs.declared.Bank.{Bank}
-use Rattle.sender.specs.Made.{room}
 use Rattle.sender.specs.Packet.{packetCount}
 use Rattle.night.specs.declared.name.Name.{Name}
-use Rattle.night.specs.declared.name.Name.the-variants.{ModeStart, VersionInfo, BankInfo, WriteStart, Packet, WriteEnd, ModeEnd}
-use Rattle.night.specs.declared.record.Next.{Next}
+use Rattle.night.specs.declared.name.Name.the-variants.{ModeStart, WriteEnd, ModeEnd}
 use Rattle.night.specs.declared.record.Stand.{Stand}
-use Rattle.night.specs.declared.record.Stand.the-variants.{NotBegun, At, Finished, GaveUp}
+use Rattle.night.specs.declared.record.Stand.the-variants.{At, Finished, GaveUp}
 use Rattle.night.specs.declared.record.Why.{Why}
-use Rattle.night.specs.Call.{Event, nextOf}
+use Rattle.night.specs.Call.{nextOf}
 use Rattle.night.specs.Name.{frameOf}
-use Rattle.demands.specs.Night.{
-  nightSender,
-  Given,
-  Roomy,
-  Startable,
-  first,
-  later,
-  endsWith,
-  packetsFrom,
-  namesOf,
-  Sent,
-  sent,
-  allSent,
-  InOrder,
-  over,
-  each,
-  isOver,
-  MeetsOrder,
+use Rattle.demands.specs.Night.{nightSender, Given, Startable, packetsFrom, namesOf, Sent, sent, InOrder, over, each, isOver, MeetsOrder}
+use Rattle.demands.proofs.NightRuns.{
+  behind,
+  Right,
+  Goes,
+  onto,
+  done,
+  repeats,
+  ends,
+  SettlesAt,
+  moves,
+  lastStand,
+  sentAt,
+  sentsAt,
+  goes-at,
+  begins-right,
+  run-sends,
+  run-ends,
 }
-use Rattle.demands.proofs.NightRuns.{behind, Right, Goes, onto, done, repeats, ends, SettlesAt, moves, lastStand, sentAt, sentsAt, goes-at, begins-right, run-sends, run-ends}
 
 module _ (image : List ℕ) (bank : Bank) (n tries : ℕ) (s : Startable image n tries) where
   abbrev count : ℕ

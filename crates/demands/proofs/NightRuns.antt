@@ -26,7 +26,29 @@ use Rattle.night.specs.Name.{numberOf, frameOf}
 use Rattle.night.specs.Record.{followingOf, movedOf}
 use Rattle.night.proofs.Going.{Fits, start-goes, hand-goes, finished-again, gave-up-again}
 use Rattle.night.proofs.Judged.{Settling, Moved, onward, again, up, moved-by}
-use Rattle.demands.specs.Night.{Told, nightSender, toldBy, Given, Roomy, none, more, tolds, lastTold, Startable, first, later, endsWith, packetsFrom, Sent, sent, wentOut, allSent, Turn, turn, turnsOf}
+use Rattle.demands.specs.Night.{
+  Told,
+  nightSender,
+  toldBy,
+  Given,
+  Roomy,
+  none,
+  more,
+  tolds,
+  lastTold,
+  Startable,
+  first,
+  later,
+  endsWith,
+  packetsFrom,
+  Sent,
+  sent,
+  wentOut,
+  allSent,
+  Turn,
+  turn,
+  turnsOf,
+}
 use Rattle.demands.proofs.Packets.{packet-long}
 use Rattle.demands.proofs.Requests.{short}
 
@@ -192,7 +214,8 @@ module _ (image : List ℕ) (bank : Bank) (n tries : ℕ) where
         ∙ ap (λ (l : List Turn). turn (nextOf image bank n stand) (g .event) ∷ l)
         (turns-are (g .buffer) (moves stand (g .event)) gs (stays-right stand (g .event) r) hs)
 
-    last-is : (before : List ℕ) (stand : Stand) (gs : List Given) → lastTold (toldAt before stand) (toldsAt stand gs) .next ≡ nextOf image bank n (lastStand stand gs)
+    last-is : (before : List ℕ) (stand : Stand) (gs : List Given)
+        → lastTold (toldAt before stand) (toldsAt stand gs) .next ≡ nextOf image bank n (lastStand stand gs)
     last-is before stand [] = refl
     last-is before stand (g ∷ gs) = last-is (g .buffer) (moves stand (g .event)) gs
 

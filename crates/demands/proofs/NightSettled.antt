@@ -2,21 +2,18 @@
 -- Assumes nothing.
 use mathlib.Core.Path.{_≡_, refl, sym, ap, subst, _∙_}
 use mathlib.Core.Bool.{Bool, true}
-use mathlib.Core.List.{List, [], _∷_, _++_}
+use mathlib.Core.List.{List, [], _∷_}
 use mathlib.Core.Logic.{_⊎_, inl, inr}
-use Prim.Native.Nat.{ℕ, zero, suc, _+_, _≤_, _<_}
+use Prim.Native.Nat.{ℕ, _+_, _≤_}
 use native.Mathlib.Omega.{arith}
 use lib.Dec.{leb}
-use lib.ListN.{length}
 use borrow.Author.Tests.{leb-true, le-leb}
 use Rattle.buffer.proofs.Bools.{no-way}
-use Rattle.commands.specs.declared.Command.{Command}
 use Rattle.commands.specs.declared.Command.the-variants as command
 use Rattle.layout.specs.declared.Bank.{Bank}
 use Rattle.response.specs.declared.read.Response.{Response}
-use Rattle.response.specs.declared.read.Response.the-variants.{Plain, Firmware, Written}
+use Rattle.response.specs.declared.read.Response.the-variants.{Written}
 use Rattle.response.specs.Response.{responseOf}
-use Rattle.sender.specs.Made.{room}
 use Rattle.sender.specs.Packet.{packetCount, packetSector}
 use Rattle.night.specs.declared.name.Name.{Name}
 use Rattle.night.specs.declared.name.Name.the-variants.{ModeStart, VersionInfo, BankInfo, WriteStart, Packet, WriteEnd, ModeEnd}
@@ -25,29 +22,13 @@ use Rattle.night.specs.declared.record.Next.the-variants as next
 use Rattle.night.specs.declared.record.Stand.{Stand}
 use Rattle.night.specs.declared.record.Stand.the-variants.{NotBegun, At, Finished, GaveUp}
 use Rattle.night.specs.declared.record.Why.{Why}
-use Rattle.night.specs.Call.{Event, Heard, Silence, heardIn, nextOf}
+use Rattle.night.specs.Call.{Event, Heard, Silence, nextOf}
 use Rattle.night.specs.Name.{numberOf}
-use Rattle.night.proofs.Judged.{
-  Settling,
-  Fields,
-  own-done,
-  done-own,
-  own-ended,
-  ended-own,
-  version-settled,
-  settled-version,
-  bank-settled,
-  settled-bank,
-  packet-settled,
-  settled-packet,
-  silence-spends,
-}
+use Rattle.night.proofs.Judged.{Settling, Fields, own-done, done-own, own-ended, version-settled, bank-settled, packet-settled, silence-spends}
 use Rattle.demands.specs.Night.{
   nightSender,
   Given,
-  Roomy,
   Startable,
-  endsWith,
   packetsFrom,
   namesOf,
   Turn,
@@ -69,7 +50,25 @@ use Rattle.demands.specs.Night.{
   MeetsSettled,
 }
 use Rattle.demands.proofs.NightOrder.{stays-finished, stays-given-up}
-use Rattle.demands.proofs.NightRuns.{behind, Right, Goes, onto, done, repeats, ends, SettlesAt, moves, lastStand, turnsAt, goes-at, stays-right, begins-right, run-ends, run-turns}
+use Rattle.demands.proofs.NightTurns.{Hits, now-or-later, nothing-settled, mode-end-in}
+use Rattle.demands.proofs.NightRuns.{
+  behind,
+  Right,
+  Goes,
+  onto,
+  done,
+  repeats,
+  ends,
+  SettlesAt,
+  moves,
+  lastStand,
+  turnsAt,
+  goes-at,
+  stays-right,
+  begins-right,
+  run-ends,
+  run-turns,
+}
 
 -- ---- what settles a request, of the response as it reads
 
@@ -127,7 +126,7 @@ module _ (image : List ℕ) (bank : Bank) (n tries : ℕ) (s : Startable image n
       by (inl a) = inl a
       by (inr d) = inr (d .0, twice (leb-true 2 gone (d .1)))
   settled-here name gone Silence last rest twice t =
-      absurd (silence-spends (leb 2 gone) bank image (packetSector image n (numberOf name)) name t)
+      absurd (silence-spends (leb 2 gone) name bank image (packetSector image n (numberOf name)) t)
 
   abbrev OnlyFrom : List Given → Type 0
   OnlyFrom gs =
@@ -164,31 +163,6 @@ module _ (image : List ℕ) (bank : Bank) (n tries : ℕ) (s : Startable image n
 
   -- ---- finished always then
 
-  -- this event settles the request that is at hand
-  record Hits (name : Name) (last : Next) (t : Turn) : Type 0 where
-    size : ℕ
-    datagram : List ℕ
-    hand-is : t .hand ≡ next.Send name size
-    event-is : t .event ≡ Heard datagram
-    settles : Settles image bank n name last (responseOf datagram)
-
-  now-or-later : (name : Name) {last : Next} {ts : List Turn} (t : Turn) (rest : List Turn) → SettledIn image bank n name last ts → ts ≡ t ∷ rest
-      → Hits name last t ⊎ SettledIn image bank n name (t .hand) rest
-  now-or-later name t rest (here {size = size} {datagram = datagram} x) e =
-      let same : turn (next.Send name size) (Heard datagram) ≡ t = cc in
-      inl
-      (record {
-        size = size;
-        datagram = datagram;
-        hand-is = sym (ap (λ (u : Turn). u .hand) same);
-        event-is = sym (ap (λ (u : Turn). u .event) same);
-        settles = x;
-      })
-  now-or-later name t rest (after {t = u} {rest = us} x) e =
-      let same : u ≡ t = cc in
-      let rests : us ≡ rest = cc in
-      inr (subst (SettledIn image bank n name (t .hand)) rests (subst (λ (v : Turn). SettledIn image bank n name (v .hand) us) same x))
-
   -- what can come of the mode end
   mode-end-goes : (P : Stand → Type 0) (gone : ℕ) (settling : Type 0) {stand : Stand} → Goes count tries ModeEnd gone settling stand
       → (settling → P Finished) → ((settling → ⊥) → P (At ModeEnd (gone + 1))) → ((settling → ⊥) → (why : Why) → P (GaveUp ModeEnd why)) → P stand
@@ -204,8 +178,8 @@ module _ (image : List ℕ) (bank : Bank) (n tries : ℕ) (s : Startable image n
   repeated-is : {last : Next} → Repeated ModeEnd last → (size : ℕ) × (last ≡ next.Send ModeEnd size)
   repeated-is (again {size = size}) = (size, refl)
 
-  mode-end-twice : (gone : ℕ) (event : Event) (k : ℕ) → Right count tries (At ModeEnd gone) → moves image bank n tries (At ModeEnd gone) event ≡ At ModeEnd k
-      → 2 ≤ k
+  mode-end-twice : (gone : ℕ) (event : Event) (k : ℕ) → Right count tries (At ModeEnd gone)
+      → moves image bank n tries (At ModeEnd gone) event ≡ At ModeEnd k → 2 ≤ k
   mode-end-twice gone event k r e =
       mode-end-goes (λ (x : Stand). x ≡ At ModeEnd k → 2 ≤ k) gone (SettlesAt image bank n tries ModeEnd gone event)
       (goes-at image bank n tries s ModeEnd gone event r)
@@ -245,7 +219,7 @@ module _ (image : List ℕ) (bank : Bank) (n tries : ℕ) (s : Startable image n
       by (inr d) = inr (d .0, le-leb 2 gone (twice gone refl (d .1)))
 
   hit-done : (stand : Stand) (event : Event) (last : Next) (gs : List Given) → Right count tries stand → Twice stand last
-      → Hits ModeEnd last (turn (nextOf image bank n stand) event) → final (moves image bank n tries stand event) gs ≡ Finished
+      → Hits image bank n ModeEnd last (turn (nextOf image bank n stand) event) → final (moves image bank n tries stand event) gs ≡ Finished
   hit-done NotBegun event last gs r twice h = absurd r
   hit-done (At name gone) event last gs r twice h =
       let at : next.Send name _ ≡ next.Send ModeEnd (h .size) = h .hand-is in
@@ -257,29 +231,22 @@ module _ (image : List ℕ) (bank : Bank) (n tries : ℕ) (s : Startable image n
   hit-done Finished event last gs r twice h = stays-finished image bank n tries s gs
   hit-done (GaveUp name why) event last gs r twice h = let at : next.GaveUp name why ≡ next.Send ModeEnd (h .size) = h .hand-is in no-way cc
 
-  nothing-settled : (name : Name) {last : Next} {ts : List Turn} → ts ≡ [] → SettledIn image bank n name last ts → ⊥
-  nothing-settled name e (here x) = no-way cc
-  nothing-settled name e (after x) = no-way cc
-
   always-from : (gs : List Given) (stand : Stand) (last : Next) → Right count tries stand → Twice stand last
       → SettledIn image bank n ModeEnd last (turns stand gs) → final stand gs ≡ Finished
-  always-from [] stand last r twice x = absurd (nothing-settled ModeEnd refl x)
+  always-from [] stand last r twice x = absurd (nothing-settled image bank n ModeEnd refl x)
   always-from (g ∷ gs) stand last r twice x =
-      by (now-or-later ModeEnd (turn (nextOf image bank n stand) (g .event)) (turns (moves image bank n tries stand (g .event)) gs) x refl)
-      (always-from gs (moves image bank n tries stand (g .event)) (nextOf image bank n stand) (stays-right image bank n tries s stand (g .event) r) (twice-kept stand (g .event) r))
+      by (now-or-later image bank n ModeEnd (turn (nextOf image bank n stand) (g .event)) (turns (moves image bank n tries stand (g .event)) gs) x refl)
+      (always-from gs (moves image bank n tries stand (g .event)) (nextOf image bank n stand) (stays-right image bank n tries s stand (g .event) r)
+      (twice-kept stand (g .event) r))
     where
       rest : List Turn
       rest = turns (moves image bank n tries stand (g .event)) gs
 
-      by : Hits ModeEnd last (turn (nextOf image bank n stand) (g .event)) ⊎ SettledIn image bank n ModeEnd (nextOf image bank n stand) rest
+      by : Hits image bank n ModeEnd last (turn (nextOf image bank n stand) (g .event)) ⊎ SettledIn image bank n ModeEnd (nextOf image bank n stand) rest
           → (SettledIn image bank n ModeEnd (nextOf image bank n stand) rest → final (moves image bank n tries stand (g .event)) gs ≡ Finished)
           → final (moves image bank n tries stand (g .event)) gs ≡ Finished
       by (inl h) ih = hit-done stand (g .event) last gs r twice h
       by (inr y) ih = ih y
-
-  mode-end-in : (names : List Name) {last : Next} {ts : List Turn} → Each (names ++ (WriteEnd ∷ ModeEnd ∷ [])) last ts → SettledIn image bank n ModeEnd last ts
-  mode-end-in [] (one w (one m all)) = m
-  mode-end-in (name ∷ names) (one x xs) = mode-end-in names xs
 
 pub settled-met : MeetsSettled nightSender
 settled-met =
@@ -287,11 +254,12 @@ settled-met =
       only = λ image bank n tries before gs s h hs e.
           subst (EachSettled image bank n (namesOf (packetCount image n)) next.NotBegun) (sym (run-turns image bank n tries s before gs h hs))
           (only-from image bank n tries s gs ModeStart 1 next.NotBegun (begins-right image bank n tries s) (λ l. absurd (omega arith))
-          (finished-told image bank n tries s (lastStand image bank n tries (At ModeStart 1) gs) (sym (run-ends image bank n tries s before gs h hs) ∙ e)));
+          (finished-told image bank n tries s (lastStand image bank n tries (At ModeStart 1) gs)
+          (sym (run-ends image bank n tries s before gs h hs) ∙ e)));
       always = λ image bank n tries before gs s h hs e.
           run-ends image bank n tries s before gs h hs
           ∙ ap (nextOf image bank n)
           (always-from image bank n tries s gs (At ModeStart 1) next.NotBegun (begins-right image bank n tries s) (λ gone q rep. no-way cc)
-          (mode-end-in image bank n tries s (ModeStart ∷ VersionInfo ∷ BankInfo ∷ WriteStart ∷ packetsFrom 0 (packetCount image n))
+          (mode-end-in image bank n (ModeStart ∷ VersionInfo ∷ BankInfo ∷ WriteStart ∷ packetsFrom 0 (packetCount image n))
           (subst (EachSettled image bank n (namesOf (packetCount image n)) next.NotBegun) (run-turns image bank n tries s before gs h hs) e)));
     }

@@ -12,6 +12,7 @@ pub mod Fresh
 pub mod New
 pub mod Night
 pub mod NightLoop
+pub mod NightShutOut
 pub mod Packets
 pub mod Requests
 pub mod Responses

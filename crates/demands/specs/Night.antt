@@ -25,9 +25,10 @@ use Rattle.night.specs.declared.record.Next.{Next}
 use Rattle.night.specs.declared.record.Next.the-variants.{BadN, BadLength, BadTries, NoPacket, NotBegun, Send, Finished, GaveUp}
 use Rattle.night.specs.declared.record.Night.{Night}
 use Rattle.night.specs.declared.record.Stand.the-variants.{At}
-use Rattle.night.specs.Call.{Event, Heard, heardIn, stepOf, startOf, bufferBy}
+use Rattle.night.specs.Call.{Event, Heard, Silence, heardIn, stepOf, startOf, bufferBy}
 use Rattle.night.specs.Name.{frameOf}
 use Rattle.night.specs.Record.{nextNumber}
+use Rattle.demands.specs.Written.{AreBytes}
 
 -- ---- a night sender
 
@@ -83,6 +84,15 @@ pub data Roomy : List Given → Type 0 where
   none : Roomy []
   more : {g : Given} {gs : List Given} → room ≤ length (g .buffer) → Roomy gs → Roomy (g ∷ gs)
 
+-- what is heard is bytes
+abbrev pub BytesIn : Event → Type 0
+BytesIn (Heard datagram) = AreBytes datagram
+BytesIn Silence = Unit {0}
+
+pub data Bytewise : List Given → Type 0 where
+  unheard : Bytewise []
+  heard : {g : Given} {gs : List Given} → BytesIn (g .event) → Bytewise gs → Bytewise (g ∷ gs)
+
 -- what came of each event
 abbrev pub tolds : {S : Type 0} → NightSender S → List ℕ → S → List Given → List (Told S)
 tolds m image r [] = []
@@ -93,6 +103,37 @@ tolds m image r (g ∷ gs) =
 abbrev pub lastTold : {S : Type 0} → Told S → List (Told S) → Told S
 lastTold o [] = o
 lastTold o (p ∷ ps) = lastTold p ps
+
+-- ---- refused calls between
+
+-- a call that may lend any image
+pub record Call : Type 0 where
+  pub event : Event
+  pub image : List ℕ
+  pub buffer : List ℕ
+
+-- the record behind such calls, and behind events with one image
+abbrev pub afterCalls : {S : Type 0} → NightSender S → S → List Call → S
+afterCalls m r [] = r
+afterCalls m r (c ∷ cs) = afterCalls m (m .event r (c .event) (c .image) (c .buffer) .record-then) cs
+
+abbrev pub afterEvents : {S : Type 0} → NightSender S → List ℕ → S → List Given → S
+afterEvents m image r [] = r
+afterEvents m image r (g ∷ gs) = afterEvents m image (m .event r (g .event) image (g .buffer) .record-then) gs
+
+-- the same run with refused calls in it, anywhere, whatever they lend: left out are only such
+pub data LeftOut {S : Type 0} (m : NightSender S) (image : List ℕ) : S → List Call → List Given → Type 0 where
+  no-more : {r : S} → LeftOut m image r [] []
+  kept : {r : S} {g : Given} {cs : List Call} {gs : List Given}
+      → LeftOut m image (m .event r (g .event) image (g .buffer) .record-then) cs gs
+      → LeftOut m image r (record { event = g .event; image = image; buffer = g .buffer } ∷ cs) (g ∷ gs)
+  refused : {r : S} {c : Call} {cs : List Call} {gs : List Given} → (nextNumber (m .event r (c .event) (c .image) (c .buffer) .next) ≡ 0 → ⊥)
+      → LeftOut m image (m .event r (c .event) (c .image) (c .buffer) .record-then) cs gs → LeftOut m image r (c ∷ cs) gs
+
+-- "no event used up": the record is as without them, and so is all that is told afterwards
+abbrev pub UsesUpNothing : {S : Type 0} → NightSender S → Type 0
+UsesUpNothing {S} m =
+    (image : List ℕ) (r : S) (cs : List Call) (gs : List Given) → LeftOut m image r cs gs → afterCalls m r cs ≡ afterEvents m image r gs
 
 -- what a start accepts
 pub record Startable (image : List ℕ) (n tries : ℕ) : Type 0 where
@@ -168,6 +209,19 @@ pub record MeetsOrder {S : Type 0} (m : NightSender S) : Type 0 where
   pub bounded : (image : List ℕ) (bank : Bank) (n tries : ℕ) (before : List ℕ) (gs : List Given) → Startable image n tries → room ≤ length before → Roomy gs
       → tries * (packetCount image n + 6) ≤ length gs → isOver (endsWith m image bank n tries before gs) ≡ true
 
+-- that many can come: after one event less it need not be over
+pub record StillRuns {S : Type 0} (m : NightSender S) (image : List ℕ) (bank : Bank) (n tries : ℕ) (before : List ℕ) : Type 0 where
+  pub events : List Given
+  pub roomy : Roomy events
+  pub bytes : Bytewise events
+  pub many : suc (length events) ≡ tries * (packetCount image n + 6)
+  pub runs : isOver (endsWith m image bank n tries before events) ≡ false
+
+abbrev pub BoundReached : {S : Type 0} → NightSender S → Type 0
+BoundReached m =
+    (image : List ℕ) (bank : Bank) (n tries : ℕ) (before : List ℕ) → Startable image n tries → room ≤ length before
+    → StillRuns m image bank n tries before
+
 -- ---- 2. finished exactly when every request was settled
 
 -- an event, and what had been told last before it came: the request at hand
@@ -241,3 +295,9 @@ pub record MeetsSettled {S : Type 0} (m : NightSender S) : Type 0 where
 pub data EndAnswered : List Turn → Type 0 where
   answered : {size : ℕ} {rest : List Turn} → EndAnswered (turn (Send WriteEnd size) (Heard (0x01 ∷ 0x02 ∷ 0x75 ∷ 0x06 ∷ 0x83 ∷ 0x03 ∷ [])) ∷ rest)
   later-answered : {t : Turn} {rest : List Turn} → EndAnswered rest → EndAnswered (t ∷ rest)
+
+abbrev pub FinishedMeansEnded : {S : Type 0} → NightSender S → Type 0
+FinishedMeansEnded m =
+    (image : List ℕ) (bank : Bank) (n tries : ℕ) (before : List ℕ) (gs : List Given) → Startable image n tries → room ≤ length before → Roomy gs
+    → Bytewise gs → endsWith m image bank n tries before gs ≡ Finished
+    → EndAnswered (turnsOf m image (first m image bank n tries before gs) gs)

@@ -9,7 +9,7 @@ use native.Mathlib.Omega.{arith}
 use lib.Dec.{eqb, leb, ltb}
 use lib.ListN.{length}
 use borrow.Author.Tests.{eqb-true, eq-eqb, ltb-true, le-ltb}
-use Rattle.buffer.proofs.Bools.{split, and-left, and-right, no-way}
+use Rattle.buffer.proofs.Bools.{split, and-left, and-right, and-false, no-way}
 use Rattle.commands.specs.declared.Coded.the-variants.{Is}
 use Rattle.commands.specs.declared.Command.{Command}
 use Rattle.commands.specs.declared.Command.the-variants as command
@@ -42,6 +42,7 @@ use Rattle.night.specs.Lent.{triesGood, lengthsGood, lookedOf}
 use Rattle.night.specs.Name.{numberOf}
 use Rattle.night.specs.Record.{followingOf, againOf, movedOf, nextNumber}
 use Rattle.night.proofs.Calling.{refused-keeps}
+use Rattle.night.proofs.Moving.{goes-again}
 
 -- ---- what settles a request
 
@@ -88,8 +89,11 @@ module _ (command : Command) (repeated : Bool) (response : Response) where
       (λ t _. inl (own-reads command response 0x06 (omega arith) (eqb-true result 0x06 t)))
       (λ _. split (λ (v : Verdict). v ≡ Settled → Out) (repeated && eqb result 0x15)
       (λ t e.
-      inr
-      (own-reads command response 0x15 (omega arith) (eqb-true result 0x15 (and-right repeated (eqb result 0x15) t)), and-left repeated (eqb result 0x15) t, e))
+      inr (
+        own-reads command response 0x15 (omega arith) (eqb-true result 0x15 (and-right repeated (eqb result 0x15) t)),
+        and-left repeated (eqb result 0x15) t,
+        e,
+      ))
       (λ _ e. no-way cc))
 
   own-accepted : (declined : Verdict) → response ≡ Plain command 0x06 → ownVerdict command repeated declined response ≡ Settled
@@ -187,7 +191,9 @@ module _ (image : List ℕ) (sector : ℕ) where
       record {
         number-is = eqb-true number sector (and-left (eqb number sector) (eqb result 0x06) front);
         result-is = eqb-true result 0x06 (and-right (eqb number sector) (eqb result 0x06) front);
-        write-is = one (either-true (eqb write 0x06) (eqb write 0x1D) (and-right (eqb number sector && eqb result 0x06) (eqb write 0x06 || eqb write 0x1D) t));
+        write-is =
+            one
+            (either-true (eqb write 0x06) (eqb write 0x1D) (and-right (eqb number sector && eqb result 0x06) (eqb write 0x06 || eqb write 0x1D) t));
         crc-is = eqb-true crc (crcOf (sectorOf image sector)) c;
       })
       (λ _ q. no-way cc))
@@ -203,27 +209,6 @@ module _ (image : List ℕ) (sector : ℕ) where
   unfolding fieldsAwaited
   settled-packet write (inl e) = rw (e, eq-eqb sector sector refl, eq-eqb (crcOf (sectorOf image sector)) (crcOf (sectorOf image sector)) refl)
   settled-packet write (inr e) = rw (e, eq-eqb sector sector refl, eq-eqb (crcOf (sectorOf image sector)) (crcOf (sectorOf image sector)) refl)
-
--- silence settles nothing
-unread : (command : Command) (result : ℕ) → Unreadable ≡ Plain command result → ⊥
-unread command result e = no-way cc
-
-module _ (repeated : Bool) (bank : Bank) (image : List ℕ) (sector : ℕ) where
-  unread-done : (command : Command) → ownVerdict command repeated Settled Unreadable ≡ Settled → ⊥
-  unread-done command e = by (own-done command repeated Unreadable e)
-    where
-      by : (Unreadable ≡ Plain command 0x06) ⊎ ((Unreadable ≡ Plain command 0x15) × (repeated ≡ true)) → ⊥
-      by (inl p) = unread command 0x06 p
-      by (inr p) = unread command 0x15 (p .0)
-
-  pub silence-spends : (name : Name) → Settling name repeated bank image sector Unreadable → ⊥
-  silence-spends ModeStart e = unread-done command.ModeStart e
-  silence-spends VersionInfo e = no-way cc
-  silence-spends BankInfo e = no-way cc
-  silence-spends WriteStart e = unread-done command.WriteStart e
-  silence-spends (Packet p) e = no-way cc
-  silence-spends WriteEnd e = unread command.WriteEnd 0x06 (own-ended command.WriteEnd repeated Unreadable e)
-  silence-spends ModeEnd e = unread-done command.ModeEnd e
 
 -- ---- how an event moves the record
 
@@ -247,6 +232,29 @@ module _ (name : Name) (gone : ℕ) (bank : Bank) (image : List ℕ) (sector : �
       by Settled e = onward e
       by Spent e = split M (ltb gone tries) (λ t. again (λ q. no-way cc) (ltb-true gone tries t)) (λ _. up (λ q. no-way cc))
       by (Stops why) e = up (λ q. no-way cc)
+
+-- silence spends a try, and the request goes out again while one is left
+module _ (repeated : Bool) where
+  own-silence : (command : Command) (declined : Verdict) → ownVerdict command repeated declined Unreadable ≡ Spent
+  unfolding ownVerdict
+  own-silence command declined = rw (and-false repeated)
+
+  silence-judged : (name : Name) (bank : Bank) (image : List ℕ) (sector : ℕ) → judgeOf name repeated bank image sector Unreadable ≡ Spent
+  silence-judged ModeStart bank image sector = own-silence command.ModeStart Settled
+  silence-judged VersionInfo bank image sector = refl
+  silence-judged BankInfo bank image sector = refl
+  silence-judged WriteStart bank image sector = own-silence command.WriteStart Settled
+  silence-judged (Packet p) bank image sector = refl
+  silence-judged WriteEnd bank image sector = own-silence command.WriteEnd (Stops Unknown)
+  silence-judged ModeEnd bank image sector = own-silence command.ModeEnd Settled
+
+  pub silence-repeats : (name : Name) (gone tries count : ℕ) (bank : Bank) (image : List ℕ) (sector : ℕ) → gone < tries
+      → movedOf name gone tries count (judgeOf name repeated bank image sector Unreadable) ≡ At name (gone + 1)
+  silence-repeats name gone tries count bank image sector h =
+      ap (movedOf name gone tries count) (silence-judged name bank image sector) ∙ sym (goes-again name gone tries h)
+
+  pub silence-spends : (name : Name) (bank : Bank) (image : List ℕ) (sector : ℕ) → Settling name repeated bank image sector Unreadable → ⊥
+  silence-spends name bank image sector e = let q : Spent ≡ Settled = sym (silence-judged name bank image sector) ∙ e in no-way cc
 
 -- ---- a record that may be any
 
@@ -286,7 +294,9 @@ module _ (night : Night) (response : Response) (image before : List ℕ) where
       by (Refused why) e h = refused-kept (numberOf name) why e
       by (Good sector count) e h =
           absurd
-          (h (goes-on-says image (night .bank) (night .n) (movedOf name gone (night .tries) count (judgeOf name (leb 2 gone) (night .bank) image sector response))))
+          (h
+          (goes-on-says image (night .bank) (night .n)
+          (movedOf name gone (night .tries) count (judgeOf name (leb 2 gone) (night .bank) image sector response))))
 
   pub step-kept : Refusing (stepOf night response image (length before))
   step-kept = by (night .stand)
