@@ -13,7 +13,10 @@ use Rattle.client.specs.Step.{takeOf}
 use Rattle.calls.proofs.Beside.{step-taken}
 use Rattle.calls.specs.Call.{Board, board}
 use Rattle.demands.specs.Board.{LentCall, Datagram, lentOf, backIn, lentTarget, hostOutcome, callOutcome, stepMachine}
-use Rattle.demands.specs.Contracts.{StepAllows, TakeAllows, stepBack, takeBack, Contracts}
+use Rattle.night.specs.declared.record.Called.{Called}
+use Rattle.night.specs.Call.{bufferBy}
+use Rattle.demands.specs.Contracts.{StepAllows, TakeAllows, stepBack, takeBack, toldBack, Contracts}
+use Rattle.demands.specs.Night.{toldBy}
 
 module _ (b : Board) (call : LentCall) {r : Stepped} where
   step-outcome : {zero one answered : List ℕ}
@@ -49,6 +52,9 @@ module _ (b : Board) (call : LentCall) {r : Stepped} where
       ap (callOutcome b call)
       (step-taken (b .client) runs (lentTarget b call) (call .marks) (call .address) (call .buffer) (call .datagram) (inr e) ∙ taken-is p)
 
+told-so : (image before : List ℕ) {r c : Called} {after : List ℕ} → r ≡ c → after ≡ bufferBy image before c → toldBy image before c ≡ toldBack r after
+told-so image before e s = λ k. record { record-then = sym e k .night; next = sym e k .next; buffer = sym s k }
+
 pub contracts : Contracts
 contracts =
     record {
@@ -65,5 +71,8 @@ contracts =
       count = λ p. sym (p .answered);
       packet = λ p. λ k. record { answer = sym (p .answered) k; buffer = sym (p .stands) k };
       request = λ p. λ k. record { answer = sym (p .answered) k; buffer = sym (p .stands) k };
+      place = λ p. sym (p .answered);
+      night-start = λ {image} {bank} {n} {tries} {before} p. told-so image before (p .answered) (p .stands);
+      night-event = λ {night} {event} {image} {before} p. told-so image before (p .answered) (p .stands);
       read-response = λ p. sym (p .answered);
     }

@@ -19,11 +19,16 @@ use Rattle.rows.specs.Text.{lengthOf, Length·Is, Write·Is}
 use Rattle.sender.specs.declared.made.Made.{Made}
 use Rattle.sender.specs.declared.packet.Tally.{Tally}
 use Rattle.sender.specs.declared.request.Request.{Request}
-use Rattle.sender.specs.Packet.{tallyOf, Count·Is, Packet·Is}
+use Rattle.sender.specs.declared.packet.Placed.{Placed}
+use Rattle.sender.specs.Packet.{tallyOf, placedOf, Count·Is, Place·Is, Packet·Is}
 use Rattle.sender.specs.Request.{Request·Is}
 use Rattle.response.specs.declared.read.Response.{Response}
 use Rattle.response.specs.Response.{responseOf}
 use Rattle.response.specs.Said.{Response·Is}
+use Rattle.night.specs.declared.record.Called.{Called}
+use Rattle.night.specs.declared.record.Night.{Night}
+use Rattle.night.specs.Call.{Event, Event·Is}
+use Rattle.night.specs.Call.{Start·Is as NightStart·Is}
 use Rattle.exchange.specs.Answer.{answerNumber}
 use Rattle.client.specs.declared.host.Hosted.{Hosted}
 use Rattle.client.specs.declared.record.Client.{Client}
@@ -34,6 +39,8 @@ use Rattle.client.specs.Host.{newOf, New·Is, Initiate·Is, Terminate·Is}
 use Rattle.client.specs.Step.{Carried, Take·Is, Step·Is}
 use Rattle.calls.specs.Call.{Board, board}
 use Rattle.demands.specs.Board.{LentCall, Initiate, Terminate, Datagram, Outcome, lentOf, backIn, lentTarget, hostOutcome, callOutcome, stepMachine}
+use Rattle.demands.specs.Night.{Told as NightTold}
+use Rattle.demands.specs.Night.{nightSender}
 use Rattle.demands.specs.Packets.{out, packetMaker}
 use Rattle.demands.specs.Requests.{requestMaker}
 use Rattle.demands.specs.Written.{wrote, textWriter}
@@ -64,6 +71,10 @@ abbrev pub takeBack : Stepped → List ℕ → List ℕ → Carried
 takeBack r after answered =
     record { client = r .client; answer = r .answer; told = r .length; notice = r .notice; target = after; buffer = answered }
 
+-- what a call of the night sender handed back, and the request buffer as it came back
+abbrev pub toldBack : Called → List ℕ → NightTold Night
+toldBack r after = record { record-then = r .night; next = r .next; buffer = after }
+
 pub record Contracts : Type 0 where
   -- the client, of which demands 1 to 3 are proved; `take` is lent the target alone, of a board whose running bank has its length
   pub step : (b : Board) (call : LentCall) {r : Stepped} {zero one answered : List ℕ}
@@ -92,4 +103,11 @@ pub record Contracts : Type 0 where
       → Packet·Is image n p before r after → packetMaker image n p before ≡ out r after
   pub request : {request : Request} {before : List ℕ} {r : Made} {after : List ℕ}
       → Request·Is request before r after → requestMaker request before ≡ out r after
+  pub place : {image : List ℕ} {n p : ℕ} {r : Placed} → Place·Is image n p r → placedOf image n p ≡ r
+  -- the night sender
+  pub night-start : {image : List ℕ} {bank : Bank} {n tries : ℕ} {before : List ℕ} {r : Called} {after : List ℕ}
+      → NightStart·Is image bank n tries before r after → nightSender .start image bank n tries before ≡ toldBack r after
+  pub night-event : {night : Night} {event : Event} {image before : List ℕ} {r : Called} {after : List ℕ}
+      → Event·Is night event image before r after → nightSender .event night event image before ≡ toldBack r after
+  -- what comes back to either
   pub read-response : {datagram : List ℕ} {r : Response} → Response·Is datagram r → responseOf datagram ≡ r

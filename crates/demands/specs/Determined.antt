@@ -19,6 +19,8 @@ use Rattle.sender.specs.declared.request.Request.{Request}
 use Rattle.exchange.specs.declared.answer.Answer.{Answer}
 use Rattle.commands.specs.declared.Command.{Command}
 use Rattle.response.specs.declared.read.Response.{Response}
+use Rattle.night.specs.declared.record.Next.{Next}
+use Rattle.night.specs.declared.record.Night.{Night}
 use Rattle.exchange.specs.declared.answer.Refusal.{Refusal}
 use Rattle.exchange.specs.declared.request.Asked.{Asked}
 use Rattle.exchange.specs.declared.request.Request.{Request as Received}
@@ -51,8 +53,12 @@ use Rattle.hex.specs.Read.{Read·Is as ReadText·Is}
 use Rattle.rows.specs.Text.{WrittenNumber·Is, Length·Is, Write·Is}
 use Rattle.sender.specs.Made.{MadeNumber·Is}
 use Rattle.sender.specs.Packet.{TallyNumber·Is, Count·Is, Packet·Is}
+use Rattle.sender.specs.Packet.{Place·Is as PlacePacket·Is}
 use Rattle.sender.specs.Request.{CommandOf·Is, Request·Is}
 use Rattle.response.specs.Said.{ResponseNumber·Is, Response·Is}
+use Rattle.night.specs.Call.{Event, Event·Is}
+use Rattle.night.specs.Call.{Start·Is as NightStart·Is}
+use Rattle.night.specs.Record.{NextNumber·Is}
 use Rattle.commands.specs.Command.{RequestCode·Is, ResponseCode·Is, ParameterBytes·Is, AddedBytes·Is, Requested·Is, Answered·Is}
 use Rattle.exchange.specs.Answer.{RefusalNumber·Is, Say·Is}
 use Rattle.exchange.specs.State.{IsClosed·Is}
@@ -124,9 +130,14 @@ pub record Determined : Type 0 where
   -- the sender
   pub count : (image : List ℕ) (n : ℕ) → Once (Count·Is image n)
   pub packet : (image : List ℕ) (n p : ℕ) (before : List ℕ) → Twice (Packet·Is image n p before)
+  pub place-of-packet : (image : List ℕ) (n p : ℕ) → Once (PlacePacket·Is image n p)
   pub command-of : (request : Request) → Once (CommandOf·Is request)
   pub request : (request : Request) (before : List ℕ) → Twice (Request·Is request before)
   pub read-response : (datagram : List ℕ) → Once (Response·Is datagram)
+  -- the night sender
+  pub night-number : (next : Next) → Once (NextNumber·Is next)
+  pub night-start : (image : List ℕ) (bank : Bank) (n tries : ℕ) (before : List ℕ) → Twice (NightStart·Is image bank n tries before)
+  pub night-event : (night : Night) (event : Event) (image before : List ℕ) → Twice (Event·Is night event image before)
   -- the table of the commands
   pub request-code : (command : Command) → Once (RequestCode·Is command)
   pub response-code : (command : Command) → Once (ResponseCode·Is command)
