@@ -73,6 +73,7 @@ contracts =
       request = λ p. λ k. record { answer = sym (p .answered) k; buffer = sym (p .stands) k };
       place = λ p. sym (p .answered);
       night-start = λ {image} {bank} {n} {tries} {before} p. told-so image before (p .answered) (p .stands);
-      night-event = λ {night} {event} {image} {before} p. told-so image before (p .answered) (p .stands);
+      night-heard = λ {night} {datagram} {image} {before} p. told-so image before (p .answered) (p .stands);
+      night-silent = λ {night} {image} {before} p. told-so image before (p .answered) (p .stands);
       read-response = λ p. sym (p .answered);
     }

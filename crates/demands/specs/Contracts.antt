@@ -27,7 +27,9 @@ use Rattle.response.specs.Response.{responseOf}
 use Rattle.response.specs.Said.{Response·Is}
 use Rattle.night.specs.declared.record.Called.{Called}
 use Rattle.night.specs.declared.record.Night.{Night}
-use Rattle.night.specs.Call.{Event, Event·Is}
+use Rattle.night.specs.Call.{Heard, Silence}
+use Rattle.night.specs.Call.{Heard·Is as NightHeard·Is}
+use Rattle.night.specs.Call.{Silent·Is as NightSilent·Is}
 use Rattle.night.specs.Call.{Start·Is as NightStart·Is}
 use Rattle.exchange.specs.Answer.{answerNumber}
 use Rattle.client.specs.declared.host.Hosted.{Hosted}
@@ -107,7 +109,9 @@ pub record Contracts : Type 0 where
   -- the night sender
   pub night-start : {image : List ℕ} {bank : Bank} {n tries : ℕ} {before : List ℕ} {r : Called} {after : List ℕ}
       → NightStart·Is image bank n tries before r after → nightSender .start image bank n tries before ≡ toldBack r after
-  pub night-event : {night : Night} {event : Event} {image before : List ℕ} {r : Called} {after : List ℕ}
-      → Event·Is night event image before r after → nightSender .event night event image before ≡ toldBack r after
+  pub night-heard : {night : Night} {datagram image before : List ℕ} {r : Called} {after : List ℕ}
+      → NightHeard·Is night datagram image before r after → nightSender .event night (Heard datagram) image before ≡ toldBack r after
+  pub night-silent : {night : Night} {image before : List ℕ} {r : Called} {after : List ℕ}
+      → NightSilent·Is night image before r after → nightSender .event night Silence image before ≡ toldBack r after
   -- what comes back to either
   pub read-response : {datagram : List ℕ} {r : Response} → Response·Is datagram r → responseOf datagram ≡ r

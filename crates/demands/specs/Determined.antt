@@ -56,8 +56,9 @@ use Rattle.sender.specs.Packet.{TallyNumber·Is, Count·Is, Packet·Is}
 use Rattle.sender.specs.Packet.{Place·Is as PlacePacket·Is}
 use Rattle.sender.specs.Request.{CommandOf·Is, Request·Is}
 use Rattle.response.specs.Said.{ResponseNumber·Is, Response·Is}
-use Rattle.night.specs.Call.{Event, Event·Is}
 use Rattle.night.specs.Call.{Start·Is as NightStart·Is}
+use Rattle.night.specs.Call.{Heard·Is as NightHeard·Is}
+use Rattle.night.specs.Call.{Silent·Is as NightSilent·Is}
 use Rattle.night.specs.Record.{NextNumber·Is}
 use Rattle.commands.specs.Command.{RequestCode·Is, ResponseCode·Is, ParameterBytes·Is, AddedBytes·Is, Requested·Is, Answered·Is}
 use Rattle.exchange.specs.Answer.{RefusalNumber·Is, Say·Is}
@@ -137,7 +138,8 @@ pub record Determined : Type 0 where
   -- the night sender
   pub night-number : (next : Next) → Once (NextNumber·Is next)
   pub night-start : (image : List ℕ) (bank : Bank) (n tries : ℕ) (before : List ℕ) → Twice (NightStart·Is image bank n tries before)
-  pub night-event : (night : Night) (event : Event) (image before : List ℕ) → Twice (Event·Is night event image before)
+  pub night-heard : (night : Night) (datagram image before : List ℕ) → Twice (NightHeard·Is night datagram image before)
+  pub night-silent : (night : Night) (image before : List ℕ) → Twice (NightSilent·Is night image before)
   -- the table of the commands
   pub request-code : (command : Command) → Once (RequestCode·Is command)
   pub response-code : (command : Command) → Once (ResponseCode·Is command)

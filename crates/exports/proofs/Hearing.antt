@@ -10,14 +10,14 @@ use lib.ListN.{take, drop}
 use Rattle.layout.specs.declared.Bank.the-variants.{Zero}
 use Rattle.night.specs.declared.record.Called.{Called}
 use Rattle.night.specs.declared.record.Night.{Night}
-use Rattle.night.specs.Call.{Heard, Start·Is, Event·Is}
+use Rattle.night.specs.Call.{Start·Is, Heard·Is}
 use Rattle.exports.specs.Slots.{slotSize, slotCount, sizeAt, datagramAt, slotsGood}
 use Rattle.exports.specs.Heard.{nextCode, Stood, stood, heardNext, heardOf, NightSlots·Is}
 
 -- the part of the slots behind a slot's length is its datagram
 pub slot-heard : (slots : List ℕ) (k size : ℕ) {night : Night} {image before : List ℕ} {r : Called} {after : List ℕ} → size ≡ sizeAt slots k
-    → Event·Is night (Heard (take (k * slotSize + 2 + size - (k * slotSize + 2)) (drop (k * slotSize + 2) slots))) image before r after
-    → Event·Is night (Heard (datagramAt slots k)) image before r after
+    → Heard·Is night (take (k * slotSize + 2 + size - (k * slotSize + 2)) (drop (k * slotSize + 2) slots)) image before r after
+    → Heard·Is night (datagramAt slots k) image before r after
 slot-heard slots k size e h =
     let same : k * slotSize + 2 + size - (k * slotSize + 2) ≡ sizeAt slots k = omega arith in
     rw same at h
@@ -28,7 +28,7 @@ module _ (image slots : List ℕ) where
   none-heard s = refl
 
   pub one-heard : (s : Stood) (k : ℕ) (night : Night) (told : ℕ) (before : List ℕ) (r : Called) (after : List ℕ)
-      → stood night told before ≡ heardOf image slots s k → Event·Is night (Heard (datagramAt slots k)) image before r after
+      → stood night told before ≡ heardOf image slots s k → Heard·Is night (datagramAt slots k) image before r after
       → stood (r .night) (nextCode (r .next)) after ≡ heardOf image slots s (k + 1)
   unfolding heardOf
   one-heard s k night told before r after e h =

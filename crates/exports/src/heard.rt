@@ -7,7 +7,7 @@ use night::record::Night;
 ghost use mathlib.Core.Path.{_≡_};
 ghost use Prim.Native.Nat.{_+_, _*_, _≤_};
 ghost use lib.ListN.{length};
-ghost use Rattle.night.specs.Call.{Heard, Event·Is};
+ghost use Rattle.night.specs.Call.{Heard·Is};
 ghost use Rattle.exports.specs.Slots.{slotRoom, slotSize, sizeAt, datagramAt};
 ghost use Rattle.exports.specs.Heard.{nextCode, NightSlots·Is};
 
@@ -31,7 +31,7 @@ fn next_code(next: Next) -> usize
 fn hear_slot(night: Night, slots: &[u8], k: usize, image: &[u8], buffer: &mut [u8]) -> Called
     requires { ⌜ (k + 1) * slotSize ≤ length (now slots) ⌝ }
     requires { ⌜ sizeAt (now slots) k ≤ slotRoom ⌝ }
-    ensures { λ r. ⌜ Event·Is night (Heard (datagramAt (now (slots .entry)) k)) (now (image .entry)) (now (buffer .entry)) r (now (buffer .exit)) ⌝ }
+    ensures { λ r. ⌜ Heard·Is night (datagramAt (now (slots .entry)) k) (now (image .entry)) (now (buffer .entry)) r (now (buffer .exit)) ⌝ }
 {
     let from = k * SLOT + 2;
     let to = from + crate::slots::size_at(slots, k);

@@ -11,6 +11,7 @@ use Rattle.buffer.proofs.Bools.{split}
 use Rattle.layout.specs.declared.Bank.{Bank}
 use Rattle.layout.specs.Layout.{goodN}
 use Rattle.response.specs.declared.read.Response.{Response}
+use Rattle.response.specs.Response.{responseOf}
 use Rattle.sender.specs.Packet.{packetCount}
 use Rattle.night.specs.declared.judge.Verdict.{Verdict}
 use Rattle.night.specs.declared.judge.Verdict.the-variants.{Settled, Spent, Stops}
@@ -26,8 +27,6 @@ use Rattle.night.specs.declared.record.Stand.{Stand}
 use Rattle.night.specs.declared.record.Stand.the-variants.{NotBegun, At, Finished, GaveUp}
 use Rattle.night.specs.declared.record.Why.{Why}
 use Rattle.night.specs.Call.{
-  Event,
-  heardIn,
   standsAt,
   called,
   nextOf,
@@ -49,7 +48,7 @@ use Rattle.night.specs.Call.{
   AtHand·Is,
   Make·Is,
   Step·Is,
-  Event·Is,
+  Heard·Is,
   Start·Is,
 }
 use Rattle.night.specs.Judge.{judgeOf}
@@ -235,10 +234,10 @@ module _ (night : Night) (response : Response) (image before : List ℕ) (r : Ca
       (over-says night (numberOf name) (next.GaveUp name why) image (length before) refl)
       (over-keeps night (numberOf name) (next.GaveUp name why) image (length before) before refl)
 
--- by what the event says
-pub step-event : (night : Night) (response : Response) (event : Event) (image before : List ℕ) (r : Called) (after : List ℕ) → response ≡ heardIn event
-    → Step·Is night response image before r after → Event·Is night event image before r after
-step-event night response event image before r after e s =
+-- a response, as it reads
+pub step-heard : (night : Night) (response : Response) (datagram image before : List ℕ) (r : Called) (after : List ℕ) → response ≡ responseOf datagram
+    → Step·Is night response image before r after → Heard·Is night datagram image before r after
+step-heard night response datagram image before r after e s =
     record {
       answered = s .answered ∙ ap (λ (x : Response). stepOf night x image (length before)) e;
       says = s .says;

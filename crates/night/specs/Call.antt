@@ -159,7 +159,13 @@ pub record Start·Is (image : List ℕ) (bank : Bank) (n tries : ℕ) (before : 
   pub says : nextNumber (r .next) ≡ lentSays image n tries (length before) 0
   pub stands : after ≡ bufferBy image before (startOf image bank n tries (length before))
 
-pub record Event·Is (night : Night) (event : Event) (image before : List ℕ) (r : Called) (after : List ℕ) : Type 0 where
-  pub answered : r ≡ stepOf night (heardIn event) image (length before)
+-- an event: a response's bytes, or silence
+pub record Heard·Is (night : Night) (datagram image before : List ℕ) (r : Called) (after : List ℕ) : Type 0 where
+  pub answered : r ≡ stepOf night (heardIn (Heard datagram)) image (length before)
   pub says : nextNumber (r .next) ≡ stepSays image night (length before) (night .stand)
-  pub stands : after ≡ bufferBy image before (stepOf night (heardIn event) image (length before))
+  pub stands : after ≡ bufferBy image before (stepOf night (heardIn (Heard datagram)) image (length before))
+
+pub record Silent·Is (night : Night) (image before : List ℕ) (r : Called) (after : List ℕ) : Type 0 where
+  pub answered : r ≡ stepOf night (heardIn Silence) image (length before)
+  pub says : nextNumber (r .next) ≡ stepSays image night (length before) (night .stand)
+  pub stands : after ≡ bufferBy image before (stepOf night (heardIn Silence) image (length before))

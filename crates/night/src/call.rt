@@ -19,7 +19,7 @@ ghost use lib.ListN.{length};
 ghost use Rattle.layout.specs.Layout.{goodN};
 ghost use Rattle.sender.specs.Made.{room};
 ghost use Rattle.sender.specs.Packet.{imageGood, packetCount};
-ghost use Rattle.night.specs.Call.{called, standsAt, overOf, GoesOn·Is, AtHand·Is, Step·Is, Start·Is, Heard, Silence, Event·Is};
+ghost use Rattle.night.specs.Call.{called, standsAt, overOf, GoesOn·Is, AtHand·Is, Step·Is, Start·Is, Heard·Is, Silent·Is};
 
 fn told(night: Night, next: Next) -> Called
     ensures { λ r. ⌜ r ≡ called night next ⌝ }
@@ -137,7 +137,7 @@ pub fn start(image: &[u8], bank: Bank, n: usize, tries: usize, buffer: &mut [u8]
 }
 
 pub fn heard(night: Night, datagram: &[u8], image: &[u8], buffer: &mut [u8]) -> Called
-    ensures { λ r. ⌜ Event·Is night (Heard (now (datagram .entry))) (now (image .entry)) (now (buffer .entry)) r (now (buffer .exit)) ⌝ }
+    ensures { λ r. ⌜ Heard·Is night (now (datagram .entry)) (now (image .entry)) (now (buffer .entry)) r (now (buffer .exit)) ⌝ }
 {
     step(
         night,
@@ -148,7 +148,7 @@ pub fn heard(night: Night, datagram: &[u8], image: &[u8], buffer: &mut [u8]) -> 
 }
 
 pub fn silent(night: Night, image: &[u8], buffer: &mut [u8]) -> Called
-    ensures { λ r. ⌜ Event·Is night Silence (now (image .entry)) (now (buffer .entry)) r (now (buffer .exit)) ⌝ }
+    ensures { λ r. ⌜ Silent·Is night (now (image .entry)) (now (buffer .entry)) r (now (buffer .exit)) ⌝ }
 {
     step(night, Response::Unreadable, image, buffer)
 }
