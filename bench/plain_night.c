@@ -222,7 +222,7 @@ static size_t look(struct night at, const struct lent *lent, struct placed *plac
 }
 
 static struct called goes_on(struct night at, const struct lent *lent) {
-    return (struct called){at, at.stand == NOT_BEGUN ? 10 : at.stand == AT ? made(at, lent) : at.stand == FINISHED ? 0 : 9};
+    return (struct called){at, at.stand == NOT_BEGUN ? 21 : at.stand == AT ? made(at, lent) : at.stand == FINISHED ? 0 : 20};
 }
 
 static struct called start(size_t n, size_t tries, const struct lent *lent) {

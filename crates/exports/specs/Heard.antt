@@ -20,10 +20,10 @@ nextCode BadN = nextNumber BadN
 nextCode BadLength = nextNumber BadLength
 nextCode BadTries = nextNumber BadTries
 nextCode NoPacket = nextNumber NoPacket
-nextCode NotBegun = 10
+nextCode NotBegun = 21
 nextCode (Send name size) = size
 nextCode Finished = 0
-nextCode (GaveUp name why) = 9
+nextCode (GaveUp name why) = 20
 
 -- the record, what the last call told, and the buffer behind it
 pub record Stood : Type 0 where

@@ -20,10 +20,10 @@ fn next_code(next: Next) -> usize
         Next::BadLength => night::record::next_number(next) as usize,
         Next::BadTries => night::record::next_number(next) as usize,
         Next::NoPacket => night::record::next_number(next) as usize,
-        Next::NotBegun => 10,
+        Next::NotBegun => 21,
         Next::Send { name: _, size } => size,
         Next::Finished => 0,
-        Next::GaveUp { name: _, why: _ } => 9,
+        Next::GaveUp { name: _, why: _ } => 20,
     }
 }
 
