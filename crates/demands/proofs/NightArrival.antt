@@ -30,7 +30,36 @@ use Rattle.night.proofs.Going.{silence-repeats}
 use Rattle.demands.specs.Board.{Input, Datagram, Outcome, said, after, outcomes, stepMachine}
 use Rattle.demands.specs.Demand2.{Lends}
 use Rattle.demands.specs.Night.{Told, nightSender, Startable, packetsFrom}
-use Rattle.demands.specs.NightLoop.{Arrival, callOf, inputsOf, Answer, Round, Loop, requestAfter, saidIn, eventBy, round, rounds, begins, Try, RequestLost, AnswerLost, Through, roundOf, arrived, Right, mayLose, Fails, request-lost, answer-lost, Goes, home, fails, through, MeetsArrival}
+use Rattle.demands.specs.NightLoop.{
+  Arrival,
+  callOf,
+  inputsOf,
+  Answer,
+  Round,
+  Loop,
+  requestAfter,
+  saidIn,
+  eventBy,
+  round,
+  rounds,
+  begins,
+  Try,
+  RequestLost,
+  AnswerLost,
+  Through,
+  roundOf,
+  arrived,
+  Right,
+  mayLose,
+  Fails,
+  request-lost,
+  answer-lost,
+  Goes,
+  home,
+  fails,
+  through,
+  MeetsArrival,
+}
 use Rattle.demands.proofs.NightLoop.{Inv, InvAt, lastName, event-from, event-keeps, passages-keep, request-then, first-request, first-known}
 use Rattle.demands.proofs.NightRuns.{behind, packets-next, moves, toldAt, stays-right, begins-right, start-is, event-is}
 use Rattle.demands.proofs.NightRuns.{Right as RightStand}

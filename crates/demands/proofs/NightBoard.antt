@@ -57,7 +57,20 @@ use Rattle.decision.specs.declared.plan.Fixed.{Fixed}
 use Rattle.calls.proofs.Courses.{accepted, not-write}
 use Rattle.calls.specs.Call.{Board, board}
 use Rattle.demands.specs.Board.{LentCall, Initiate, Terminate, Datagram, Outcome, said, targetBank, sectorsIn, lentTarget, stepMachine}
-use Rattle.demands.specs.Demand1.{acceptedIn, takesPackets, isFault, parameterError, hostDone, answered, changed, stored, packetStored, sweptTarget, refused, afterFrame}
+use Rattle.demands.specs.Demand1.{
+  acceptedIn,
+  takesPackets,
+  isFault,
+  parameterError,
+  hostDone,
+  answered,
+  changed,
+  stored,
+  packetStored,
+  sweptTarget,
+  refused,
+  afterFrame,
+}
 use Rattle.demands.specs.Session.{isBegin, isStored, endsSession, allBlank, exchanged, noted}
 use Rattle.night.specs.declared.name.Name.{Name}
 use Rattle.night.specs.declared.name.Name.the-variants.{ModeStart, VersionInfo, BankInfo, WriteStart, Packet, WriteEnd, ModeEnd}

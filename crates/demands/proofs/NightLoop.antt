@@ -41,7 +41,31 @@ use Rattle.demands.specs.Board.{LentCall, Input, Initiate, Terminate, Da
 use Rattle.demands.specs.Demand1.{Unchanged}
 use Rattle.demands.specs.Session.{noted}
 use Rattle.demands.specs.Night.{Told, NightSender, nightSender, Startable, AnyVersion, version, Stored}
-use Rattle.demands.specs.NightLoop.{Passage, HostInitiates, HostTerminates, Arrives, callOf, inputOf, inputsOf, Comes, Nothing, Answer, Round, RoomyRounds, no-round, round-more, Loop, requestAfter, saidIn, eventBy, round, rounds, begins, isIn, MeetsLoop}
+use Rattle.demands.specs.NightLoop.{
+  Passage,
+  HostInitiates,
+  HostTerminates,
+  Arrives,
+  callOf,
+  inputOf,
+  inputsOf,
+  Comes,
+  Nothing,
+  Answer,
+  Round,
+  RoomyRounds,
+  no-round,
+  round-more,
+  Loop,
+  requestAfter,
+  saidIn,
+  eventBy,
+  round,
+  rounds,
+  begins,
+  isIn,
+  MeetsLoop,
+}
 use Rattle.demands.proofs.NightBoard.{
   isEarly,
   isEnding,

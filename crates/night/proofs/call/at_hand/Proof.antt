@@ -48,7 +48,10 @@ goes-on-requires c κs =
     looked-for (start .args .image .now) (start .args .night .n) (start .args .night .tries) _ _ _ _ (c .before .before .before .before .before .before .before .number .ensures)
     (sym (c .before .before .before .before .sector .given .1) ∙ (c .before .before .before .before .before .before .look .ensures)) in
     let found = lent _ _ _ _ _ _ _ looked in
-    (found .good, (found .whole, (found .roomy, stands-there (start .args .name) (start .args .gone) (start .args .night .tries) _ (c .before .before .judge .result) _ (found .there) (found .count-is) (c .before .moved .ensures))))
+    let there =
+    stands-there (start .args .name) (start .args .gone) (start .args .night .tries) _ (c .before .before .judge .result) _ (found .there) (found .count-is)
+    (c .before .moved .ensures) in
+    (found .good, (found .whole, (found .roomy, there)))
 
 returns : tie.Need-returns
 returns c =
