@@ -18,6 +18,7 @@ pub mod Lending
 pub mod New
 pub mod NightArrival
 pub mod NightBoard
+pub mod NightEnds
 pub mod NightLoop
 pub mod NightOrder
 pub mod NightReached
