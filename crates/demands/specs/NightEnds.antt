@@ -18,9 +18,12 @@ use Rattle.night.specs.declared.name.Name.{Name}
 use Rattle.night.specs.declared.name.Name.the-variants.{BankInfo, WriteEnd}
 use Rattle.night.specs.declared.record.Next.{Next}
 use Rattle.night.specs.declared.record.Next.the-variants.{NotBegun, Send, GaveUp}
+use Rattle.night.specs.declared.record.Night.{Night}
+use Rattle.night.specs.declared.record.Stand.the-variants as stand
 use Rattle.night.specs.declared.record.Why.{Why}
 use Rattle.night.specs.declared.record.Why.the-variants.{Tries, WrongBank, Unknown}
 use Rattle.night.specs.Call.{Event, Heard, Silence}
+use Rattle.night.specs.Record.{standing, nextNumber}
 use Rattle.demands.specs.Night.{
   Told,
   NightSender,
@@ -123,3 +126,17 @@ module _ {S : Type 0} (m : NightSender S) where
     -- "an event after the end changes nothing and is told the same end again; the buffer then keeps its bytes"
     pub over-stays : (image : List ℕ) (bank : Bank) (n tries : ℕ) (before : List ℕ) (gs : List Given) → Startable image n tries
         → room ≤ length before → Roomy gs → isOver (endsWith m image bank n tries before gs) ≡ true → EndStays image bank n tries before gs
+
+-- ---- of an arbitrary record
+
+-- "tries at or above T give up": nothing is refused, and the event settles nothing and stops nothing
+pub record GivenUp (r : Night) (name : Name) (before : List ℕ) (o : Told Night) : Type 0 where
+  pub told : o .next ≡ GaveUp name Tries
+  pub stands : o .record-then ≡ standing (stand.GaveUp name Tries) r
+  pub buffer : o .buffer ≡ before
+
+abbrev pub GivesUpAtLast : NightSender Night → Type 0
+GivesUpAtLast m =
+    (r : Night) (name : Name) (gone : ℕ) (event : Event) (image before : List ℕ) → r .stand ≡ stand.At name gone → r .tries ≤ gone
+    → nextNumber (m .event r event image before .next) ≡ 0 → Spends image (r .bank) (r .n) name (2 ≤ gone) event
+    → GivenUp r name before (m .event r event image before)
