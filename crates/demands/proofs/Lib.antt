@@ -28,6 +28,7 @@ pub mod NightServed
 pub mod NightSettled
 pub mod NightShutOut
 pub mod NightTurns
+pub mod NightWitness
 pub mod Packets
 pub mod Reading
 pub mod Requests
