@@ -6,10 +6,10 @@ use mathlib.Core.List.{List, [], _∷_}
 use mathlib.Core.Logic.{_⊎_, inl, inr}
 use Prim.Native.Nat.{ℕ, zero, suc, _+_, _≤_, _<_}
 use native.Mathlib.Omega.{arith}
-use lib.Dec.{leb, ltb}
+use lib.Dec.{leb}
 use lib.ListN.{length}
-use borrow.Author.Tests.{leb-true, leb-false, le-leb, ltb-true, ltb-false}
-use Rattle.buffer.proofs.Bools.{split, no-way}
+use borrow.Author.Tests.{leb-true, leb-false, le-leb}
+use Rattle.buffer.proofs.Bools.{no-way}
 use Rattle.commands.specs.declared.Command.the-variants as command
 use Rattle.layout.specs.declared.Bank.{Bank}
 use Rattle.response.specs.declared.read.Response.{Response}
@@ -26,7 +26,7 @@ use Rattle.night.specs.declared.record.Stand.{Stand}
 use Rattle.night.specs.declared.record.Stand.the-variants.{NotBegun, At, Finished, GaveUp}
 use Rattle.night.specs.declared.record.Why.{Why}
 use Rattle.night.specs.declared.record.Why.the-variants.{Tries, WrongBank, Unknown}
-use Rattle.night.specs.Call.{Event, Heard, Silence, heardIn, nextOf, nightOf}
+use Rattle.night.specs.Call.{Event, Heard, Silence, heardIn, nextOf}
 use Rattle.night.specs.Name.{numberOf}
 use Rattle.night.proofs.Judged.{
   Settling,
@@ -53,7 +53,6 @@ use Rattle.night.proofs.Judged.{
   silence-judged,
 }
 use Rattle.demands.specs.Night.{
-  Told,
   nightSender,
   Given,
   Roomy,
@@ -83,6 +82,10 @@ use Rattle.demands.specs.NightEnds.{
   Stopped,
   stopped-here,
   stopped-later,
+  AllTold,
+  told-none,
+  told-more,
+  Whatever,
   Stays,
   stays-none,
   stays-more,
@@ -101,7 +104,6 @@ use Rattle.demands.proofs.NightRuns.{
   follows,
   moves,
   lastStand,
-  toldAt,
   toldsAt,
   turnsAt,
   tolds-are,
@@ -310,10 +312,10 @@ module _ (image : List ℕ) (bank : Bank) (n tries : ℕ) (s : Startable image n
   -- ---- given up for its tries: only then
 
   abbrev Vain : Name → ℕ → Next → List Turn → Type 0
-  Vain = InVain image bank n
+  Vain name = InVain image bank n (AllTold (next.GaveUp name Tries)) name
 
   abbrev Tried : Name → Next → List Turn → Type 0
-  Tried name = TriedInVain image bank n name tries
+  Tried name = TriedInVain image bank n (AllTold (next.GaveUp name Tries)) name tries
 
   abbrev Up : Name → Why → Stand → List Given → Type 0
   Up k why stand gs = final stand gs ≡ GaveUp k why
@@ -341,12 +343,12 @@ module _ (image : List ℕ) (bank : Bank) (n tries : ℕ) (s : Startable image n
   same-hand k name gone event last spent h (inr x) = inr (from-later x)
 
   last-hand : (k name : Name) (gone : ℕ) (event : Event) (last : Next) {rest : List Turn} → Spends image bank n name (Repeated name last) event → tries ≤ gone
-      → gone ≤ tries → k ≡ name → VainOrLater k name gone last (turn (hand name) event ∷ rest)
-  last-hand k name gone event last {rest} spent h l e = inl (e, one-left)
+      → gone ≤ tries → k ≡ name → AllTold (next.GaveUp name Tries) rest → VainOrLater k name gone last (turn (hand name) event ∷ rest)
+  last-hand k name gone event last {rest} spent h l e told = inl (e, one-left)
     where
       one-left : (left : ℕ) → left + gone ≡ suc tries → Vain name left last (turn (hand name) event ∷ rest)
       one-left zero q = absurd (omega arith)
-      one-left (suc zero) q = in-vain spent enough
+      one-left (suc zero) q = in-vain spent (enough told)
       one-left (suc (suc left)) q = absurd (omega arith)
 
   finished-not : (k : Name) (why : Why) (gs : List Given) → Up k why Finished gs → ⊥
@@ -354,6 +356,10 @@ module _ (image : List ℕ) (bank : Bank) (n tries : ℕ) (s : Startable image n
 
   same-end : (name k : Name) (why whyk : Why) (gs : List Given) → Up k whyk (GaveUp name why) gs → GaveUp name why ≡ GaveUp k whyk
   same-end name k why whyk gs e = sym (stays-given-up image bank n tries s name why gs) ∙ e
+
+  gave-up-told-on : (name : Name) (why : Why) (gs : List Given) → AllTold (next.GaveUp name why) (turns (GaveUp name why) gs)
+  gave-up-told-on name why [] = told-none
+  gave-up-told-on name why (g ∷ gs) = told-more (gave-up-told-on name why gs)
 
   vain-on : (gs : List Given) → VainFrom gs → (k name : Name) (gone : ℕ) (event : Event) (last : Next) (stand : Stand) → Right count tries (At name gone)
       → Agrees name gone last → Up k Tries stand gs → Step name gone event stand
@@ -368,6 +374,7 @@ module _ (image : List ℕ) (bank : Bank) (n tries : ℕ) (s : Startable image n
       let q = same-end name k Tries Tries gs e in
       let same : k ≡ name = cc in
       last-hand k name gone event last (spends-of image bank n name gone (Repeated name last) (a .twice) (a .only) event t) h (r .1) same
+      (gave-up-told-on name Tries gs)
   vain-on gs ih k name gone event last _ r a e (stops {why = why} t) =
       let q = same-end name k why Tries gs e in
       let same : why ≡ Tries = cc in
@@ -383,15 +390,21 @@ module _ (image : List ℕ) (bank : Bank) (n tries : ℕ) (s : Startable image n
 
   -- ---- and always then
 
+  abbrev VainAny : Name → ℕ → Next → List Turn → Type 0
+  VainAny = InVain image bank n Whatever
+
+  abbrev TriedAny : Name → Next → List Turn → Type 0
+  TriedAny name = TriedInVain image bank n Whatever name tries
+
   record Head (name : Name) (left : ℕ) (last : Next) (t : Turn) (rest : List Turn) : Type 0 where
     size : ℕ
     hand-is : t .hand ≡ next.Send name size
     spent : Spends image bank n name (Repeated name last) (t .event)
-    less : (k : ℕ) → left ≡ suc k → Vain name k (t .hand) rest
+    less : (k : ℕ) → left ≡ suc k → VainAny name k (t .hand) rest
 
-  vain-head : (name : Name) {left : ℕ} {last : Next} {ts : List Turn} (t : Turn) (rest : List Turn) → 1 ≤ left → Vain name left last ts → ts ≡ t ∷ rest
+  vain-head : (name : Name) {left : ℕ} {last : Next} {ts : List Turn} (t : Turn) (rest : List Turn) → 1 ≤ left → VainAny name left last ts → ts ≡ t ∷ rest
       → Head name left last t rest
-  vain-head name t rest h enough e = absurd (omega arith)
+  vain-head name t rest h (enough _) e = absurd (omega arith)
   vain-head name t rest h (in-vain {k = j} {last = last} {size = size} {event = event} {rest = more} spent v) e =
       let same : turn (next.Send name size) event ≡ t = cc in
       let rests : more ≡ rest = cc in
@@ -401,22 +414,22 @@ module _ (image : List ℕ) (bank : Bank) (n tries : ℕ) (s : Startable image n
         spent = subst (λ (u : Turn). Spends image bank n name (Repeated name last) (u .event)) same spent;
         less = λ k q.
             let fewer : j ≡ k = omega arith in
-            subst (λ (i : ℕ). Vain name i (t .hand) rest) fewer
-            (subst (Vain name j (t .hand)) rests (subst (λ (u : Turn). Vain name j (u .hand) more) same v));
+            subst (λ (i : ℕ). VainAny name i (t .hand) rest) fewer
+            (subst (VainAny name j (t .hand)) rests (subst (λ (u : Turn). VainAny name j (u .hand) more) same v));
       }
 
-  vain-some : (name : Name) {left : ℕ} {last : Next} {ts : List Turn} → 1 ≤ left → Vain name left last ts → ts ≡ [] → ⊥
-  vain-some name h enough e = absurd (omega arith)
+  vain-some : (name : Name) {left : ℕ} {last : Next} {ts : List Turn} → 1 ≤ left → VainAny name left last ts → ts ≡ [] → ⊥
+  vain-some name h (enough _) e = absurd (omega arith)
   vain-some name h (in-vain spent v) e = no-way cc
 
   abbrev Ends·From : List Given → Type 0
   Ends·From gs =
       (name : Name) (gone : ℕ) (last : Next) (left : ℕ) → Right count tries (At name gone) → Agrees name gone last → left + gone ≡ suc tries
-      → Vain name left last (turns (At name gone) gs) → Up name Tries (At name gone) gs
+      → VainAny name left last (turns (At name gone) gs) → Up name Tries (At name gone) gs
 
   ends-on : (gs : List Given) → Ends·From gs → (name : Name) (gone : ℕ) (event : Event) (last : Next) (left : ℕ) (stand : Stand)
       → Right count tries (At name gone) → SpentAt image bank n name gone event → left + gone ≡ suc tries
-      → ((k : ℕ) → left ≡ suc k → Vain name k (hand name) (turns stand gs)) → Step name gone event stand → Up name Tries stand gs
+      → ((k : ℕ) → left ≡ suc k → VainAny name k (hand name) (turns stand gs)) → Step name gone event stand → Up name Tries stand gs
   ends-on gs ih name gone event last left _ r spent e less (onto-other t other q) =
       absurd (spent-unsettled name (leb 2 gone) bank image (packetSector image n (numberOf name)) (heardIn event) spent t)
   ends-on gs ih name gone event last left _ r spent e less (finishes t) =
@@ -439,19 +452,19 @@ module _ (image : List ℕ) (bank : Bank) (n tries : ℕ) (s : Startable image n
 
   -- it begins where the request was new
   gone-once : (name k : Name) (gone : ℕ) (last : Next) (gs : List Given) → name ≡ k → Right count tries (At name gone) → Agrees name gone last
-      → (Repeated k last → ⊥) → Vain k tries last (turns (At name gone) gs) → Up k Tries (At name gone) gs
+      → (Repeated k last → ⊥) → VainAny k tries last (turns (At name gone) gs) → Up k Tries (At name gone) gs
   gone-once name k gone last gs same r a new v =
       let once : gone ≡ 1 = first-gone (leb 2 gone) refl in
       subst (λ (x : Name). Up x Tries (At name gone) gs) same
       (ends-from gs name gone last tries r a (omega arith)
-      (subst (λ (x : Name). Vain x tries last (turns (At name gone) gs)) (sym same) v))
+      (subst (λ (x : Name). VainAny x tries last (turns (At name gone) gs)) (sym same) v))
     where
       first-gone : (t : Bool) → leb 2 gone ≡ t → gone ≡ 1
       first-gone true t = absurd (new (subst (λ (x : Name). Repeated x last) same (a .twice (leb-true 2 gone t))))
       first-gone false t = let l = leb-false 2 gone t in let low = r .0 in omega arith
 
   begins-here : (gs : List Given) (stand : Stand) (k : Name) (last : Next) → Right count tries stand → AgreesAt stand last → (Repeated k last → ⊥)
-      → Vain k tries last (turns stand gs) → Up k Tries stand gs
+      → VainAny k tries last (turns stand gs) → Up k Tries stand gs
   begins-here [] stand k last r a new v = absurd (vain-some k (s .low) v refl)
   begins-here (g ∷ gs) NotBegun k last r a new v = absurd r
   begins-here (g ∷ gs) (At name gone) k last r a new v =
@@ -469,16 +482,16 @@ module _ (image : List ℕ) (bank : Bank) (n tries : ℕ) (s : Startable image n
       vain-head k (turn (next.GaveUp name why) (g .event)) (turns (GaveUp name why) gs) (s .low) v refl in
       let at : next.GaveUp name why ≡ next.Send k (h .size) = h .hand-is in no-way cc
 
-  tried-later : (k : Name) {last : Next} {ts : List Turn} → Tried k last ts
-      → (((Repeated k last → ⊥) × Vain k tries last ts)) ⊎ ((t : Turn) × (rest : List Turn) × (ts ≡ t ∷ rest) × Tried k (t .hand) rest)
+  tried-later : (k : Name) {last : Next} {ts : List Turn} → TriedAny k last ts
+      → (((Repeated k last → ⊥) × VainAny k tries last ts)) ⊎ ((t : Turn) × (rest : List Turn) × (ts ≡ t ∷ rest) × TriedAny k (t .hand) rest)
   tried-later k (from-here new v) = inl (new, v)
   tried-later k (from-later {t = t} {rest = rest} x) = inr (t, rest, refl, x)
 
-  tried-from : (gs : List Given) (stand : Stand) (k : Name) (last : Next) → Right count tries stand → AgreesAt stand last → Tried k last (turns stand gs)
+  tried-from : (gs : List Given) (stand : Stand) (k : Name) (last : Next) → Right count tries stand → AgreesAt stand last → TriedAny k last (turns stand gs)
       → Up k Tries stand gs
   tried-from [] stand k last r a x = by (tried-later k x)
     where
-      by : (((Repeated k last → ⊥) × Vain k tries last [])) ⊎ ((t : Turn) × (rest : List Turn) × ([] ≡ t ∷ rest) × Tried k (t .hand) rest)
+      by : (((Repeated k last → ⊥) × VainAny k tries last [])) ⊎ ((t : Turn) × (rest : List Turn) × ([] ≡ t ∷ rest) × TriedAny k (t .hand) rest)
           → Up k Tries stand []
       by (inl y) = begins-here [] stand k last r a (y .0) (y .1)
       by (inr y) = let e : [] ≡ y .0 ∷ y .1 = y .2 in no-way cc
@@ -490,15 +503,15 @@ module _ (image : List ℕ) (bank : Bank) (n tries : ℕ) (s : Startable image n
       ts : List Turn
       ts = turns (moves image bank n tries stand (g .event)) gs
 
-      by : (((Repeated k last → ⊥) × Vain k tries last (turn (nextOf image bank n stand) (g .event) ∷ ts)))
-          ⊎ ((t : Turn) × (rest : List Turn) × (turn (nextOf image bank n stand) (g .event) ∷ ts ≡ t ∷ rest) × Tried k (t .hand) rest)
-          → (Tried k (nextOf image bank n stand) ts → Up k Tries stand (g ∷ gs)) → Up k Tries stand (g ∷ gs)
+      by : (((Repeated k last → ⊥) × VainAny k tries last (turn (nextOf image bank n stand) (g .event) ∷ ts)))
+          ⊎ ((t : Turn) × (rest : List Turn) × (turn (nextOf image bank n stand) (g .event) ∷ ts ≡ t ∷ rest) × TriedAny k (t .hand) rest)
+          → (TriedAny k (nextOf image bank n stand) ts → Up k Tries stand (g ∷ gs)) → Up k Tries stand (g ∷ gs)
       by (inl y) ih = begins-here (g ∷ gs) stand k last r a (y .0) (y .1)
       by (inr y) ih =
           let e : turn (nextOf image bank n stand) (g .event) ∷ ts ≡ y .0 ∷ y .1 = y .2 in
           let same : y .0 ≡ turn (nextOf image bank n stand) (g .event) = cc in
           let rests : y .1 ≡ ts = cc in
-          ih (subst (Tried k (nextOf image bank n stand)) rests (subst (λ (u : Turn). Tried k (u .hand) (y .1)) same (y .3)))
+          ih (subst (TriedAny k (nextOf image bank n stand)) rests (subst (λ (u : Turn). TriedAny k (u .hand) (y .1)) same (y .3)))
 
   -- ---- stopped: only then
 
@@ -649,11 +662,11 @@ module _ (image : List ℕ) (bank : Bank) (n tries : ℕ) (s : Startable image n
         (new-hand name ModeStart next.NotBegun agrees-first
         (vain-from gs name ModeStart 1 next.NotBegun (begins-right image bank n tries s) agrees-first (up-of name Tries e)))
 
-    pub tries-run : (name : Name) → Tried name next.NotBegun Run → endsWith nightSender image bank n tries before gs ≡ next.GaveUp name Tries
+    pub tries-run : (name : Name) → TriedAny name next.NotBegun Run → endsWith nightSender image bank n tries before gs ≡ next.GaveUp name Tries
     tries-run name x =
         of-up name Tries
         (tried-from gs (At ModeStart 1) name next.NotBegun (begins-right image bank n tries s) agrees-first
-        (subst (Tried name next.NotBegun) (run-turns image bank n tries s before gs h hs) x))
+        (subst (TriedAny name next.NotBegun) (run-turns image bank n tries s before gs h hs) x))
 
     pub run-halts : (why : Why) (name : Name) → (why ≡ Tries → ⊥) → endsWith nightSender image bank n tries before gs ≡ next.GaveUp name why
         → Halted why name next.NotBegun Run

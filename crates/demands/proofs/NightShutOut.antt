@@ -75,7 +75,7 @@ use Rattle.demands.specs.NightShutOut.{
   GivesUpEarly,
   hopeless,
 }
-use Rattle.demands.specs.NightEnds.{InVain, enough, in-vain, TriedInVain, from-here, from-later, MeetsGivingUp}
+use Rattle.demands.specs.NightEnds.{InVain, enough, in-vain, TriedInVain, from-here, from-later, AllTold, MeetsGivingUp}
 use Rattle.demands.proofs.NightOrder.{behind-length}
 use Rattle.demands.proofs.NightTurns.{Hits, now-or-later, nothing-settled, packet-among}
 use Rattle.demands.proofs.Witness.{image, image-size, two-packets, two-good}
@@ -243,18 +243,18 @@ one-skipper =
 
 -- ---- given up too early
 
-module _ (image : List ℕ) (bank : Bank) (n : ℕ) (name : Name) where
+module _ (image : List ℕ) (bank : Bank) (n : ℕ) (Rest : List Turn → Type 0) (name : Name) where
   -- the turns of a request that was at hand so often, and how often it went out
   record Vain·Head (left : ℕ) (t : Turn) (rest : List Turn) : Type 0 where
     size : ℕ
     hand-is : t .hand ≡ Send name size
     fewer : ℕ
     left-is : left ≡ suc fewer
-    vain : InVain image bank n name fewer (t .hand) rest
+    vain : InVain image bank n Rest name fewer (t .hand) rest
 
-  vain-head : {left : ℕ} {last : Next} {ts : List Turn} (t : Turn) (rest : List Turn) → InVain image bank n name left last ts → ts ≡ t ∷ rest
+  vain-head : {left : ℕ} {last : Next} {ts : List Turn} (t : Turn) (rest : List Turn) → InVain image bank n Rest name left last ts → ts ≡ t ∷ rest
       → (left ≡ 0) ⊎ Vain·Head left t rest
-  vain-head t rest enough e = inl refl
+  vain-head t rest (enough _) e = inl refl
   vain-head t rest (in-vain {k = k} {size = size} {event = event} {rest = us} spent v) e =
       let same : turn (Send name size) event ≡ t = cc in
       let rests : us ≡ rest = cc in
@@ -264,11 +264,11 @@ module _ (image : List ℕ) (bank : Bank) (n : ℕ) (name : Name) where
         hand-is = sym (ap (λ (u : Turn). u .hand) same);
         fewer = k;
         left-is = refl;
-        vain = subst (InVain image bank n name k (t .hand)) rests (subst (λ (u : Turn). InVain image bank n name k (u .hand) us) same v);
+        vain = subst (InVain image bank n Rest name k (t .hand)) rests (subst (λ (u : Turn). InVain image bank n Rest name k (u .hand) us) same v);
       })
 
-  vain-none : {left : ℕ} {last : Next} {ts : List Turn} → InVain image bank n name left last ts → ts ≡ [] → left ≡ 0
-  vain-none enough e = refl
+  vain-none : {left : ℕ} {last : Next} {ts : List Turn} → InVain image bank n Rest name left last ts → ts ≡ [] → left ≡ 0
+  vain-none (enough _) e = refl
   vain-none (in-vain spent v) e = no-way cc
 
   record Times·Head {S : Type 0} (times : ℕ) (o : Told S) (os : List (Told S)) : Type 0 where
@@ -293,7 +293,7 @@ module _ (image : List ℕ) (bank : Bank) (n : ℕ) (name : Name) where
       record { rest = k; times-rest = subst (Times name k) rests t; no-more = omega arith; counts = λ size _. refl }
 
   module _ {S : Type 0} (m : NightSender S) where
-    vain-counted : (gs : List Given) (o : Told S) (left times : ℕ) {last : Next} → InVain image bank n name left last (turnsOf m image o gs)
+    vain-counted : (gs : List Given) (o : Told S) (left times : ℕ) {last : Next} → InVain image bank n Rest name left last (turnsOf m image o gs)
         → Times name times (o ∷ tolds m image (o .record-then) gs) → left ≤ times
     vain-counted [] o left times v t = let none-left = vain-none v refl in omega arith
     vain-counted (g ∷ gs) o left times v t =
@@ -305,7 +305,7 @@ module _ (image : List ℕ) (bank : Bank) (n : ℕ) (name : Name) where
         (vain-head (turn (o .next) (g .event)) ts v refl)
       where
         by : (rest : ℕ) → ((size : ℕ) → o .next ≡ Send name size → times ≡ suc rest)
-            → ((fewer : ℕ) → InVain image bank n name fewer (o .next) (turnsOf m image (m .event (o .record-then) (g .event) image (g .buffer)) gs) → fewer ≤ rest)
+            → ((fewer : ℕ) → InVain image bank n Rest name fewer (o .next) (turnsOf m image (m .event (o .record-then) (g .event) image (g .buffer)) gs) → fewer ≤ rest)
             → (left ≡ 0) ⊎ Vain·Head left (turn (o .next) (g .event)) (turnsOf m image (m .event (o .record-then) (g .event) image (g .buffer)) gs)
             → left ≤ times
         by rest counts ih (inl z) = omega arith
@@ -313,9 +313,9 @@ module _ (image : List ℕ) (bank : Bank) (n : ℕ) (name : Name) where
             let less : k .fewer ≤ rest = ih (k .fewer) (k .vain) in
             omega (arith, k .left-is, counts (k .size) (k .hand-is))
 
-    tried-counted : (gs : List Given) (o : Told S) (tries times : ℕ) {last : Next} {ts : List Turn} → TriedInVain image bank n name tries last ts
+    tried-counted : (gs : List Given) (o : Told S) (tries times : ℕ) {last : Next} {ts : List Turn} → TriedInVain image bank n Rest name tries last ts
         → ts ≡ turnsOf m image o gs → Times name times (o ∷ tolds m image (o .record-then) gs) → tries ≤ times
-    tried-counted gs o tries times {last} (from-here new v) e t = vain-counted gs o tries times (subst (InVain image bank n name tries last) e v) t
+    tried-counted gs o tries times {last} (from-here new v) e t = vain-counted gs o tries times (subst (InVain image bank n Rest name tries last) e v) t
     tried-counted [] o tries times (from-later x) e t = no-way cc
     tried-counted (g ∷ gs) o tries times (from-later {t = u} {rest = us} x) e t =
         let next-told : Told S = m .event (o .record-then) (g .event) image (g .buffer) in
@@ -329,7 +329,7 @@ no-early m k meets =
     let b = k .begin in
     let few = k .fewer in
     let many : b .tries ≤ k .times =
-    tried-counted (b .image) (b .bank) (b .n) (k .name) m (k .events) (m .start (b .image) (b .bank) (b .n) (b .tries) (b .before)) (b .tries) (k .times)
+    tried-counted (b .image) (b .bank) (b .n) (AllTold (GaveUp (k .name) Tries)) (k .name) m (k .events) (m .start (b .image) (b .bank) (b .n) (b .tries) (b .before)) (b .tries) (k .times)
     (meets .why-tries (b .image) (b .bank) (b .n) (b .tries) (b .before) (k .events) (k .name) (b .starts) (b .roomy) (k .roomy) (k .gives-up))
     refl (k .counted) in
     absurd (omega arith)

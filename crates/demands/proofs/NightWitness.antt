@@ -1,7 +1,7 @@
 -- The premises of the closed loop and of 'it gets there' can be met: the two sectors of the witness, an idle board, T = 2, and each request but the
 -- write end loses one answer first.
 -- Assumes nothing.
-use mathlib.Core.Path.{_≡_, refl, ap, _∙_}
+use mathlib.Core.Path.{_≡_, refl, ap}
 use mathlib.Core.List.{List, [], _∷_}
 use Prim.Native.Nat.{ℕ, suc, _-_, _^_, _≤_, _<_}
 use native.Mathlib.Omega.{arith}
@@ -23,7 +23,6 @@ use Rattle.demands.specs.Board.{stepMachine}
 use Rattle.demands.specs.Night.{nightSender, Startable, namesOf}
 use Rattle.demands.specs.NightLoop.{
   Arrival,
-  callOf,
   Round,
   RoomyRounds,
   no-round,
@@ -32,8 +31,6 @@ use Rattle.demands.specs.NightLoop.{
   begins,
   isIn,
   AnswerLost,
-  Through,
-  roundOf,
   Right,
   mayLose,
   answer-lost,

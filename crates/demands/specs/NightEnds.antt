@@ -65,22 +65,32 @@ module _ (image : List ℕ) (bank : Bank) (n : ℕ) where
     pub unsettled : Brings event (Done name repeated) → ⊥
     pub unstopped : (why : Why) → Brings event (Stops why name repeated) → ⊥
 
-  -- so many turns in a row this request was at hand, each time in vain; `last` is what was at hand one event before the first of the list
-  pub data InVain (name : Name) : ℕ → Next → List Turn → Type 0 where
-    enough : {last : Next} {ts : List Turn} → InVain name zero last ts
-    in-vain : {k : ℕ} {last : Next} {size : ℕ} {event : Event} {rest : List Turn} → Spends name (Repeated name last) event → InVain name k (Send name size) rest
-        → InVain name (suc k) last (turn (Send name size) event ∷ rest)
+  module _ (Rest : List Turn → Type 0) where
+    -- so many turns in a row this request was at hand, each time in vain, and of the turns after them `Rest` holds; `last` is what was at hand one
+    -- event before the first of the list
+    pub data InVain (name : Name) : ℕ → Next → List Turn → Type 0 where
+      enough : {last : Next} {ts : List Turn} → Rest ts → InVain name zero last ts
+      in-vain : {k : ℕ} {last : Next} {size : ℕ} {event : Event} {rest : List Turn} → Spends name (Repeated name last) event → InVain name k (Send name size) rest
+          → InVain name (suc k) last (turn (Send name size) event ∷ rest)
 
-  -- somewhere in the run, from when it first was at hand
-  pub data TriedInVain (name : Name) (tries : ℕ) : Next → List Turn → Type 0 where
-    from-here : {last : Next} {ts : List Turn} → (Repeated name last → ⊥) → InVain name tries last ts → TriedInVain name tries last ts
-    from-later : {last : Next} {t : Turn} {rest : List Turn} → TriedInVain name tries (t .hand) rest → TriedInVain name tries last (t ∷ rest)
+    -- somewhere in the run, from when it first was at hand
+    pub data TriedInVain (name : Name) (tries : ℕ) : Next → List Turn → Type 0 where
+      from-here : {last : Next} {ts : List Turn} → (Repeated name last → ⊥) → InVain name tries last ts → TriedInVain name tries last ts
+      from-later : {last : Next} {t : Turn} {rest : List Turn} → TriedInVain name tries (t .hand) rest → TriedInVain name tries last (t ∷ rest)
 
   -- while this request was at hand there was an event that stops the night
   pub data Stopped (why : Why) (name : Name) : Next → List Turn → Type 0 where
     stopped-here : {last : Next} {size : ℕ} {event : Event} {rest : List Turn} → Brings event (Stops why name (Repeated name last))
         → Stopped why name last (turn (Send name size) event ∷ rest)
     stopped-later : {last : Next} {t : Turn} {rest : List Turn} → Stopped why name (t .hand) rest → Stopped why name last (t ∷ rest)
+
+-- at each of these turns this was what had been told last
+pub data AllTold (end : Next) : List Turn → Type 0 where
+  told-none : AllTold end []
+  told-more : {event : Event} {rest : List Turn} → AllTold end rest → AllTold end (turn end event ∷ rest)
+
+abbrev pub Whatever : List Turn → Type 0
+Whatever ts = Unit {0}
 
 -- each of these tells this end, and each buffer is as it was lent
 pub data Stays {S : Type 0} (end : Next) : List Given → List (Told S) → Type 0 where
@@ -93,8 +103,13 @@ module _ {S : Type 0} (m : NightSender S) where
     abbrev pub runTurns : List Turn
     runTurns = turnsOf m image (first m image bank n tries before gs) gs
 
+    -- T times in vain, and from then on it is told so
+    abbrev pub TiredOut : Name → Type 0
+    TiredOut name = TriedInVain image bank n (AllTold (GaveUp name Tries)) name tries NotBegun runTurns
+
+    -- T times in vain, whatever comes then
     abbrev pub Tired : Name → Type 0
-    Tired name = TriedInVain image bank n name tries NotBegun runTurns
+    Tired name = TriedInVain image bank n Whatever name tries NotBegun runTurns
 
     abbrev pub StoppedBy : Why → Name → Type 0
     StoppedBy why name = Stopped image bank n why name NotBegun runTurns
@@ -108,7 +123,7 @@ module _ {S : Type 0} (m : NightSender S) where
 
   pub record MeetsGivingUp : Type 0 where
     pub why-tries : (image : List ℕ) (bank : Bank) (n tries : ℕ) (before : List ℕ) (gs : List Given) (name : Name) → Startable image n tries
-        → room ≤ length before → Roomy gs → endsWith m image bank n tries before gs ≡ GaveUp name Tries → Tired image bank n tries before gs name
+        → room ≤ length before → Roomy gs → endsWith m image bank n tries before gs ≡ GaveUp name Tries → TiredOut image bank n tries before gs name
     pub tries-end : (image : List ℕ) (bank : Bank) (n tries : ℕ) (before : List ℕ) (gs : List Given) (name : Name) → Startable image n tries
         → room ≤ length before → Roomy gs → Tired image bank n tries before gs name → endsWith m image bank n tries before gs ≡ GaveUp name Tries
     pub why-bank : (image : List ℕ) (bank : Bank) (n tries : ℕ) (before : List ℕ) (gs : List Given) (name : Name) → Startable image n tries
