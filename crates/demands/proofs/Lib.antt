@@ -18,6 +18,7 @@ pub mod Lending
 pub mod New
 pub mod NightArrival
 pub mod NightBoard
+pub mod NightEnds
 pub mod NightLoop
 pub mod NightOrder
 pub mod NightReached
@@ -27,6 +28,7 @@ pub mod NightServed
 pub mod NightSettled
 pub mod NightShutOut
 pub mod NightTurns
+pub mod NightWitness
 pub mod Packets
 pub mod Reading
 pub mod Requests

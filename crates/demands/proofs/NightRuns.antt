@@ -95,7 +95,7 @@ module _ (count tries : ℕ) where
     onto-next : (name next : Name) → behind count name ≡ next ∷ behind count next → numberOf next < count → Goes name gone settling (At next 1)
     onto-next name next e h = onto t e (omega arith, low, h)
 
-    follows : (name : Name) → numberOf name < count → Goes name gone settling (followingOf name count)
+    pub follows : (name : Name) → numberOf name < count → Goes name gone settling (followingOf name count)
     follows ModeStart h = onto-next ModeStart VersionInfo refl h
     follows VersionInfo h = onto-next VersionInfo BankInfo refl h
     follows BankInfo h = onto-next BankInfo WriteStart refl h
@@ -198,7 +198,7 @@ module _ (image : List ℕ) (bank : Bank) (n tries : ℕ) where
         ap (toldBy image before)
         (gave-up-again (nightOf bank n tries (GaveUp name why)) (heardIn event) image (length before) (fits before h) name why refl r)
 
-    tolds-are : (stand : Stand) (gs : List Given) → Right (packetCount image n) tries stand → Roomy gs
+    pub tolds-are : (stand : Stand) (gs : List Given) → Right (packetCount image n) tries stand → Roomy gs
         → tolds nightSender image (nightOf bank n tries stand) gs ≡ toldsAt stand gs
     tolds-are stand [] r none = refl
     tolds-are stand (g ∷ gs) r (more h hs) =
@@ -218,6 +218,11 @@ module _ (image : List ℕ) (bank : Bank) (n tries : ℕ) where
         → lastTold (toldAt before stand) (toldsAt stand gs) .next ≡ nextOf image bank n (lastStand stand gs)
     last-is before stand [] = refl
     last-is before stand (g ∷ gs) = last-is (g .buffer) (moves stand (g .event)) gs
+
+    stands-last : (before : List ℕ) (stand : Stand) (gs : List Given)
+        → lastTold (toldAt before stand) (toldsAt stand gs) .record-then ≡ nightOf bank n tries (lastStand stand gs)
+    stands-last before stand [] = refl
+    stands-last before stand (g ∷ gs) = stands-last (g .buffer) (moves stand (g .event)) gs
 
     -- ---- what goes out
 
@@ -265,6 +270,13 @@ module _ (image : List ℕ) (bank : Bank) (n tries : ℕ) where
           ap (λ (o : Told Night). lastTold o (tolds nightSender image (o .record-then) gs) .next) (start-is before h)
           ∙ ap (λ (l : List (Told Night)). lastTold (toldAt before (At ModeStart 1)) l .next) (tolds-are (At ModeStart 1) gs begins-right hs)
           ∙ last-is before (At ModeStart 1) gs
+
+      pub run-stands : lastTold (first nightSender image bank n tries before gs) (later nightSender image bank n tries before gs) .record-then
+          ≡ nightOf bank n tries (lastStand (At ModeStart 1) gs)
+      run-stands =
+          ap (λ (o : Told Night). lastTold o (tolds nightSender image (o .record-then) gs) .record-then) (start-is before h)
+          ∙ ap (λ (l : List (Told Night)). lastTold (toldAt before (At ModeStart 1)) l .record-then) (tolds-are (At ModeStart 1) gs begins-right hs)
+          ∙ stands-last before (At ModeStart 1) gs
 
       pub run-turns : turnsOf nightSender image (first nightSender image bank n tries before gs) gs ≡ turnsAt (At ModeStart 1) gs
       run-turns =

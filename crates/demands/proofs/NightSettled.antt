@@ -24,7 +24,21 @@ use Rattle.night.specs.declared.record.Stand.the-variants.{NotBegun, At, Finish
 use Rattle.night.specs.declared.record.Why.{Why}
 use Rattle.night.specs.Call.{Event, Heard, Silence, nextOf}
 use Rattle.night.specs.Name.{numberOf}
-use Rattle.night.proofs.Judged.{Settling, Fields, own-done, done-own, own-ended, version-settled, bank-settled, packet-settled, silence-spends}
+use Rattle.night.proofs.Judged.{
+  Settling,
+  Fields,
+  own-done,
+  done-own,
+  own-ended,
+  ended-own,
+  version-settled,
+  settled-version,
+  bank-settled,
+  settled-bank,
+  packet-settled,
+  settled-packet,
+  silence-spends,
+}
 use Rattle.demands.specs.Night.{
   nightSender,
   Given,
@@ -73,17 +87,17 @@ use Rattle.demands.proofs.NightRuns.{
 -- ---- what settles a request, of the response as it reads
 
 module _ (image : List ℕ) (bank : Bank) (n : ℕ) (repeated : Bool) (r : Response) where
-  abbrev Reads : Name → Type 0
+  abbrev pub Reads : Name → Type 0
   Reads name = Awaited image bank n name r ⊎ (Declined name r × (repeated ≡ true))
 
-  abbrev Settled·Is : Name → Type 0
+  abbrev pub Settled·Is : Name → Type 0
   Settled·Is name = Settling name repeated bank image (packetSector image n (numberOf name)) r
 
   stored : (sector number result write crc : ℕ) → Fields image sector number result write crc → Stored image sector (Written number result write crc)
   stored sector number result write crc f =
       record { write = write; accepted = f .write-is; reads = rw (f .number-is, f .result-is, f .crc-is) }
 
-  judge-reads : (name : Name) → Settled·Is name → Reads name
+  pub judge-reads : (name : Name) → Settled·Is name → Reads name
   judge-reads ModeStart e = own-done command.ModeStart repeated r e
   judge-reads VersionInfo e = inl (version-settled AnyVersion (λ id major minor revision. version id major minor revision) r e)
   judge-reads BankInfo e = inl (bank-settled bank r e)
@@ -94,8 +108,23 @@ module _ (image : List ℕ) (bank : Bank) (n : ℕ) (repeated : Bool) (r : Respo
   judge-reads WriteEnd e = inl (own-ended command.WriteEnd repeated r e)
   judge-reads ModeEnd e = own-done command.ModeEnd repeated r e
 
-  mode-end-judged : Reads ModeEnd → Settled·Is ModeEnd
-  mode-end-judged e = done-own command.ModeEnd repeated r e
+  version-judged : {x : Response} → AnyVersion x → Settling VersionInfo repeated bank image (packetSector image n 0) x
+  version-judged (version id major minor revision) = settled-version id major minor revision
+
+  pub reads-judged : (name : Name) → Reads name → Settled·Is name
+  reads-judged ModeStart e = done-own command.ModeStart repeated r e
+  reads-judged VersionInfo (inl v) = version-judged v
+  reads-judged VersionInfo (inr d) = absurd (d .0)
+  reads-judged BankInfo (inl e) = settled-bank bank r e
+  reads-judged BankInfo (inr d) = absurd (d .0)
+  reads-judged WriteStart e = done-own command.WriteStart repeated r e
+  reads-judged (Packet p) (inl st) =
+      let sector : ℕ = packetSector image n p in
+      subst (Settling (Packet p) repeated bank image sector) (sym (st .reads)) (settled-packet image sector (st .write) (st .accepted))
+  reads-judged (Packet p) (inr d) = absurd (d .0)
+  reads-judged WriteEnd (inl e) = ended-own command.WriteEnd repeated r e
+  reads-judged WriteEnd (inr d) = absurd (d .0)
+  reads-judged ModeEnd e = done-own command.ModeEnd repeated r e
 
 module _ (image : List ℕ) (bank : Bank) (n tries : ℕ) (s : Startable image n tries) where
   abbrev count : ℕ
@@ -207,7 +236,7 @@ module _ (image : List ℕ) (bank : Bank) (n tries : ℕ) (s : Startable image n
       → final (moves image bank n tries (At ModeEnd gone) event) gs ≡ Finished
   mode-end-done gone event last datagram gs r twice e x =
       let t : SettlesAt image bank n tries ModeEnd gone event =
-      subst (SettlesAt image bank n tries ModeEnd gone) (sym e) (mode-end-judged image bank n (leb 2 gone) (responseOf datagram) (by x)) in
+      subst (SettlesAt image bank n tries ModeEnd gone) (sym e) (reads-judged image bank n (leb 2 gone) (responseOf datagram) ModeEnd (by x)) in
       mode-end-goes (λ (y : Stand). final y gs ≡ Finished) gone (SettlesAt image bank n tries ModeEnd gone event)
       (goes-at image bank n tries s ModeEnd gone event r)
       (λ _. stays-finished image bank n tries s gs)

@@ -1,4 +1,4 @@
--- Night senders that are shut out: finished at once, never over, a packet skipped; and one of each class.
+-- Night senders that are shut out: finished at once, never over, a packet skipped, given up too early; and one of each class.
 -- Assumes nothing.
 use mathlib.Core.Path.{_≡_, refl, sym, ap, subst, _∙_}
 use mathlib.Core.Bool.{false, or-true, false≢true}
@@ -23,7 +23,8 @@ use Rattle.sender.proofs.Packets.{packet-small}
 use Rattle.night.specs.declared.name.Name.{Name}
 use Rattle.night.specs.declared.name.Name.the-variants.{ModeStart, Packet}
 use Rattle.night.specs.declared.record.Next.{Next}
-use Rattle.night.specs.declared.record.Next.the-variants.{NotBegun, Send, Finished}
+use Rattle.night.specs.declared.record.Next.the-variants.{NotBegun, Send, Finished, GaveUp}
+use Rattle.night.specs.declared.record.Why.the-variants.{Tries}
 use Rattle.night.specs.Call.{Heard, Silence}
 use Rattle.demands.specs.Night.{
   Told,
@@ -67,7 +68,14 @@ use Rattle.demands.specs.NightShutOut.{
   otherCrc,
   wrongAnswer,
   wrongAnswers,
+  Times,
+  no-time,
+  another,
+  once-more,
+  GivesUpEarly,
+  hopeless,
 }
+use Rattle.demands.specs.NightEnds.{InVain, enough, in-vain, TriedInVain, from-here, from-later, AllTold, MeetsGivingUp}
 use Rattle.demands.proofs.NightOrder.{behind-length}
 use Rattle.demands.proofs.NightTurns.{Hits, now-or-later, nothing-settled, packet-among}
 use Rattle.demands.proofs.Witness.{image, image-size, two-packets, two-good}
@@ -231,4 +239,110 @@ one-skipper =
           all-wrong heedless (b .image) (b .n) 0 (wrongAnswer (b .image) sector) (replicate room 0)
           (wrong-answer (b .image) sector (packet-small (b .image) (b .n) 0 (b .starts .good) sector (b .starts .some) refl))
           (count + 6) (heedless .start (b .image) (b .bank) (b .n) (b .tries) (b .before));
+    }
+
+-- ---- given up too early
+
+module _ (image : List ℕ) (bank : Bank) (n : ℕ) (Rest : List Turn → Type 0) (name : Name) where
+  -- the turns of a request that was at hand so often, and how often it went out
+  record Vain·Head (left : ℕ) (t : Turn) (rest : List Turn) : Type 0 where
+    size : ℕ
+    hand-is : t .hand ≡ Send name size
+    fewer : ℕ
+    left-is : left ≡ suc fewer
+    vain : InVain image bank n Rest name fewer (t .hand) rest
+
+  vain-head : {left : ℕ} {last : Next} {ts : List Turn} (t : Turn) (rest : List Turn) → InVain image bank n Rest name left last ts → ts ≡ t ∷ rest
+      → (left ≡ 0) ⊎ Vain·Head left t rest
+  vain-head t rest (enough _) e = inl refl
+  vain-head t rest (in-vain {k = k} {size = size} {event = event} {rest = us} spent v) e =
+      let same : turn (Send name size) event ≡ t = cc in
+      let rests : us ≡ rest = cc in
+      inr
+      (record {
+        size = size;
+        hand-is = sym (ap (λ (u : Turn). u .hand) same);
+        fewer = k;
+        left-is = refl;
+        vain = subst (InVain image bank n Rest name k (t .hand)) rests (subst (λ (u : Turn). InVain image bank n Rest name k (u .hand) us) same v);
+      })
+
+  vain-none : {left : ℕ} {last : Next} {ts : List Turn} → InVain image bank n Rest name left last ts → ts ≡ [] → left ≡ 0
+  vain-none (enough _) e = refl
+  vain-none (in-vain spent v) e = no-way cc
+
+  record Times·Head {S : Type 0} (times : ℕ) (o : Told S) (os : List (Told S)) : Type 0 where
+    rest : ℕ
+    times-rest : Times name rest os
+    no-more : rest ≤ times
+    counts : (size : ℕ) → o .next ≡ Send name size → times ≡ suc rest
+
+  times-head : {S : Type 0} {times : ℕ} {l : List (Told S)} (o : Told S) (os : List (Told S)) → Times name times l → l ≡ o ∷ os → Times·Head times o os
+  times-head o os no-time e = no-way cc
+  times-head {S} o os (another {k = k} {o = p} {os = ps} other t) e =
+      let same : p ≡ o = cc in
+      let rests : ps ≡ os = cc in
+      record {
+        rest = k;
+        times-rest = subst (Times name k) rests t;
+        no-more = omega arith;
+        counts = λ size q. absurd (other size (ap (λ (x : Told S). x .next) same ∙ q));
+      }
+  times-head o os (once-more {k = k} {o = p} {os = ps} q t) e =
+      let rests : ps ≡ os = cc in
+      record { rest = k; times-rest = subst (Times name k) rests t; no-more = omega arith; counts = λ size _. refl }
+
+  module _ {S : Type 0} (m : NightSender S) where
+    vain-counted : (gs : List Given) (o : Told S) (left times : ℕ) {last : Next} → InVain image bank n Rest name left last (turnsOf m image o gs)
+        → Times name times (o ∷ tolds m image (o .record-then) gs) → left ≤ times
+    vain-counted [] o left times v t = let none-left = vain-none v refl in omega arith
+    vain-counted (g ∷ gs) o left times v t =
+        let next-told : Told S = m .event (o .record-then) (g .event) image (g .buffer) in
+        let ts : List Turn = turnsOf m image next-told gs in
+        let h : Times·Head times o (next-told ∷ tolds m image (next-told .record-then) gs) =
+        times-head o (next-told ∷ tolds m image (next-told .record-then) gs) t refl in
+        by (h .rest) (h .counts) (λ fewer x. vain-counted gs next-told fewer (h .rest) x (h .times-rest))
+        (vain-head (turn (o .next) (g .event)) ts v refl)
+      where
+        by : (rest : ℕ) → ((size : ℕ) → o .next ≡ Send name size → times ≡ suc rest)
+            → ((fewer : ℕ) → InVain image bank n Rest name fewer (o .next) (turnsOf m image (m .event (o .record-then) (g .event) image (g .buffer)) gs) → fewer ≤ rest)
+            → (left ≡ 0) ⊎ Vain·Head left (turn (o .next) (g .event)) (turnsOf m image (m .event (o .record-then) (g .event) image (g .buffer)) gs)
+            → left ≤ times
+        by rest counts ih (inl z) = omega arith
+        by rest counts ih (inr k) =
+            let less : k .fewer ≤ rest = ih (k .fewer) (k .vain) in
+            omega (arith, k .left-is, counts (k .size) (k .hand-is))
+
+    tried-counted : (gs : List Given) (o : Told S) (tries times : ℕ) {last : Next} {ts : List Turn} → TriedInVain image bank n Rest name tries last ts
+        → ts ≡ turnsOf m image o gs → Times name times (o ∷ tolds m image (o .record-then) gs) → tries ≤ times
+    tried-counted gs o tries times {last} (from-here new v) e t = vain-counted gs o tries times (subst (InVain image bank n Rest name tries last) e v) t
+    tried-counted [] o tries times (from-later x) e t = no-way cc
+    tried-counted (g ∷ gs) o tries times (from-later {t = u} {rest = us} x) e t =
+        let next-told : Told S = m .event (o .record-then) (g .event) image (g .buffer) in
+        let rests : us ≡ turnsOf m image next-told gs = cc in
+        let h : Times·Head times o (next-told ∷ tolds m image (next-told .record-then) gs) =
+        times-head o (next-told ∷ tolds m image (next-told .record-then) gs) t refl in
+        omega (arith, tried-counted gs next-told tries (h .rest) x rests (h .times-rest), h .no-more)
+
+pub no-early : {S : Type 0} (m : NightSender S) → GivesUpEarly m → MeetsGivingUp m → ⊥
+no-early m k meets =
+    let b = k .begin in
+    let few = k .fewer in
+    let many : b .tries ≤ k .times =
+    tried-counted (b .image) (b .bank) (b .n) (AllTold (GaveUp (k .name) Tries)) (k .name) m (k .events) (m .start (b .image) (b .bank) (b .n) (b .tries) (b .before)) (b .tries) (k .times)
+    (meets .why-tries (b .image) (b .bank) (b .n) (b .tries) (b .before) (k .events) (k .name) (b .starts) (b .roomy) (k .roomy) (k .gives-up))
+    refl (k .counted) in
+    absurd (omega arith)
+
+pub one-early : GivesUpEarly hopeless
+one-early =
+    record {
+      begin = some-begin;
+      events = [];
+      roomy = none;
+      name = ModeStart;
+      gives-up = refl;
+      times = 0;
+      counted = another (λ size e. let q : GaveUp ModeStart Tries ≡ Send ModeStart size = e in no-way cc) no-time;
+      fewer = omega (arith, some-begin .starts .low);
     }

@@ -11,6 +11,7 @@ pub mod Examples
 pub mod Fresh
 pub mod New
 pub mod Night
+pub mod NightEnds
 pub mod NightLoop
 pub mod NightShutOut
 pub mod Packets

@@ -25,7 +25,7 @@ use Rattle.night.specs.declared.record.Next.{Next}
 use Rattle.night.specs.declared.record.Next.the-variants.{BadN, BadLength, BadTries, NoPacket, NotBegun, Send, Finished, GaveUp}
 use Rattle.night.specs.declared.record.Night.{Night}
 use Rattle.night.specs.declared.record.Stand.the-variants.{At}
-use Rattle.night.specs.Call.{Event, Heard, Silence, heardIn, stepOf, startOf, bufferBy}
+use Rattle.night.specs.Call.{Event, Heard, Silence, heardIn, stepOf, startOf, bufferBy, lentSays, stepSays}
 use Rattle.night.specs.Name.{frameOf}
 use Rattle.night.specs.Record.{nextNumber}
 use Rattle.demands.specs.Written.{AreBytes}
@@ -65,6 +65,22 @@ pub record Keeps {S : Type 0} (r : S) (before : List ℕ) (o : Told S) : Type 0 
 abbrev pub RefusesInVain : {S : Type 0} → NightSender S → Type 0
 RefusesInVain {S} m =
     (r : S) (event : Event) (image before : List ℕ) → (nextNumber (m .event r event image before .next) ≡ 0 → ⊥) → Keeps r before (m .event r event image before)
+
+-- each refusal by its number, the first that applies; and a refused start begins nothing, whatever is lent afterwards
+pub record NotBegunAt (r : Night) (before : List ℕ) (o : Told Night) : Type 0 where
+  pub told : o .next ≡ NotBegun
+  pub keeps : Keeps r before o
+
+pub record MeetsRefusals (m : NightSender Night) : Type 0 where
+  pub start-says : (image : List ℕ) (bank : Bank) (n tries : ℕ) (before : List ℕ)
+      → nextNumber (m .start image bank n tries before .next) ≡ lentSays image n tries (length before) 0
+  pub start-keeps : (image : List ℕ) (bank : Bank) (n tries : ℕ) (before : List ℕ) → (nextNumber (m .start image bank n tries before .next) ≡ 0 → ⊥)
+      → m .start image bank n tries before .buffer ≡ before
+  pub not-begun : (image : List ℕ) (bank : Bank) (n tries : ℕ) (before : List ℕ) → (nextNumber (m .start image bank n tries before .next) ≡ 0 → ⊥)
+      → (event : Event) (other buffer : List ℕ)
+      → NotBegunAt (m .start image bank n tries before .record-then) buffer (m .event (m .start image bank n tries before .record-then) event other buffer)
+  pub event-says : (r : Night) (event : Event) (image before : List ℕ)
+      → nextNumber (m .event r event image before .next) ≡ stepSays image r (length before) (r .stand)
 
 -- a request that has gone out T times or more does not go out again
 abbrev pub NotOnceMore : NightSender Night → Type 0
@@ -130,10 +146,20 @@ pub data LeftOut {S : Type 0} (m : NightSender S) (image : List ℕ) : S → Lis
   refused : {r : S} {c : Call} {cs : List Call} {gs : List Given} → (nextNumber (m .event r (c .event) (c .image) (c .buffer) .next) ≡ 0 → ⊥)
       → LeftOut m image (m .event r (c .event) (c .image) (c .buffer) .record-then) cs gs → LeftOut m image r (c ∷ cs) gs
 
--- "no event used up": the record is as without them, and so is all that is told afterwards
+-- what came of the calls that are kept
+abbrev pub keptTolds : {S : Type 0} {m : NightSender S} {image : List ℕ} {r : S} {cs : List Call} {gs : List Given} → LeftOut m image r cs gs → List (Told S)
+keptTolds no-more = []
+keptTolds {m = m} {image = image} (kept {r = r} {g = g} rest) = m .event r (g .event) image (g .buffer) ∷ keptTolds rest
+keptTolds (refused h rest) = keptTolds rest
+
+-- "no event used up": the record is as without the refused ones, and so is all that is told at the others
+pub record AsWithout {S : Type 0} (m : NightSender S) (image : List ℕ) (r : S) (cs : List Call) (gs : List Given) (l : LeftOut m image r cs gs) : Type 0 where
+  pub record-is : afterCalls m r cs ≡ afterEvents m image r gs
+  pub told-is : keptTolds l ≡ tolds m image r gs
+
 abbrev pub UsesUpNothing : {S : Type 0} → NightSender S → Type 0
 UsesUpNothing {S} m =
-    (image : List ℕ) (r : S) (cs : List Call) (gs : List Given) → LeftOut m image r cs gs → afterCalls m r cs ≡ afterEvents m image r gs
+    (image : List ℕ) (r : S) (cs : List Call) (gs : List Given) (l : LeftOut m image r cs gs) → AsWithout m image r cs gs l
 
 -- what a start accepts
 pub record Startable (image : List ℕ) (n tries : ℕ) : Type 0 where

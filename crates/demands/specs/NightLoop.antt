@@ -4,7 +4,7 @@
 -- late. So no request arrives after a later one was sent, no answer of an earlier night is heard, and nobody else sends.
 -- Assumes nothing.
 use mathlib.Core.Path.{_≡_}
-use mathlib.Core.Bool.{Bool, true, false}
+use mathlib.Core.Bool.{Bool, true, false, cond}
 use mathlib.Core.List.{List, [], _∷_, _++_}
 use Prim.Native.Nat.{ℕ, suc, _-_, _^_, _≤_, _<_}
 use lib.ListN.{length, getD, take}
@@ -211,3 +211,34 @@ MeetsArrival m machine =
     → Waits b bank n → fitOf (b .client .fixed) image ≡ true → b .client .fixed .revision < 2 ^ 32
     → Goes address n tries (namesOf (packetCount image n)) (tries - 1) 0 rs
     → rounds m machine image (begins m machine image bank n tries before b) rs .told .next ≡ Finished
+
+-- ---- neither asks for what cannot be
+
+-- rounds in which each request but the write end goes out twice, and the answer to the first is lost
+abbrev pub losing : Arrival → List ℕ → List Name → ℕ → List Round
+losing a buffer [] given = []
+losing a buffer (name ∷ names) given =
+    cond (mayLose name)
+    (roundOf given buffer (AnswerLost a) ∷ roundOf (suc given) buffer (Through a) ∷ losing a buffer names (suc (suc given)))
+    (roundOf given buffer (Through a) ∷ losing a buffer names (suc given))
+
+-- such a night with T = 2: all that `MeetsArrival` and `MeetsLoop` ask for, and what they say then
+pub record LosingNight {S : Type 0} (m : NightSender S) (machine : Machine) : Type 0 where
+  pub image : List ℕ
+  pub bank : Bank
+  pub n : ℕ
+  pub before : List ℕ
+  pub address : List ℕ
+  pub board : Board
+  pub arrival : Arrival
+  pub rs : List Round
+  pub losing-rounds : rs ≡ losing arrival before (namesOf (packetCount image n)) 0
+  pub startable : Startable image n 2
+  pub roomy : room ≤ length before
+  pub roomy-rounds : RoomyRounds rs
+  pub waits : Waits board bank n
+  pub fit : fitOf (board .client .fixed) image ≡ true
+  pub small : board .client .fixed .revision < 2 ^ 32
+  pub goes : Goes address n 2 (namesOf (packetCount image n)) (2 - 1) 0 rs
+  pub finished : rounds m machine image (begins m machine image bank n 2 before board) rs .told .next ≡ Finished
+  pub updated : Updated board (rounds m machine image (begins m machine image bank n 2 before board) rs .board) image bank n

@@ -1,10 +1,10 @@
--- Night senders that are shut out (02 §4; from the order and the bound, and from finished exactly when every request was settled). Each class
--- asks for one run on something that a start accepts.
+-- Night senders that are shut out (02 §4; from the order and the bound, from finished exactly when every request was settled, and from giving up
+-- for its tries exactly when they were spent). Each class asks for one run on something that a start accepts.
 -- Assumes nothing.
 use mathlib.Core.Path.{_≡_}
 use mathlib.Core.Bool.{false, cond}
 use mathlib.Core.List.{List, [], _∷_}
-use Prim.Native.Nat.{ℕ, _+_, _≤_, _<_}
+use Prim.Native.Nat.{ℕ, suc, _+_, _≤_, _<_}
 use lib.Dec.{eqb}
 use lib.ListN.{length, replicate}
 use Rattle.buffer.specs.Place.{frontOf}
@@ -22,10 +22,11 @@ use Rattle.sender.specs.Packet.{packetCount, packetSector}
 use Rattle.night.specs.declared.name.Name.{Name}
 use Rattle.night.specs.declared.name.Name.the-variants.{ModeStart, Packet}
 use Rattle.night.specs.declared.record.Next.{Next}
-use Rattle.night.specs.declared.record.Next.the-variants.{Send, Finished}
+use Rattle.night.specs.declared.record.Next.the-variants.{Send, Finished, GaveUp}
+use Rattle.night.specs.declared.record.Why.the-variants.{Tries}
 use Rattle.night.specs.Call.{Heard, Silence}
 use Rattle.night.specs.Name.{frameOf}
-use Rattle.demands.specs.Night.{Told, NightSender, Given, Roomy, Startable, first, endsWith, namesOf, isOver, Turn, turn, turnsOf}
+use Rattle.demands.specs.Night.{Told, NightSender, Given, Roomy, Startable, first, later, endsWith, namesOf, isOver, Turn, turn, turnsOf}
 
 -- what a start accepts, with a buffer
 pub record Begin : Type 0 where
@@ -127,3 +128,31 @@ wrongAnswer image sector = writeFrame sector (writtenBytes 0x06 0x06 (otherCrc (
 abbrev pub wrongAnswers : List ℕ → ℕ → List Given
 wrongAnswers image n =
     replicate (packetCount image n + 6) (record { event = Heard (wrongAnswer image (packetSector image n 0)); buffer = replicate room 0 })
+
+-- ---- one that gives up for its tries before the request has gone out T times
+
+-- how often this request went out
+pub data Times {S : Type 0} (name : Name) : ℕ → List (Told S) → Type 0 where
+  no-time : Times name 0 []
+  another : {k : ℕ} {o : Told S} {os : List (Told S)} → ((size : ℕ) → o .next ≡ Send name size → ⊥) → Times name k os → Times name k (o ∷ os)
+  once-more : {k size : ℕ} {o : Told S} {os : List (Told S)} → o .next ≡ Send name size → Times name k os → Times name (suc k) (o ∷ os)
+
+pub record GivesUpEarly {S : Type 0} (m : NightSender S) : Type 0 where
+  pub begin : Begin
+  pub events : List Given
+  pub roomy : Roomy events
+  pub name : Name
+  pub gives-up : endsFrom m begin events ≡ GaveUp name Tries
+  pub times : ℕ
+  pub counted : Times name times
+      (first m (begin .image) (begin .bank) (begin .n) (begin .tries) (begin .before) events
+      ∷ later m (begin .image) (begin .bank) (begin .n) (begin .tries) (begin .before) events)
+  pub fewer : times < begin .tries
+
+-- one of them: mode start is given up at once
+abbrev pub hopeless : NightSender (Unit {0})
+hopeless =
+    record {
+      start = λ image bank n tries before. tells (GaveUp ModeStart Tries) before;
+      event = λ r event image before. tells (GaveUp ModeStart Tries) before;
+    }

@@ -176,7 +176,7 @@ module _ (night : Night) (name : Name) (gone : ℕ) (response : Response) (image
 -- ---- an event
 
 module _ (night : Night) (name : Name) (gone : ℕ) (response : Response) (image : List ℕ) (size : ℕ) where
-  hand-says : nextNumber (atHandOf night name gone response image size .next) ≡ lentSays image (night .n) (night .tries) size (numberOf name)
+  pub hand-says : nextNumber (atHandOf night name gone response image size .next) ≡ lentSays image (night .n) (night .tries) size (numberOf name)
   unfolding atHandOf
   hand-says = by (lookedOf image (night .n) (night .tries) size (numberOf name)) refl
     where
@@ -188,7 +188,7 @@ module _ (night : Night) (name : Name) (gone : ℕ) (response : Response) (image
           ∙ says-good image (night .n) (night .tries) size (numberOf name) sector count e
 
 module _ (night : Night) (p : ℕ) (end : Next) (image : List ℕ) (size : ℕ) where
-  over-says : nextNumber end ≡ 0 → nextNumber (overOf night p end image size .next) ≡ lentSays image (night .n) (night .tries) size p
+  pub over-says : nextNumber end ≡ 0 → nextNumber (overOf night p end image size .next) ≡ lentSays image (night .n) (night .tries) size p
   unfolding overOf
   over-says z = by (lookedOf image (night .n) (night .tries) size p) refl
     where

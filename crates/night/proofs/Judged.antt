@@ -1,14 +1,14 @@
 -- For the crates above: what settles a request, how an event moves the record, and what a call does to a record that may be any.
 -- Assumes nothing.
 use mathlib.Core.Path.{_≡_, refl, sym, ap, subst, _∙_}
-use mathlib.Core.Bool.{Bool, true, false, _&&_, _||_, cond}
+use mathlib.Core.Bool.{Bool, true, false, _&&_, _||_, cond, false≢true}
 use mathlib.Core.List.{List}
 use mathlib.Core.Logic.{_⊎_, inl, inr}
 use Prim.Native.Nat.{ℕ, _+_, _≤_, _<_}
 use native.Mathlib.Omega.{arith}
 use lib.Dec.{eqb, leb, ltb}
 use lib.ListN.{length}
-use borrow.Author.Tests.{eqb-true, eq-eqb, ltb-true, le-ltb}
+use borrow.Author.Tests.{eqb-true, eq-eqb, ltb-true, ltb-false, le-ltb}
 use Rattle.buffer.proofs.Bools.{split, and-left, and-right, and-false, no-way}
 use Rattle.commands.specs.declared.Coded.the-variants.{Is}
 use Rattle.commands.specs.declared.Command.{Command}
@@ -16,12 +16,12 @@ use Rattle.commands.specs.declared.Command.the-variants as command
 use Rattle.commands.specs.Command.{responseCode, answeredBy}
 use Rattle.commands.proofs.Codes.{response-known}
 use Rattle.crc.specs.Crc.{crcOf}
-use Rattle.layout.specs.Layout.{bankNumber, goodN, sectorOf}
+use Rattle.layout.specs.Layout.{bankNumber, goodN, otherOf, sectorOf}
 use Rattle.layout.specs.declared.Bank.{Bank}
 use Rattle.layout.specs.declared.Bank.the-variants.{Zero, One}
 use Rattle.response.specs.declared.read.Response.{Response}
 use Rattle.response.specs.declared.read.Response.the-variants.{Unreadable, Plain, Error, Target, Firmware, Written}
-use Rattle.sender.specs.Packet.{packetCount}
+use Rattle.sender.specs.Packet.{packetCount, packetSector}
 use Rattle.night.specs.declared.judge.Verdict.{Verdict}
 use Rattle.night.specs.declared.judge.Verdict.the-variants.{Settled, Spent, Stops}
 use Rattle.night.specs.declared.name.Name.{Name}
@@ -35,14 +35,31 @@ use Rattle.night.specs.declared.record.Night.{Night}
 use Rattle.night.specs.declared.record.Stand.{Stand}
 use Rattle.night.specs.declared.record.Stand.the-variants.{NotBegun, At, Finished, GaveUp}
 use Rattle.night.specs.declared.record.Why.{Why}
-use Rattle.night.specs.declared.record.Why.the-variants.{Tries, Unknown}
-use Rattle.night.specs.Call.{called, nextOf, endTold, overOf, judged, atHandOf, byStand, stepOf, bufferBy}
+use Rattle.night.specs.declared.record.Why.the-variants.{Tries, WrongBank, Unknown}
+use Rattle.night.specs.Call.{
+  called,
+  nextOf,
+  goneOn,
+  endTold,
+  overOf,
+  judged,
+  atHandOf,
+  byStand,
+  stepOf,
+  nightOf,
+  begun,
+  startOf,
+  bufferBy,
+  lentSays,
+  stepSays,
+}
 use Rattle.night.specs.Judge.{ownResult, ownVerdict, versionVerdict, bankVerdict, fieldsAwaited, packetVerdict, judgeOf}
 use Rattle.night.specs.Lent.{triesGood, lengthsGood, lookedOf}
 use Rattle.night.specs.Name.{numberOf}
-use Rattle.night.specs.Record.{followingOf, againOf, movedOf, nextNumber}
-use Rattle.night.proofs.Calling.{refused-keeps}
-use Rattle.night.proofs.Moving.{goes-again}
+use Rattle.night.specs.Record.{followingOf, againOf, movedOf, standing, nextNumber}
+use Rattle.night.proofs.Calling.{refused-keeps, hand-says, over-says}
+use Rattle.night.proofs.Lending.{lent, says-refused, says-good}
+use Rattle.night.proofs.Moving.{goes-again, given-up}
 
 -- ---- what settles a request
 
@@ -210,6 +227,118 @@ module _ (image : List ℕ) (sector : ℕ) where
   settled-packet write (inl e) = rw (e, eq-eqb sector sector refl, eq-eqb (crcOf (sectorOf image sector)) (crcOf (sectorOf image sector)) refl)
   settled-packet write (inr e) = rw (e, eq-eqb sector sector refl, eq-eqb (crcOf (sectorOf image sector)) (crcOf (sectorOf image sector)) refl)
 
+-- ---- what stops the night
+
+-- a try is spent, or the night stops
+abbrev pub Spending : Name → Bool → Bank → List ℕ → ℕ → Response → Type 0
+Spending name repeated bank image sector response = judgeOf name repeated bank image sector response ≡ Spent
+
+abbrev pub Stopping : Why → Name → Bool → Bank → List ℕ → ℕ → Response → Type 0
+Stopping why name repeated bank image sector response = judgeOf name repeated bank image sector response ≡ Stops why
+
+-- one of the three
+module _ (name : Name) (repeated : Bool) (bank : Bank) (image : List ℕ) (sector : ℕ) (response : Response) where
+  pub spent-unsettled : Spending name repeated bank image sector response → Settling name repeated bank image sector response → ⊥
+  spent-unsettled e f = let q : Spent ≡ Settled = sym e ∙ f in no-way cc
+
+  pub spent-unstopped : (why : Why) → Spending name repeated bank image sector response → Stopping why name repeated bank image sector response → ⊥
+  spent-unstopped why e f = let q : Spent ≡ Stops why = sym e ∙ f in no-way cc
+
+  pub stopped-unsettled : (why : Why) → Stopping why name repeated bank image sector response → Settling name repeated bank image sector response → ⊥
+  stopped-unsettled why e f = let q : Stops why ≡ Settled = sym e ∙ f in no-way cc
+
+  pub stopped-once : (why other : Why) → Stopping why name repeated bank image sector response → Stopping other name repeated bank image sector response
+      → why ≡ other
+  stopped-once why other e f = let q : Stops why ≡ Stops other = sym e ∙ f in cc
+
+  pub spent-else : (Settling name repeated bank image sector response → ⊥) → ((why : Why) → Stopping why name repeated bank image sector response → ⊥)
+      → Spending name repeated bank image sector response
+  spent-else f g = by (judgeOf name repeated bank image sector response) refl
+    where
+      by : (v : Verdict) → judgeOf name repeated bank image sector response ≡ v → judgeOf name repeated bank image sector response ≡ Spent
+      by Settled e = absurd (f e)
+      by Spent e = e
+      by (Stops why) e = absurd (g why e)
+
+module _ (command : Command) (repeated : Bool) (response : Response) (why : Why) where
+  own-stopped : (declined : Verdict) → ownVerdict command repeated declined response ≡ Stops why
+      → (response ≡ Plain command 0x15) × (repeated ≡ true) × (declined ≡ Stops why)
+  unfolding ownVerdict
+  own-stopped declined =
+      let Out : Type 0 = (response ≡ Plain command 0x15) × (repeated ≡ true) × (declined ≡ Stops why) in
+      let result : ℕ = ownResult command response in
+      split (λ (v : Verdict). v ≡ Stops why → Out) (eqb result 0x06)
+      (λ _ e. no-way cc)
+      (λ _. split (λ (v : Verdict). v ≡ Stops why → Out) (repeated && eqb result 0x15)
+      (λ t e. (
+        own-reads command response 0x15 (omega arith) (eqb-true result 0x15 (and-right repeated (eqb result 0x15) t)),
+        and-left repeated (eqb result 0x15) t,
+        e,
+      ))
+      (λ _ e. no-way cc))
+
+  -- mode start, write start and mode end never do
+  pub own-goes : ownVerdict command repeated Settled response ≡ Stops why → ⊥
+  own-goes e = let q : Settled ≡ Stops why = own-stopped Settled e .2 in no-way cc
+
+  -- the write end, by 15 to a repeated one
+  pub end-stopped : ownVerdict command repeated (Stops Unknown) response ≡ Stops why
+      → (response ≡ Plain command 0x15) × (repeated ≡ true) × (Unknown ≡ why)
+  end-stopped e =
+      let o = own-stopped (Stops Unknown) e in
+      let q : Stops Unknown ≡ Stops why = o .2 in
+      let same : Unknown ≡ why = cc in
+      (o .0, o .1, same)
+
+pub stopped-end : (command : Command) (repeated : Bool) (response : Response) → response ≡ Plain command 0x15 → repeated ≡ true
+    → ownVerdict command repeated (Stops Unknown) response ≡ Stops Unknown
+unfolding ownVerdict
+stopped-end command repeated response e t = rw (own-result command response 0x15 e, t)
+
+pub version-goes : (response : Response) (why : Why) → versionVerdict response ≡ Stops why → ⊥
+version-goes Unreadable why e = no-way cc
+version-goes (Plain command result) why e = no-way cc
+version-goes (Error result) why e = no-way cc
+version-goes (Target bank) why e = no-way cc
+version-goes (Firmware id major minor revision) why e = no-way cc
+version-goes (Written sector response write crc) why e = no-way cc
+
+pub packet-goes : (image : List ℕ) (sector : ℕ) (response : Response) (why : Why) → packetVerdict image sector response ≡ Stops why → ⊥
+packet-goes image sector Unreadable why e = no-way cc
+packet-goes image sector (Plain command result) why e = no-way cc
+packet-goes image sector (Error result) why e = no-way cc
+packet-goes image sector (Target bank) why e = no-way cc
+packet-goes image sector (Firmware id major minor revision) why e = no-way cc
+packet-goes image sector (Written number result write crc) why e =
+    split (λ (v : Verdict). v ≡ Stops why → ⊥) (fieldsAwaited sector number result write)
+    (λ _. split (λ (v : Verdict). v ≡ Stops why → ⊥) (eqb crc (crcOf (sectorOf image sector))) (λ _ q. no-way cc) (λ _ q. no-way cc))
+    (λ _ q. no-way cc)
+    e
+
+-- the bank, by one that is not the image's
+other-bank : (target bank : Bank) → eqb (bankNumber target) (bankNumber bank) ≡ false → target ≡ otherOf bank
+other-bank Zero Zero e = absurd (false≢true (sym e))
+other-bank Zero One e = refl
+other-bank One Zero e = refl
+other-bank One One e = absurd (false≢true (sym e))
+
+pub bank-stopped : (bank : Bank) (response : Response) (why : Why) → bankVerdict bank response ≡ Stops why
+    → (response ≡ Target (otherOf bank)) × (WrongBank ≡ why)
+bank-stopped bank Unreadable why e = no-way cc
+bank-stopped bank (Plain command result) why e = no-way cc
+bank-stopped bank (Error result) why e = no-way cc
+bank-stopped bank (Target target) why e =
+    split (λ (v : Verdict). v ≡ Stops why → (Target target ≡ Target (otherOf bank)) × (WrongBank ≡ why)) (eqb (bankNumber target) (bankNumber bank))
+    (λ _ q. no-way cc)
+    (λ f q. let same : WrongBank ≡ why = cc in (ap Target (other-bank target bank f), same))
+    e
+bank-stopped bank (Firmware id major minor revision) why e = no-way cc
+bank-stopped bank (Written sector response write crc) why e = no-way cc
+
+pub stopped-bank : (bank : Bank) → bankVerdict bank (Target (otherOf bank)) ≡ Stops WrongBank
+stopped-bank Zero = refl
+stopped-bank One = refl
+
 -- ---- how an event moves the record
 
 pub data Moved (count tries : ℕ) (name : Name) (gone : ℕ) (settling : Type 0) : Stand → Type 0 where
@@ -233,13 +362,40 @@ module _ (name : Name) (gone : ℕ) (bank : Bank) (image : List ℕ) (sector : �
       by Spent e = split M (ltb gone tries) (λ t. again (λ q. no-way cc) (ltb-true gone tries t)) (λ _. up (λ q. no-way cc))
       by (Stops why) e = up (λ q. no-way cc)
 
+-- the same with what brought it about
+pub data Stepped (count tries : ℕ) (name : Name) (gone : ℕ) (settling spending : Type 0) (stopping : Why → Type 0) : Stand → Type 0 where
+  went-on : settling → Stepped count tries name gone settling spending stopping (followingOf name count)
+  went-again : spending → gone < tries → Stepped count tries name gone settling spending stopping (At name (gone + 1))
+  went-up : spending → tries ≤ gone → Stepped count tries name gone settling spending stopping (GaveUp name Tries)
+  stopped-up : {why : Why} → stopping why → Stepped count tries name gone settling spending stopping (GaveUp name why)
+
+module _ (name : Name) (gone : ℕ) (bank : Bank) (image : List ℕ) (sector : ℕ) (response : Response) where
+  pub stepped-by : (count tries : ℕ)
+      → Stepped count tries name gone (Settling name (leb 2 gone) bank image sector response) (Spending name (leb 2 gone) bank image sector response)
+      (λ (why : Why). Stopping why name (leb 2 gone) bank image sector response)
+      (movedOf name gone tries count (judgeOf name (leb 2 gone) bank image sector response))
+  unfolding againOf
+  stepped-by count tries = by (judgeOf name (leb 2 gone) bank image sector response) refl
+    where
+      M : Stand → Type 0
+      M =
+          Stepped count tries name gone (Settling name (leb 2 gone) bank image sector response) (Spending name (leb 2 gone) bank image sector response)
+          (λ (why : Why). Stopping why name (leb 2 gone) bank image sector response)
+
+      by : (v : Verdict) → judgeOf name (leb 2 gone) bank image sector response ≡ v
+          → Stepped count tries name gone (Settling name (leb 2 gone) bank image sector response) (Spending name (leb 2 gone) bank image sector response)
+          (λ (why : Why). Stopping why name (leb 2 gone) bank image sector response) (movedOf name gone tries count v)
+      by Settled e = went-on e
+      by Spent e = split M (ltb gone tries) (λ t. went-again e (ltb-true gone tries t)) (λ t. went-up e (ltb-false gone tries t))
+      by (Stops why) e = stopped-up e
+
 -- silence spends a try, and the request goes out again while one is left
 module _ (repeated : Bool) where
   own-silence : (command : Command) (declined : Verdict) → ownVerdict command repeated declined Unreadable ≡ Spent
   unfolding ownVerdict
   own-silence command declined = rw (and-false repeated)
 
-  silence-judged : (name : Name) (bank : Bank) (image : List ℕ) (sector : ℕ) → judgeOf name repeated bank image sector Unreadable ≡ Spent
+  pub silence-judged : (name : Name) (bank : Bank) (image : List ℕ) (sector : ℕ) → Spending name repeated bank image sector Unreadable
   silence-judged ModeStart bank image sector = own-silence command.ModeStart Settled
   silence-judged VersionInfo bank image sector = refl
   silence-judged BankInfo bank image sector = refl
@@ -361,3 +517,80 @@ module _ (name : Name) (size : ℕ) where
       by (Refused why) s = subst RefusalOther (sym s) (refusal-other image (night .n) (night .tries) room (numberOf name))
       by (Good sector count) s =
           moved-other image (night .bank) (night .n) gone (night .tries) count (judgeOf name (leb 2 gone) (night .bank) image sector response) h
+
+-- ---- what has gone out T times, and settles nothing, is given up
+
+abbrev RefusalCounts : Looked → Type 0
+RefusalCounts (Refused why) = nextNumber why ≡ 0 → ⊥
+RefusalCounts (Good sector count) = Unit {0}
+
+refusal-counts : (image : List ℕ) (n tries size p : ℕ) → RefusalCounts (lookedOf image n tries size p)
+unfolding lookedOf
+refusal-counts image n tries size p =
+    split RefusalCounts (goodN n)
+    (λ _.
+    split RefusalCounts (lengthsGood image n size)
+    (λ _.
+    split RefusalCounts (triesGood tries) (λ _. split RefusalCounts (ltb p (packetCount image n)) (λ _. tt) (λ _ e. absurd (omega arith)))
+    (λ _ e. absurd (omega arith)))
+    (λ _ e. absurd (omega arith)))
+    (λ _ e. absurd (omega arith))
+
+module _ (night : Night) (response : Response) (image : List ℕ) (size : ℕ) (name : Name) (gone : ℕ) where
+  spent-up : (sector count : ℕ) → night .tries ≤ gone → Spending name (leb 2 gone) (night .bank) image sector response
+      → judged night name gone response image (Good sector count) ≡ called (standing (GaveUp name Tries) night) (next.GaveUp name Tries)
+  spent-up sector count h e =
+      ap (λ (s : Stand). goneOn image (standing s night)) (ap (movedOf name gone (night .tries) count) e ∙ sym (given-up name gone (night .tries) h))
+
+  pub gives-up : night .stand ≡ At name gone → night .tries ≤ gone → nextNumber (stepOf night response image size .next) ≡ 0
+      → Spending name (leb 2 gone) (night .bank) image (packetSector image (night .n) (numberOf name)) response
+      → stepOf night response image size ≡ called (standing (GaveUp name Tries) night) (next.GaveUp name Tries)
+  unfolding atHandOf
+  gives-up e h z t =
+      let here : stepOf night response image size ≡ atHandOf night name gone response image size = ap (byStand night response image size) e in
+      here ∙ by (lookedOf image (night .n) (night .tries) size (numberOf name)) refl (sym (ap (λ (c : Called). nextNumber (c .next)) here) ∙ z)
+    where
+      by : (l : Looked) → l ≡ lookedOf image (night .n) (night .tries) size (numberOf name) → nextNumber (judged night name gone response image l .next) ≡ 0
+          → judged night name gone response image l ≡ called (standing (GaveUp name Tries) night) (next.GaveUp name Tries)
+      by (Refused why) q no-refusal =
+          absurd (subst RefusalCounts (sym q) (refusal-counts image (night .n) (night .tries) size (numberOf name)) no-refusal)
+      by (Good sector count) q no-refusal =
+          let given = lent image (night .n) (night .tries) size (numberOf name) sector count q in
+          spent-up sector count h (subst (λ (x : ℕ). Spending name (leb 2 gone) (night .bank) image x response) (sym (given .sector-is)) t)
+
+-- ---- the refusals, in the paper's numbers
+
+module _ (night : Night) (response : Response) (image before : List ℕ) where
+  pub step-says : nextNumber (stepOf night response image (length before) .next) ≡ stepSays image night (length before) (night .stand)
+  step-says = by (night .stand) refl
+    where
+      by : (stand : Stand) → night .stand ≡ stand
+          → nextNumber (byStand night response image (length before) stand .next) ≡ stepSays image night (length before) stand
+      by NotBegun e = refl
+      by (At name gone) e = hand-says night name gone response image (length before)
+      by Finished e = over-says night 0 next.Finished image (length before) refl
+      by (GaveUp name why) e = over-says night (numberOf name) (next.GaveUp name why) image (length before) refl
+
+  pub unbegun-told : night .stand ≡ NotBegun → stepOf night response image (length before) ≡ called night next.NotBegun
+  unbegun-told e = ap (byStand night response image (length before)) e
+
+module _ (image : List ℕ) (bank : Bank) (n tries : ℕ) (before : List ℕ) where
+  pub start-says : nextNumber (startOf image bank n tries (length before) .next) ≡ lentSays image n tries (length before) 0
+  unfolding startOf
+  start-says = by (lookedOf image n tries (length before) 0) refl
+    where
+      by : (l : Looked) → l ≡ lookedOf image n tries (length before) 0
+          → nextNumber (begun image bank n tries l .next) ≡ lentSays image n tries (length before) 0
+      by (Refused why) e = says-refused image n tries (length before) 0 why e
+      by (Good sector count) e = says-good image n tries (length before) 0 sector count e
+
+  -- a refused start: the buffer is as it was, and the record stands nowhere
+  pub start-kept : (nextNumber (startOf image bank n tries (length before) .next) ≡ 0 → ⊥)
+      → Kept (nightOf bank n tries NotBegun) image before (startOf image bank n tries (length before))
+  unfolding startOf
+  start-kept = by (lookedOf image n tries (length before) 0) refl
+    where
+      by : (l : Looked) → l ≡ lookedOf image n tries (length before) 0 → (nextNumber (begun image bank n tries l .next) ≡ 0 → ⊥)
+          → Kept (nightOf bank n tries NotBegun) image before (begun image bank n tries l)
+      by (Refused why) e h = record { same = refl; buffer = refused-keeps image n tries (length before) 0 bank n before why e }
+      by (Good sector count) e h = absurd (h refl)
