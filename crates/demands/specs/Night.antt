@@ -57,7 +57,7 @@ nightSender =
 
 -- ---- of an arbitrary record
 
--- "a refusal changes nothing"
+-- a refusal changes nothing (01, "nothing changes")
 pub record Keeps {S : Type 0} (r : S) (before : List ℕ) (o : Told S) : Type 0 where
   pub same : o .record-then ≡ r
   pub buffer : o .buffer ≡ before
@@ -152,7 +152,7 @@ keptTolds no-more = []
 keptTolds {m = m} {image = image} (kept {r = r} {g = g} rest) = m .event r (g .event) image (g .buffer) ∷ keptTolds rest
 keptTolds (refused h rest) = keptTolds rest
 
--- "no event used up": the record is as without the refused ones, and so is all that is told at the others
+-- no event is used up: the record is as without the refused ones, and so is all that is told at the others
 pub record AsWithout {S : Type 0} (m : NightSender S) (image : List ℕ) (r : S) (cs : List Call) (gs : List Given) (l : LeftOut m image r cs gs) : Type 0 where
   pub record-is : afterCalls m r cs ≡ afterEvents m image r gs
   pub told-is : keptTolds l ≡ tolds m image r gs

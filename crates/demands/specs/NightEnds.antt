@@ -60,7 +60,7 @@ module _ (image : List ℕ) (bank : Bank) (n : ℕ) where
   abbrev pub Done : Name → Type 0 → Response → Type 0
   Done name repeated r = Awaited image bank n name r ⊎ (Declined name r × repeated)
 
-  -- "anything else spends a try"
+  -- what else comes "spends a try"
   pub record Spends (name : Name) (repeated : Type 0) (event : Event) : Type 0 where
     pub unsettled : Brings event (Done name repeated) → ⊥
     pub unstopped : (why : Why) → Brings event (Stops why name repeated) → ⊥
@@ -138,13 +138,13 @@ module _ {S : Type 0} (m : NightSender S) where
     pub unknown-stops : (image : List ℕ) (bank : Bank) (n tries : ℕ) (before : List ℕ) (gs : List Given) (name : Name) → Startable image n tries
         → room ≤ length before → Roomy gs → StoppedBy image bank n tries before gs Unknown name
         → endsWith m image bank n tries before gs ≡ GaveUp name Unknown
-    -- "an event after the end changes nothing and is told the same end again; the buffer then keeps its bytes"
+    -- "an event after finishing or giving up changes nothing": the same end is told, and the buffer keeps its bytes
     pub over-stays : (image : List ℕ) (bank : Bank) (n tries : ℕ) (before : List ℕ) (gs : List Given) → Startable image n tries
         → room ≤ length before → Roomy gs → isOver (endsWith m image bank n tries before gs) ≡ true → EndStays image bank n tries before gs
 
 -- ---- of an arbitrary record
 
--- "tries at or above T give up": nothing is refused, and the event settles nothing and stops nothing
+-- gone out T times or more: where nothing is refused, and the event settles nothing and stops nothing, it is given up
 pub record GivenUp (r : Night) (name : Name) (before : List ℕ) (o : Told Night) : Type 0 where
   pub told : o .next ≡ GaveUp name Tries
   pub stands : o .record-then ≡ standing (stand.GaveUp name Tries) r
