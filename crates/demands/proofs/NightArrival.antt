@@ -15,7 +15,6 @@ use Rattle.layout.specs.declared.Bank.{Bank}
 use Rattle.sender.specs.Made.{room}
 use Rattle.sender.specs.Packet.{packetCount, packetSector}
 use Rattle.exchange.specs.declared.state.State.{State}
-use Rattle.exchange.specs.declared.state.State.the-variants as state
 use Rattle.calls.specs.Call.{Board}
 use Rattle.night.specs.declared.name.Name.{Name}
 use Rattle.night.specs.declared.name.Name.the-variants.{ModeStart, VersionInfo, BankInfo, WriteStart, Packet, WriteEnd, ModeEnd}
@@ -26,7 +25,7 @@ use Rattle.night.specs.declared.record.Stand.the-variants.{At, Finished}
 use Rattle.night.specs.Call.{Event, Heard, Silence}
 use Rattle.night.specs.Name.{numberOf, frameOf}
 use Rattle.night.specs.Record.{followingOf, movedOf}
-use Rattle.night.proofs.Going.{silence-repeats}
+use Rattle.night.proofs.Judged.{silence-repeats}
 use Rattle.demands.specs.Board.{Input, Datagram, Outcome, said, after, outcomes, stepMachine}
 use Rattle.demands.specs.Demand2.{Lends}
 use Rattle.demands.specs.Night.{Told, nightSender, Startable, packetsFrom}
@@ -62,7 +61,6 @@ use Rattle.demands.specs.NightLoop.{
 }
 use Rattle.demands.proofs.NightLoop.{Inv, InvAt, lastName, event-from, event-keeps, passages-keep, request-then, first-request, first-known}
 use Rattle.demands.proofs.NightRuns.{behind, packets-next, moves, toldAt, stays-right, begins-right, start-is, event-is}
-use Rattle.demands.proofs.NightRuns.{Right as RightStand}
 use Rattle.demands.proofs.NightServed.{Fitting, still-fitting, Phase, stateAfter, Served, serve}
 
 firstOr : Name → List Name → Name
@@ -193,7 +191,7 @@ module _ (image : List ℕ) (bank : Bank) (n tries : ℕ) (st : Startable image 
     silent : event ≡ Silence → gone < tries → moves image bank n tries (At k gone) event ≡ At k (gone + 1)
     silent e g =
         ap (moves image bank n tries (At k gone)) e
-        ∙ silence-repeats k gone tries count (leb 2 gone) bank image (packetSector image n (numberOf k)) g
+        ∙ silence-repeats (leb 2 gone) k gone tries count bank image (packetSector image n (numberOf k)) g
 
   -- ---- one try
 

@@ -104,7 +104,7 @@ module _ (image : List ℕ) (n tries size p : ℕ) (bank : Bank) (m : ℕ) (befo
   refused-keeps why e = subst keepsIn (sym e) keeps
 
 -- what goes on or ends is no refusal
-next-says : (image : List ℕ) (bank : Bank) (n : ℕ) (stand : Stand) → nextNumber (nextOf image bank n stand) ≡ 0
+pub next-says : (image : List ℕ) (bank : Bank) (n : ℕ) (stand : Stand) → nextNumber (nextOf image bank n stand) ≡ 0
 next-says image bank n NotBegun = refl
 next-says image bank n (At name gone) = refl
 next-says image bank n Finished = refl

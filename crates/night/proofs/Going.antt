@@ -1,33 +1,29 @@
 -- A call whose lent lengths are right, and a record of a night that goes on: what comes of it, for the crates above.
 -- Assumes nothing.
-use mathlib.Core.Path.{_≡_, refl, sym, ap, _∙_}
-use mathlib.Core.Bool.{Bool, true}
+use mathlib.Core.Path.{_≡_, ap, _∙_}
+use mathlib.Core.Bool.{true}
 use mathlib.Core.List.{List}
-use Prim.Native.Nat.{ℕ, _+_, _*_, _≤_, _<_}
+use Prim.Native.Nat.{ℕ, _*_, _≤_, _<_}
 use lib.Dec.{leb}
 use lib.ListN.{length}
 use borrow.Author.Tests.{eq-eqb, le-leb, lt-ltb}
-use Rattle.buffer.proofs.Bools.{and-false}
 use Rattle.layout.specs.declared.Bank.{Bank}
 use Rattle.layout.specs.Layout.{sectorSize, goodN}
 use Rattle.response.specs.declared.read.Response.{Response}
-use Rattle.response.specs.declared.read.Response.the-variants.{Unreadable}
 use Rattle.sender.specs.Made.{room}
 use Rattle.sender.specs.Packet.{packetCount, packetSector}
-use Rattle.night.specs.declared.judge.Verdict.the-variants.{Spent}
 use Rattle.night.specs.declared.lent.Looked.the-variants.{Good}
 use Rattle.night.specs.declared.name.Name.{Name}
-use Rattle.night.specs.declared.name.Name.the-variants.{ModeStart, VersionInfo, BankInfo, WriteStart, Packet, WriteEnd, ModeEnd}
+use Rattle.night.specs.declared.name.Name.the-variants.{ModeStart}
 use Rattle.night.specs.declared.record.Next.the-variants as next
 use Rattle.night.specs.declared.record.Night.{Night}
 use Rattle.night.specs.declared.record.Stand.the-variants.{At, Finished, GaveUp}
 use Rattle.night.specs.declared.record.Why.{Why}
 use Rattle.night.specs.Call.{called, goneOn, endTold, overOf, judged, atHandOf, byStand, stepOf, nightOf, begun, startOf}
-use Rattle.night.specs.Judge.{ownVerdict, judgeOf}
+use Rattle.night.specs.Judge.{judgeOf}
 use Rattle.night.specs.Lent.{triesGood, lookedOf}
 use Rattle.night.specs.Name.{numberOf}
 use Rattle.night.specs.Record.{movedOf, standing}
-use Rattle.night.proofs.Moving.{goes-again}
 
 -- nothing of what is lent is refused
 pub record Fits (image : List ℕ) (n tries size : ℕ) : Type 0 where
@@ -77,21 +73,3 @@ module _ (night : Night) (response : Response) (image : List ℕ) (size : ℕ) (
   gave-up-again name why e h =
       ap (byStand night response image size) e
       ∙ ap (endTold night (next.GaveUp name why)) (looked-good image (night .n) (night .tries) size f (numberOf name) h)
-
--- ---- silence
-
-unread-spends : (name : Name) (repeated : Bool) (bank : Bank) (image : List ℕ) (sector : ℕ) → judgeOf name repeated bank image sector Unreadable ≡ Spent
-unfolding ownVerdict
-unread-spends ModeStart repeated bank image sector = rw (and-false repeated)
-unread-spends VersionInfo repeated bank image sector = refl
-unread-spends BankInfo repeated bank image sector = refl
-unread-spends WriteStart repeated bank image sector = rw (and-false repeated)
-unread-spends (Packet p) repeated bank image sector = refl
-unread-spends WriteEnd repeated bank image sector = rw (and-false repeated)
-unread-spends ModeEnd repeated bank image sector = rw (and-false repeated)
-
--- a request goes out once more
-pub silence-repeats : (name : Name) (gone tries count : ℕ) (repeated : Bool) (bank : Bank) (image : List ℕ) (sector : ℕ) → gone < tries
-    → movedOf name gone tries count (judgeOf name repeated bank image sector Unreadable) ≡ At name (gone + 1)
-silence-repeats name gone tries count repeated bank image sector h =
-    ap (movedOf name gone tries count) (unread-spends name repeated bank image sector) ∙ sym (goes-again name gone tries h)

@@ -57,7 +57,7 @@ use Rattle.night.specs.Judge.{ownResult, ownVerdict, versionVerdict, ban
 use Rattle.night.specs.Lent.{triesGood, lengthsGood, lookedOf}
 use Rattle.night.specs.Name.{numberOf}
 use Rattle.night.specs.Record.{followingOf, againOf, movedOf, standing, nextNumber}
-use Rattle.night.proofs.Calling.{refused-keeps, hand-says, over-says}
+use Rattle.night.proofs.Calling.{hand-says, next-says, over-says, refused-keeps}
 use Rattle.night.proofs.Lending.{lent, says-refused, says-good}
 use Rattle.night.proofs.Moving.{goes-again, given-up}
 
@@ -414,13 +414,6 @@ module _ (repeated : Bool) where
 
 -- ---- a record that may be any
 
--- what goes on or ends is no refusal
-goes-on-says : (image : List ℕ) (bank : Bank) (n : ℕ) (stand : Stand) → nextNumber (nextOf image bank n stand) ≡ 0
-goes-on-says image bank n NotBegun = refl
-goes-on-says image bank n (At name gone) = refl
-goes-on-says image bank n Finished = refl
-goes-on-says image bank n (GaveUp name why) = refl
-
 -- what was refused left the record and the buffer
 pub record Kept (night : Night) (image before : List ℕ) (c : Called) : Type 0 where
   pub same : c .night ≡ night
@@ -451,7 +444,7 @@ module _ (night : Night) (response : Response) (image before : List ℕ) where
       by (Good sector count) e h =
           absurd
           (h
-          (goes-on-says image (night .bank) (night .n)
+          (next-says image (night .bank) (night .n)
           (movedOf name gone (night .tries) count (judgeOf name (leb 2 gone) (night .bank) image sector response))))
 
   pub step-kept : Refusing (stepOf night response image (length before))

@@ -1,8 +1,7 @@
 -- `overnight::exchange::follow_all` is safe and ends: the lines are counted up to a bound.
 -- Assumes nothing.
 use Prim.Native.Nat.{_-_}
-use mathlib.Core.Path.{_≡_, _∙_}
-use native.Mathlib.Omega.{arith}
+use mathlib.Core.Path.{_≡_}
 use lib.ListN.{length}
 use borrow.Author.Needs.{needs}
 use Rattle.overnight.proofs.exchange.follow_all.Statement.{statement}
