@@ -61,6 +61,7 @@ use Rattle.demands.specs.NightLoop.{
 }
 use Rattle.demands.proofs.NightLoop.{Inv, InvAt, lastName, event-from, event-keeps, passages-keep, request-then, first-request, first-known}
 use Rattle.demands.proofs.NightRuns.{behind, packets-next, moves, toldAt, stays-right, begins-right, start-is, event-is}
+use Rattle.demands.proofs.NightRuns.{Right as RightStand}
 use Rattle.demands.proofs.NightServed.{Fitting, still-fitting, Phase, stateAfter, Served, serve}
 
 firstOr : Name → List Name → Name
