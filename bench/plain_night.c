@@ -1,5 +1,5 @@
 // A night for bank 0 in ordinary C: the contestant of the proved sender, with the same checks in the same order, on a record by value. A packet is
-// found by its number, twice a call as there; or in an index, as C would have it.
+// found by its number, at each call, and once more where a packet is made; or in an index, as C would have it.
 #include <string.h>
 #include "plain.h"
 

@@ -88,10 +88,10 @@ byStand night response image size (stand.GaveUp name why) = overOf night (number
 abbrev pub stepOf : Night → Response → List ℕ → ℕ → Called
 stepOf night response image size = byStand night response image size (night .stand)
 
--- "The first request comes without an event"
 abbrev pub nightOf : Bank → ℕ → ℕ → Stand → Night
 nightOf bank n tries stand = record { bank = bank; n = n; tries = tries; stand = stand }
 
+-- the first request comes "without an event"
 abbrev pub begun : List ℕ → Bank → ℕ → ℕ → Looked → Called
 begun image bank n tries (Refused why) = called (nightOf bank n tries stand.NotBegun) why
 begun image bank n tries (Good sector count) = goneOn image (nightOf bank n tries (stand.At ModeStart 1))

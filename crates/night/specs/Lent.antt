@@ -23,7 +23,7 @@ lengthsGood image n size = imageGood image n && leb room size
 unfoldable pub roomGiven : ℕ → ℕ → Looked → Looked
 roomGiven size tries found = cond (leb room size) (cond (triesGood tries) found (Refused BadTries)) (Refused BadLength)
 
--- the image has a packet of this number
+-- 3, 2, 7, 8, and else the sector of packet p, and how many packets there are
 unfoldable pub lookedOf : List ℕ → ℕ → ℕ → ℕ → ℕ → Looked
 lookedOf image n tries size p =
     cond (goodN n)

@@ -85,7 +85,6 @@ fn at_hand(
     }
 }
 
-// Silence is a response that cannot be read: it spends a try whatever is at hand.
 fn step(night: Night, response: Response, image: &[u8], buffer: &mut [u8]) -> Called
     ensures { λ r. ⌜ Step·Is night response (now (image .entry)) (now (buffer .entry)) r (now (buffer .exit)) ⌝ }
 {
@@ -147,6 +146,7 @@ pub fn heard(night: Night, datagram: &[u8], image: &[u8], buffer: &mut [u8]) -> 
     )
 }
 
+// Silence is as a response that cannot be read: either spends a try, whatever is at hand.
 pub fn silent(night: Night, image: &[u8], buffer: &mut [u8]) -> Called
     ensures { λ r. ⌜ Silent·Is night (now (image .entry)) (now (buffer .entry)) r (now (buffer .exit)) ⌝ }
 {

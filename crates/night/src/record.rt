@@ -41,7 +41,7 @@ pub enum Next {
     BadLength,
     // Not 1 to 9 tries.
     BadTries,
-    // The image has no packet to send, or none of the number at hand.
+    // The image has no packet to send, or none of the number that the record stands at.
     NoPacket,
     NotBegun,
     // This request goes out, so many bytes at the buffer's front.

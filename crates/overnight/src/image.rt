@@ -1,7 +1,7 @@
 // The hex file, read into the image that is sent.
 ghost use Prim.Native.Nat.{_≤_};
-use crate::exchange;
 use crate::refusals;
+use crate::talk;
 use hex::read::Answer;
 use layout::Bank;
 use layout::SECTOR;
@@ -16,7 +16,7 @@ fn read_into(hex_text: &[u8], bank: Bank, n: usize, tries: usize, image: &mut [u
     let answer = hex::read::read(hex_text, bank, n, image);
     match answer {
         Answer::Refused(refusal) => refusals::line(refusal),
-        Answer::Accepted => exchange::run(image, bank, n, tries),
+        Answer::Accepted => talk::run(image, bank, n, tries),
         _ => refusals::number(hex::read::answer_number(answer)),
     }
 }

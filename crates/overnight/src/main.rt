@@ -1,10 +1,10 @@
 // A night on the bench: requests go out on standard output, and what is heard comes in on standard input, line by line. docs/NIGHT.md leads
 // through it.
-mod exchange;
 mod image;
 mod name;
 mod next;
 mod refusals;
+mod talk;
 
 use layout::Bank;
 use script::call;

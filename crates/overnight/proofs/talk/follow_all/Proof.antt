@@ -1,11 +1,11 @@
--- `overnight::exchange::follow_all` is safe and ends: the lines are counted up to a bound.
+-- `overnight::talk::follow_all` is safe and ends: the lines are counted up to a bound.
 -- Assumes nothing.
 use Prim.Native.Nat.{_-_}
 use mathlib.Core.Path.{_≡_}
 use lib.ListN.{length}
 use borrow.Author.Needs.{needs}
-use Rattle.overnight.proofs.exchange.follow_all.Statement.{statement}
-use Rattle.overnight.proofs.exchange.follow_all.Tie as tie
+use Rattle.overnight.proofs.talk.follow_all.Statement.{statement}
+use Rattle.overnight.proofs.talk.follow_all.Tie as tie
 
 abbrev Inv-loop : tie.InvT-loop
 Inv-loop image buffer₀ chunk₀ text₀ going₀ turn₀ number₀ buffer chunk text going turn number =
