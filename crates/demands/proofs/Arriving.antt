@@ -65,7 +65,8 @@ module _ (b : Board) (call : LentCall) where
       refuses : (k : ℕ) → firstOf (callRows b call) ≡ some (refused b (call .buffer) k) → P (stepMachine b (Datagram call))
       refuses k e = subst P (sym (comes b (Datagram call) (refused b (call .buffer) k) e)) (r k)
 
-      by : (g u l c : Bool) → goodN (b .client .fixed .n) ≡ g → runs ≡ u → lengths ≡ l → isClosed (b .client .state) ≡ c → P (stepMachine b (Datagram call))
+      by : (g u l c : Bool) → goodN (b .client .fixed .n) ≡ g → runs ≡ u → lengths ≡ l → isClosed (b .client .state) ≡ c
+          → P (stepMachine b (Datagram call))
       by false u l c eg eu el ec = refuses 3 (rw eg)
       by true false l c eg eu el ec = refuses 2 (rw (eg, eu))
       by true true false c eg eu el ec = refuses 2 (rw (eg, eu, el))

@@ -238,7 +238,8 @@ module _ (image : List ℕ) (bank : Bank) (n tries : ℕ) (st : Startable image 
 
     -- ---- all of them
 
-    arrive : {names : List Name} {left given : ℕ} {rs : List Round} → Goes address n tries names left given rs → (k : Name) (gone : ℕ) → names ≡ k ∷ behind count k
+    arrive : {names : List Name} {left given : ℕ} {rs : List Round} → Goes address n tries names left given rs → (k : Name) (gone : ℕ)
+        → names ≡ k ∷ behind count k
         → gone + left ≡ tries → (l : Loop Night) → Way k gone given l → rounds nightSender stepMachine image l rs .told .next ≡ next.Finished
     unfolding firstOr restOf
     arrive home k gone e q l w = no-way cc

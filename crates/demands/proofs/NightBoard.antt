@@ -176,7 +176,8 @@ module _ (image : List ℕ) (bank : Bank) (n : ℕ) where
 
 -- ---- answers that tell nothing
 
-plain-idle : (c : Command) (r : ℕ) → mayCarry false r ≡ true → addedOf c r ≡ 0 → idle (Plain c r) ≡ true → idle (responseOf (controlFrame (responseCode c) (r ∷ []))) ≡ true
+plain-idle : (c : Command) (r : ℕ) → mayCarry false r ≡ true → addedOf c r ≡ 0 → idle (Plain c r) ≡ true
+    → idle (responseOf (controlFrame (responseCode c) (r ∷ []))) ≡ true
 plain-idle c r m z i = ap idle (sym (plain-back c r m z)) ∙ i
 
 error-idle : idle (responseOf parameterError) ≡ true
@@ -191,7 +192,8 @@ worn-idle : (s : ℕ) → s < 65536 → idle (responseOf (writeFrame s (writtenB
 unfolding mayCarry repeatsOf crcFits
 worn-idle s h = ap idle (sym (written-back s 0x06 0x1C 0 h (omega arith) refl refl refl refl))
 
-pub stored-back : (s w crc : ℕ) → s < 65536 → crc < 2 ^ 32 → Accepted w → responseOf (writeFrame s (writtenBytes 0x06 w crc) End) ≡ Written s 0x06 w crc
+pub stored-back : (s w crc : ℕ) → s < 65536 → crc < 2 ^ 32 → Accepted w
+    → responseOf (writeFrame s (writtenBytes 0x06 w crc) End) ≡ Written s 0x06 w crc
 unfolding mayCarry repeatsOf crcFits storedOf
 stored-back s w crc h c (inl e) = rw e (sym (written-back s 0x06 0x06 crc h c refl refl refl (or-true (eqb crc 0))))
 stored-back s w crc h c (inr e) = rw e (sym (written-back s 0x06 0x1D crc h c refl refl refl (or-true (eqb crc 0))))
@@ -212,7 +214,8 @@ ends-so = refl
 
 -- ---- states
 
-in-control : (s : State) (code : ℕ) → acceptedIn state.Idle code ≡ false → acceptedIn state.Write code ≡ false → acceptedIn s code ≡ true → s ≡ state.Control
+in-control : (s : State) (code : ℕ) → acceptedIn state.Idle code ≡ false → acceptedIn state.Write code ≡ false → acceptedIn s code ≡ true
+    → s ≡ state.Control
 in-control state.Closed code i w e = absurd (false≢true e)
 in-control state.Idle code i w e = absurd (false≢true (sym i ∙ e))
 in-control state.Control code i w e = refl
@@ -310,7 +313,8 @@ module _ (image : List ℕ) (bank : Bank) (n : ℕ) where
     abbrev Arrived : Name → Type 0
     Arrived k = Moves image bank n k b g (stepMachine b (Datagram call)) (shown k b g call (stepMachine b (Datagram call)))
 
-    by-rows : (k : Name) (r : Read) → readOf (call .datagram) ≡ r → isFault r ≡ false → (Heard b call → First (Fine k b g call) (afterFrame b call r)) → Arrived k
+    by-rows : (k : Name) (r : Read) → readOf (call .datagram) ≡ r → isFault r ≡ false
+        → (Heard b call → First (Fine k b g call) (afterFrame b call r)) → Arrived k
     by-rows k r e f rows =
         came b call (Fine k b g call) (refused-fine k b g call) (ap isFault e ∙ f)
         (λ h. subst (λ (x : Read). First (Fine k b g call) (afterFrame b call x)) (sym e) (rows h)) refl
@@ -704,7 +708,8 @@ module _ (image : List ℕ) (bank : Bank) (n : ℕ) where
     refused-host : (number : ℕ) → Moves image bank n k b g (refused b [] number) g
     refused-host number = stays k b g (refused b [] number) g refl refl empty-idle
 
-    done-host : (c : Client) → (c .state ≡ state.Write → ⊥) → (Done image bank n b → Done image bank n (board c (b .pair))) → Moves image bank n k b g (hostDone b c) g
+    done-host : (c : Client) → (c .state ≡ state.Write → ⊥) → (Done image bank n b → Done image bank n (board c (b .pair)))
+        → Moves image bank n k b g (hostDone b c) g
     done-host c r d = rests k b g (hostDone b c) g r (λ _. d) (idle-says k b g (board c (b .pair)) g (responseOf []) empty-idle)
 
     pub initiate-moves : Moves image bank n k b g (stepMachine b Initiate) g

@@ -261,7 +261,8 @@ module _ (image : List ℕ) (bank : Bank) (n tries : ℕ) (s : Startable image n
   from-stepped name gone event r (went-up e h) = tired e h
   from-stepped name gone event r (stopped-up e) = stops e
 
-  step-at : (name : Name) (gone : ℕ) (event : Event) → Right count tries (At name gone) → Step name gone event (moves image bank n tries (At name gone) event)
+  step-at : (name : Name) (gone : ℕ) (event : Event) → Right count tries (At name gone)
+      → Step name gone event (moves image bank n tries (At name gone) event)
   step-at name gone event r =
       from-stepped name gone event r
       (stepped-by name gone bank image (packetSector image n (numberOf name)) (heardIn event) count tries)
@@ -333,7 +334,8 @@ module _ (image : List ℕ) (bank : Bank) (n tries : ℕ) (s : Startable image n
       subst (λ (y : Name). Tried y last ts) (sym (x .0)) (from-here (first-only name a) (x .1 tries (omega arith)))
   new-hand k name last a (inr x) = x
 
-  same-hand : (k name : Name) (gone : ℕ) (event : Event) (last : Next) {rest : List Turn} → Spends image bank n name (Repeated name last) event → gone < tries
+  same-hand : (k name : Name) (gone : ℕ) (event : Event) (last : Next) {rest : List Turn} → Spends image bank n name (Repeated name last) event
+      → gone < tries
       → VainOrLater k name (gone + 1) (hand name) rest → VainOrLater k name gone last (turn (hand name) event ∷ rest)
   same-hand k name gone event last {rest} spent h (inl x) = inl (x .0, count-down)
     where
@@ -342,7 +344,8 @@ module _ (image : List ℕ) (bank : Bank) (n tries : ℕ) (s : Startable image n
       count-down (suc left) e = in-vain spent (x .1 left (omega arith))
   same-hand k name gone event last spent h (inr x) = inr (from-later x)
 
-  last-hand : (k name : Name) (gone : ℕ) (event : Event) (last : Next) {rest : List Turn} → Spends image bank n name (Repeated name last) event → tries ≤ gone
+  last-hand : (k name : Name) (gone : ℕ) (event : Event) (last : Next) {rest : List Turn} → Spends image bank n name (Repeated name last) event
+      → tries ≤ gone
       → gone ≤ tries → k ≡ name → AllTold (next.GaveUp name Tries) rest → VainOrLater k name gone last (turn (hand name) event ∷ rest)
   last-hand k name gone event last {rest} spent h l e told = inl (e, one-left)
     where
@@ -361,7 +364,8 @@ module _ (image : List ℕ) (bank : Bank) (n tries : ℕ) (s : Startable image n
   gave-up-told-on name why [] = told-none
   gave-up-told-on name why (g ∷ gs) = told-more (gave-up-told-on name why gs)
 
-  vain-on : (gs : List Given) → VainFrom gs → (k name : Name) (gone : ℕ) (event : Event) (last : Next) (stand : Stand) → Right count tries (At name gone)
+  vain-on : (gs : List Given) → VainFrom gs → (k name : Name) (gone : ℕ) (event : Event) (last : Next) (stand : Stand)
+      → Right count tries (At name gone)
       → Agrees name gone last → Up k Tries stand gs → Step name gone event stand
       → VainOrLater k name gone last (turn (hand name) event ∷ turns stand gs)
   vain-on gs ih k name gone event last _ r a e (onto-other {k = j} t other q) =
@@ -402,7 +406,8 @@ module _ (image : List ℕ) (bank : Bank) (n tries : ℕ) (s : Startable image n
     spent : Spends image bank n name (Repeated name last) (t .event)
     less : (k : ℕ) → left ≡ suc k → VainAny name k (t .hand) rest
 
-  vain-head : (name : Name) {left : ℕ} {last : Next} {ts : List Turn} (t : Turn) (rest : List Turn) → 1 ≤ left → VainAny name left last ts → ts ≡ t ∷ rest
+  vain-head : (name : Name) {left : ℕ} {last : Next} {ts : List Turn} (t : Turn) (rest : List Turn) → 1 ≤ left → VainAny name left last ts
+      → ts ≡ t ∷ rest
       → Head name left last t rest
   vain-head name t rest h (enough _) e = absurd (omega arith)
   vain-head name t rest h (in-vain {k = j} {last = last} {size = size} {event = event} {rest = more} spent v) e =
@@ -487,7 +492,8 @@ module _ (image : List ℕ) (bank : Bank) (n tries : ℕ) (s : Startable image n
   tried-later k (from-here new v) = inl (new, v)
   tried-later k (from-later {t = t} {rest = rest} x) = inr (t, rest, refl, x)
 
-  tried-from : (gs : List Given) (stand : Stand) (k : Name) (last : Next) → Right count tries stand → AgreesAt stand last → TriedAny k last (turns stand gs)
+  tried-from : (gs : List Given) (stand : Stand) (k : Name) (last : Next) → Right count tries stand → AgreesAt stand last
+      → TriedAny k last (turns stand gs)
       → Up k Tries stand gs
   tried-from [] stand k last r a x = by (tried-later k x)
     where
@@ -523,7 +529,8 @@ module _ (image : List ℕ) (bank : Bank) (n tries : ℕ) (s : Startable image n
       (why : Why) (k name : Name) (gone : ℕ) (last : Next) → (why ≡ Tries → ⊥) → Right count tries (At name gone) → Agrees name gone last
       → Up k why (At name gone) gs → Halted why k last (turns (At name gone) gs)
 
-  halted-on : (gs : List Given) → HaltedFrom gs → (why : Why) (k name : Name) (gone : ℕ) (event : Event) (last : Next) (stand : Stand) → (why ≡ Tries → ⊥)
+  halted-on : (gs : List Given) → HaltedFrom gs → (why : Why) (k name : Name) (gone : ℕ) (event : Event) (last : Next) (stand : Stand)
+      → (why ≡ Tries → ⊥)
       → Right count tries (At name gone) → Agrees name gone last → Up k why stand gs → Step name gone event stand
       → Halted why k last (turn (hand name) event ∷ turns stand gs)
   halted-on gs ih why k name gone event last _ no-tries r a e (onto-other {k = j} t other q) =
@@ -674,7 +681,8 @@ module _ (image : List ℕ) (bank : Bank) (n tries : ℕ) (s : Startable image n
         subst (Halted why name next.NotBegun) (sym (run-turns image bank n tries s before gs h hs))
         (halted-from gs why name ModeStart 1 next.NotBegun no-tries (begins-right image bank n tries s) agrees-first (up-of name why e))
 
-    pub halts-run : (why : Why) (name : Name) → Halted why name next.NotBegun Run → endsWith nightSender image bank n tries before gs ≡ next.GaveUp name why
+    pub halts-run : (why : Why) (name : Name) → Halted why name next.NotBegun Run
+        → endsWith nightSender image bank n tries before gs ≡ next.GaveUp name why
     halts-run why name x =
         of-up name why
         (halted-ends gs (At ModeStart 1) why name next.NotBegun (begins-right image bank n tries s) agrees-first

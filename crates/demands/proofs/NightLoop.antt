@@ -264,7 +264,8 @@ module _ (image : List ℕ) (bank : Bank) (n tries : ℕ) (st : Startable image 
         (early, λ write l u. let before = m .kept early (c early) write in before .1 s l u (t e a .1 (before .0) l u))
 
     -- the new answer tells as much
-    tells-new : (k ≡ WriteEnd → b .client .state ≡ state.Write → AllIn image bank n g) → (r : Response) → Says image bank n k b g (o .board) h r → Tells k (o .board) h r
+    tells-new : (k ≡ WriteEnd → b .client .state ≡ state.Write → AllIn image bank n g) → (r : Response) → Says image bank n k b g (o .board) h r
+        → Tells k (o .board) h r
     tells-new all Unreadable t = tt
     tells-new all (Plain command.ModeStart r) t = tt
     tells-new all (Plain command.BankInfo r) t = tt
@@ -279,7 +280,8 @@ module _ (image : List ℕ) (bank : Bank) (n tries : ℕ) (st : Startable image 
     tells-new all (Firmware id major minor revision) t = t
     tells-new all (Written s r w crc) t = λ e a. (t e a .0, λ write l u. t e a .1 (c (t e a .0)) write)
 
-  all-in : (k : Name) (b : Board) (answers : List (List ℕ)) (v : Inv k b answers) → k ≡ WriteEnd → b .client .state ≡ state.Write → AllIn image bank n (v .ghost)
+  all-in : (k : Name) (b : Board) (answers : List (List ℕ)) (v : Inv k b answers) → k ≡ WriteEnd → b .client .state ≡ state.Write
+      → AllIn image bank n (v .ghost)
   all-in k b answers v e w = all-heard k b answers v w (subst (λ (x : Name). Past x answers) e (v .past) .1)
 
   pub input-keeps : (k : Name) (b : Board) (answers : List (List ℕ)) (v : Inv k b answers) (i : Input) (h : List ℕ)
@@ -310,14 +312,16 @@ module _ (image : List ℕ) (bank : Bank) (n tries : ℕ) (st : Startable image 
     request-moves WriteEnd l call e = write-end-moves image bank n size b g call e
     request-moves ModeEnd l call e = mode-end-moves image bank n b g call e
 
-  pub passage-keeps : (k : Name) → numberOf k < count → (request : List ℕ) → request ≡ frameOf image bank n k → (b : Board) (answers : List (List ℕ)) (p : Passage)
+  pub passage-keeps : (k : Name) → numberOf k < count → (request : List ℕ) → request ≡ frameOf image bank n k
+      → (b : Board) (answers : List (List ℕ)) (p : Passage)
       → Inv k b answers → Inv k (stepMachine b (inputOf request p) .board) (answers ++ (said (stepMachine b (inputOf request p)) ∷ []))
   passage-keeps k l request e b answers HostInitiates v = input-keeps k b answers v Initiate (v .ghost) (initiate-moves image bank n k b (v .ghost))
   passage-keeps k l request e b answers HostTerminates v = input-keeps k b answers v Terminate (v .ghost) (terminate-moves image bank n k b (v .ghost))
   passage-keeps k l request e b answers (Arrives a) v =
       input-keeps k b answers v (Datagram (callOf request a)) _ (request-moves b (v .ghost) (v .revision) k l (callOf request a) e)
 
-  pub passages-keep : (k : Name) → numberOf k < count → (request : List ℕ) → request ≡ frameOf image bank n k → (ps : List Passage) (b : Board) (answers : List (List ℕ))
+  pub passages-keep : (k : Name) → numberOf k < count → (request : List ℕ) → request ≡ frameOf image bank n k
+      → (ps : List Passage) (b : Board) (answers : List (List ℕ))
       → Inv k b answers
       → Inv k (after stepMachine b (inputsOf request ps)) (answers ++ saidIn (outcomes stepMachine b (inputsOf request ps)))
   passages-keep k l request e [] b answers v = subst (Inv k b) (sym (append-nil answers)) v
@@ -330,7 +334,8 @@ module _ (image : List ℕ) (bank : Bank) (n tries : ℕ) (st : Startable image 
   -- ---- an event
 
   -- a later request: what was told is told of it too
-  advance : (k l : Name) → (isEarly k ≡ false → isEarly l ≡ false) → (isEnding k ≡ true → isEnding l ≡ true) → (b : Board) (answers : List (List ℕ)) → Past l answers
+  advance : (k l : Name) → (isEarly k ≡ false → isEarly l ≡ false) → (isEnding k ≡ true → isEnding l ≡ true)
+      → (b : Board) (answers : List (List ℕ)) → Past l answers
       → Inv k b answers → Inv l b answers
   advance k l early ending b answers past v =
       record { ghost = v .ghost; known = λ a among. by (responseOf a) (v .known a among); past = past; revision = v .revision }
@@ -359,7 +364,8 @@ module _ (image : List ℕ) (bank : Bank) (n tries : ℕ) (st : Startable image 
   InvAt stand b answers = Inv (lastName stand) b answers
 
   -- one packet more was heard
-  packet-more : (p : ℕ) (answers : List (List ℕ)) → PacketsHeard p answers → HeardIn answers (Stored image (packetSector image n p)) → PacketsHeard (p + 1) answers
+  packet-more : (p : ℕ) (answers : List (List ℕ)) → PacketsHeard p answers → HeardIn answers (Stored image (packetSector image n p))
+      → PacketsHeard (p + 1) answers
   packet-more p answers before h q l = by (decLt q p)
     where
       by : Dec (q < p) → HeardIn answers (Stored image (packetSector image n q))
@@ -374,7 +380,8 @@ module _ (image : List ℕ) (bank : Bank) (n tries : ℕ) (st : Startable image 
       by : (r : Response) → r ≡ Unreadable → AnyVersion r → ⊥
       by r e (version id major minor revision) = no-way cc
 
-  follow : (k : Name) (gone : ℕ) (event : Event) (b : Board) (answers : List (List ℕ)) → numberOf k < count → SettlesAt image bank n tries k gone event
+  follow : (k : Name) (gone : ℕ) (event : Event) (b : Board) (answers : List (List ℕ)) → numberOf k < count
+      → SettlesAt image bank n tries k gone event
       → From answers (heardIn event) → Inv k b answers → InvAt (followingOf k count) b answers
   follow ModeStart gone event b answers l t f v = advance ModeStart VersionInfo (λ e. absurd (false≢true (sym e))) (λ e. absurd (false≢true e)) b answers tt v
   follow VersionInfo gone event b answers l t f v =
@@ -392,7 +399,8 @@ module _ (image : List ℕ) (bank : Bank) (n tries : ℕ) (st : Startable image 
       advance (Packet p) WriteEnd (λ _. refl) (λ e. absurd (false≢true e)) b answers
       (v .past .0, subst (λ (x : ℕ). PacketsHeard x answers) is more) v)
     where
-      is-stored : (number result write crc : ℕ) → Fields image (packetSector image n p) number result write crc → Stored image (packetSector image n p) (Written number result write crc)
+      is-stored : (number result write crc : ℕ) → Fields image (packetSector image n p) number result write crc
+          → Stored image (packetSector image n p) (Written number result write crc)
       is-stored number result write crc a =
           record {
             write = write;
@@ -455,13 +463,15 @@ module _ (image : List ℕ) (bank : Bank) (n tries : ℕ) (st : Startable image 
   following-end WriteEnd = tt
   following-end ModeEnd = refl
 
-  at-end : (name : Name) (gone : ℕ) (event : Event) {stand : Stand} → Moved count tries name gone (SettlesAt image bank n tries name gone event) stand → AtEnd name stand
+  at-end : (name : Name) (gone : ℕ) (event : Event) {stand : Stand}
+      → Moved count tries name gone (SettlesAt image bank n tries name gone event) stand → AtEnd name stand
   at-end name gone event (onward t) = following-end name
   at-end name gone event (again n h) = tt
   at-end name gone event (up n) = refl
 
   -- what is at hand then
-  pub request-then : (stand : Stand) (event : Event) (buffer former : List ℕ) → Right count tries stand → room ≤ length buffer → former ≡ frameOf image bank n (lastName stand)
+  pub request-then : (stand : Stand) (event : Event) (buffer former : List ℕ) → Right count tries stand → room ≤ length buffer
+      → former ≡ frameOf image bank n (lastName stand)
       → requestAfter (toldAt image bank n tries buffer (moves image bank n tries stand event) .next) (toldAt image bank n tries buffer (moves image bank n tries stand event) .buffer) former
       ≡ frameOf image bank n (lastName (moves image bank n tries stand event))
   request-then NotBegun event buffer former r h e = absurd r
@@ -537,7 +547,8 @@ module _ (image : List ℕ) (bank : Bank) (n tries : ℕ) (st : Startable image 
         }
 
   -- it is in where that is told
-  in-done : (stand : Stand) → Right count tries stand → isIn (nextOf image bank n stand) ≡ true → (b : Board) (answers : List (List ℕ)) → InvAt stand b answers
+  in-done : (stand : Stand) → Right count tries stand → isIn (nextOf image bank n stand) ≡ true → (b : Board) (answers : List (List ℕ))
+      → InvAt stand b answers
       → Done image bank n b
   in-done NotBegun r e b answers v = absurd r
   in-done (At name gone) r e b answers v = absurd (false≢true e)
@@ -551,7 +562,8 @@ module _ (image : List ℕ) (bank : Bank) (n tries : ℕ) (st : Startable image 
   in-done (GaveUp ModeEnd why) r e b answers v = done-heard ModeEnd b answers v (v .past)
 
 -- what no input changes is unchanged after all rounds
-unchanged : {S : Type 0} (m : NightSender S) (image : List ℕ) (rs : List Round) (l : Loop S) → Unchanged (l .board) (rounds m stepMachine image l rs .board)
+unchanged : {S : Type 0} (m : NightSender S) (image : List ℕ) (rs : List Round) (l : Loop S)
+    → Unchanged (l .board) (rounds m stepMachine image l rs .board)
 unchanged m image [] l = record { client = refl; bytes = refl }
 unchanged m image (r ∷ rs) l =
     let inputs : List Input = inputsOf (l .request) (r .passages) in

@@ -54,7 +54,8 @@ framed-bytes start covered footer a c f =
     bytes-append (start ∷ covered) (foldl takenAway 0x00 covered ∷ footer ∷ []) (bytes-cons start covered a c)
     (bytes-cons (foldl takenAway 0x00 covered) (footer ∷ []) (sum-low covered 0x00 (omega arith)) (bytes-cons footer [] f bytes-none))
 
-control-bytes : (code : ℕ) (parameters : List ℕ) → code < 256 → length parameters < 255 → AreBytes parameters → AreBytes (controlFrame code parameters)
+control-bytes : (code : ℕ) (parameters : List ℕ) → code < 256 → length parameters < 255 → AreBytes parameters
+    → AreBytes (controlFrame code parameters)
 unfolding controlFrame
 control-bytes code parameters c l b =
     framed-bytes 0x01 (length (code ∷ parameters) ∷ code ∷ parameters) 0x03 (omega arith)
@@ -137,7 +138,8 @@ module _ (image : List ℕ) (bank : Bank) (n : ℕ) where
     reply-read WriteEnd h = sym (plain-back command.WriteEnd 0x06 refl refl)
     reply-read ModeEnd h = sym (plain-back command.ModeEnd 0x06 refl refl)
 
-    reply-settles : (name : Name) (gone : ℕ) → numberOf name < packetCount image n → SettlesAt image bank n tries name gone (Heard (spelled (reply name)))
+    reply-settles : (name : Name) (gone : ℕ) → numberOf name < packetCount image n
+        → SettlesAt image bank n tries name gone (Heard (spelled (reply name)))
     reply-settles name gone h =
         subst (Settling name (leb 2 gone) bank image (packetSector image n (numberOf name))) (sym (reply-read name h)) (by name)
       where

@@ -172,7 +172,8 @@ module _ (image : List ℕ) (bank : Bank) (n tries : ℕ) where
         goes (packetCount image n) tries name gone (SettlesAt name gone event) r
         (moved-by name gone bank image (packetSector image n (numberOf name)) (heardIn event) (packetCount image n) tries)
 
-    pub stays-right : (stand : Stand) (event : Event) → Right (packetCount image n) tries stand → Right (packetCount image n) tries (moves stand event)
+    pub stays-right : (stand : Stand) (event : Event) → Right (packetCount image n) tries stand
+        → Right (packetCount image n) tries (moves stand event)
     stays-right NotBegun event r = r
     stays-right (At name gone) event r = goes-right (packetCount image n) tries name gone (SettlesAt name gone event) r (goes-at name gone event r)
     stays-right Finished event r = r
@@ -244,7 +245,8 @@ module _ (image : List ℕ) (bank : Bank) (n tries : ℕ) where
     went-out before Finished r h = refl
     went-out before (GaveUp name why) r h = refl
 
-    all-went-out : (stand : Stand) (gs : List Given) → Right (packetCount image n) tries stand → Roomy gs → allSent (toldsAt stand gs) ≡ sentsAt stand gs
+    all-went-out : (stand : Stand) (gs : List Given) → Right (packetCount image n) tries stand → Roomy gs
+        → allSent (toldsAt stand gs) ≡ sentsAt stand gs
     all-went-out stand [] r none = refl
     all-went-out stand (g ∷ gs) r (more h hs) =
         let q = stays-right stand (g .event) r in

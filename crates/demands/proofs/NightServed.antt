@@ -126,7 +126,8 @@ module _ (image : List ℕ) (bank : Bank) (n tries : ℕ) (st : Startable image 
     pub settles : SettledBy k gone (said o)
     pub then : o .board .client .state ≡ stateAfter k
 
-  version-settles : (major minor revision gone : ℕ) → revision < 2 ^ 32 → SettledBy VersionInfo gone (controlFrame 0x78 (versionBytes major minor revision))
+  version-settles : (major minor revision gone : ℕ) → revision < 2 ^ 32
+      → SettledBy VersionInfo gone (controlFrame 0x78 (versionBytes major minor revision))
   unfolding bytesOf
   version-settles major minor revision gone h =
       subst (λ (r : Response). Settling VersionInfo (leb 2 gone) bank image (packetSector image n 0) r) (version-back 0x0400 major minor revision (omega arith) h)
@@ -158,7 +159,8 @@ module _ (image : List ℕ) (bank : Bank) (n tries : ℕ) (st : Startable image 
           then = ap (λ (x : Outcome). x .board .client .state) e ∙ w;
         }
 
-    serve-mode-start : (gone : ℕ) → call .datagram ≡ requestFrame request.ModeStart → Phase ModeStart gone b → Served ModeStart gone (stepMachine b (Datagram call))
+    serve-mode-start : (gone : ℕ) → call .datagram ≡ requestFrame request.ModeStart → Phase ModeStart gone b
+        → Served ModeStart gone (stepMachine b (Datagram call))
     unfolding mayCarry addedOf
     serve-mode-start gone e (inl i) =
         served ModeStart gone _ (controlFrame 0x71 (0x06 ∷ []))
@@ -171,7 +173,8 @@ module _ (image : List ℕ) (bank : Bank) (n tries : ℕ) (st : Startable image 
         (back (controlFrame 0x71 (0x15 ∷ [])) (control-short 0x71 0x15))
         (done-own command.ModeStart (leb 2 gone) _ (inr (sym (plain-back command.ModeStart 0x15 refl refl), le-leb 2 gone (c .1)))) (c .0)
 
-    serve-version : (gone : ℕ) → call .datagram ≡ requestFrame request.VersionInfo → Phase VersionInfo gone b → Served VersionInfo gone (stepMachine b (Datagram call))
+    serve-version : (gone : ℕ) → call .datagram ≡ requestFrame request.VersionInfo → Phase VersionInfo gone b
+        → Served VersionInfo gone (stepMachine b (Datagram call))
     serve-version gone e c =
         let x : Fixed = b .client .fixed in
         served VersionInfo gone _ (controlFrame 0x78 (versionBytes (x .major) (x .minor) (x .revision)))
@@ -179,7 +182,8 @@ module _ (image : List ℕ) (bank : Bank) (n tries : ℕ) (st : Startable image 
         (back (controlFrame 0x78 (versionBytes (x .major) (x .minor) (x .revision))) (version-short (x .major) (x .minor) (x .revision)))
         (version-settles (x .major) (x .minor) (x .revision) gone (f .revision)) c
 
-    serve-bank : (gone : ℕ) → call .datagram ≡ requestFrame request.BankInfo → Phase BankInfo gone b → Served BankInfo gone (stepMachine b (Datagram call))
+    serve-bank : (gone : ℕ) → call .datagram ≡ requestFrame request.BankInfo → Phase BankInfo gone b
+        → Served BankInfo gone (stepMachine b (Datagram call))
     serve-bank gone e c =
         let target : Bank = otherOf (b .client .fixed .running) in
         served BankInfo gone _ (controlFrame 0x72 (0x06 ∷ bankNumber target ∷ []))
@@ -230,7 +234,8 @@ module _ (image : List ℕ) (bank : Bank) (n tries : ℕ) (st : Startable image 
         (back (writeFrame k (writtenBytes 0x06 result crc) End) (written-short k 0x06 result crc))
         (subst (λ (r : Response). Settling (Packet p) (leb 2 gone) bank image k r) is (settled-packet image k result taken)) w
 
-    serve-mode-end : (gone : ℕ) → call .datagram ≡ requestFrame request.ModeEnd → Phase ModeEnd gone b → Served ModeEnd gone (stepMachine b (Datagram call))
+    serve-mode-end : (gone : ℕ) → call .datagram ≡ requestFrame request.ModeEnd → Phase ModeEnd gone b
+        → Served ModeEnd gone (stepMachine b (Datagram call))
     unfolding mayCarry addedOf
     serve-mode-end gone e (inl c) =
         served ModeEnd gone _ (controlFrame 0x74 (0x06 ∷ []))

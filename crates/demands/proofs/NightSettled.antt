@@ -162,7 +162,8 @@ module _ (image : List ℕ) (bank : Bank) (n tries : ℕ) (s : Startable image n
       (name : Name) (gone : ℕ) (last : Next) → Right count tries (At name gone) → (2 ≤ gone → Repeated name last) → final (At name gone) gs ≡ Finished
       → Each (name ∷ behind count name) last (turns (At name gone) gs)
 
-  only-on : (gs : List Given) → OnlyFrom gs → (name : Name) (gone : ℕ) (event : Event) (last : Next) (stand : Stand) → Right count tries (At name gone)
+  only-on : (gs : List Given) → OnlyFrom gs → (name : Name) (gone : ℕ) (event : Event) (last : Next) (stand : Stand)
+      → Right count tries (At name gone)
       → (2 ≤ gone → Repeated name last) → final stand gs ≡ Finished
       → Goes count tries name gone (SettlesAt image bank n tries name gone event) stand
       → Each (name ∷ behind count name) last (turn (nextOf image bank n (At name gone)) event ∷ turns stand gs)

@@ -277,7 +277,8 @@ module _ (image : List ℕ) (bank : Bank) (n : ℕ) (Rest : List Turn → Type 0
     no-more : rest ≤ times
     counts : (size : ℕ) → o .next ≡ Send name size → times ≡ suc rest
 
-  times-head : {S : Type 0} {times : ℕ} {l : List (Told S)} (o : Told S) (os : List (Told S)) → Times name times l → l ≡ o ∷ os → Times·Head times o os
+  times-head : {S : Type 0} {times : ℕ} {l : List (Told S)} (o : Told S) (os : List (Told S)) → Times name times l → l ≡ o ∷ os
+      → Times·Head times o os
   times-head o os no-time e = no-way cc
   times-head {S} o os (another {k = k} {o = p} {os = ps} other t) e =
       let same : p ≡ o = cc in

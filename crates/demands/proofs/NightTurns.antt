@@ -109,7 +109,8 @@ unfolding controlFrame framed checksumOf takenAway
 end-bytes = refl
 
 -- what reads so are these six bytes
-six-bytes : (d : List ℕ) → ((i : ℕ) → byteAt d i < 256) → responseOf d ≡ Plain command.WriteEnd 0x06 → d ≡ 0x01 ∷ 0x02 ∷ 0x75 ∷ 0x06 ∷ 0x83 ∷ 0x03 ∷ []
+six-bytes : (d : List ℕ) → ((i : ℕ) → byteAt d i < 256) → responseOf d ≡ Plain command.WriteEnd 0x06
+    → d ≡ 0x01 ∷ 0x02 ∷ 0x75 ∷ 0x06 ∷ 0x83 ∷ 0x03 ∷ []
 six-bytes d small e =
     let read : sixOf d ≡ false = sym (six-exactly d) ∙ ap unreadable e in
     sym (responses-meet .else d small read .whole) ∙ ap spelled e ∙ end-bytes

@@ -56,7 +56,8 @@ module _ (a : Arrival) (buffer : List ℕ) (h : room ≤ length buffer) where
       (λ _. round-more h (round-more h (losing-roomy names (suc (suc given)))))
       (λ _. round-more h (losing-roomy names (suc given)))
 
-  losing-goes : (address : List ℕ) (n : ℕ) → Right address n a → (names : List Name) (given : ℕ) → Goes address n 2 names (2 - 1) given (losing a buffer names given)
+  losing-goes : (address : List ℕ) (n : ℕ) → Right address n a → (names : List Name) (given : ℕ)
+      → Goes address n 2 names (2 - 1) given (losing a buffer names given)
   losing-goes address n r [] given = home
   losing-goes address n r (name ∷ names) given =
       split (Goes address n 2 (name ∷ names) (2 - 1) given) (mayLose name)

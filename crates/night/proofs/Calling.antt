@@ -69,7 +69,8 @@ following-there (Packet p) count h =
 following-there WriteEnd count h = h
 following-there ModeEnd count h = h
 
-pub moved-there : (name : Name) (gone tries count : ℕ) (verdict : Verdict) → numberOf name < count → standsAt (movedOf name gone tries count verdict) < count
+pub moved-there : (name : Name) (gone tries count : ℕ) (verdict : Verdict) → numberOf name < count
+    → standsAt (movedOf name gone tries count verdict) < count
 unfolding againOf
 moved-there name gone tries count Settled h = following-there name count h
 moved-there name gone tries count Spent h = split (λ (s : Stand). standsAt s < count) (ltb gone tries) (λ _. h) (λ _. h)
@@ -122,7 +123,8 @@ module _ (night : Night) (image before : List ℕ) (r : Called) where
         stands = s ∙ ap (λ (x : Stand). bufferAfter image (night .bank) (night .n) before (nextOf image (night .bank) (night .n) x)) (sym e);
       }
 
-  pub gone-out : (after : List ℕ) (name : Name) (gone : ℕ) (next : Next) → night .stand ≡ At name gone → Make·Is name (night .bank) (night .n) image before next after
+  pub gone-out : (after : List ℕ) (name : Name) (gone : ℕ) (next : Next) → night .stand ≡ At name gone
+      → Make·Is name (night .bank) (night .n) image before next after
       → r ≡ called night next → GoesOn·Is night image before r after
   gone-out after name gone next e m a =
       record {
@@ -133,7 +135,8 @@ module _ (night : Night) (image before : List ℕ) (r : Called) where
 -- ---- the night is over
 
 module _ (night : Night) (p : ℕ) (end : Next) (image : List ℕ) (size : ℕ) (r : Called) where
-  pub over-refused : (why : Next) → Refused why ≡ lookedOf image (night .n) (night .tries) size p → r ≡ called night why → r ≡ overOf night p end image size
+  pub over-refused : (why : Next) → Refused why ≡ lookedOf image (night .n) (night .tries) size p → r ≡ called night why
+      → r ≡ overOf night p end image size
   unfolding overOf
   over-refused why e a = a ∙ ap (endTold night end) e
 
@@ -192,11 +195,13 @@ module _ (night : Night) (p : ℕ) (end : Next) (image : List ℕ) (size : ℕ) 
   unfolding overOf
   over-says z = by (lookedOf image (night .n) (night .tries) size p) refl
     where
-      by : (l : Looked) → l ≡ lookedOf image (night .n) (night .tries) size p → nextNumber (endTold night end l .next) ≡ lentSays image (night .n) (night .tries) size p
+      by : (l : Looked) → l ≡ lookedOf image (night .n) (night .tries) size p
+          → nextNumber (endTold night end l .next) ≡ lentSays image (night .n) (night .tries) size p
       by (Refused why) e = says-refused image (night .n) (night .tries) size p why e
       by (Good sector count) e = z ∙ says-good image (night .n) (night .tries) size p sector count e
 
-  over-keeps : (before : List ℕ) → bufferAfter image (night .bank) (night .n) before end ≡ before → before ≡ bufferBy image before (overOf night p end image size)
+  over-keeps : (before : List ℕ) → bufferAfter image (night .bank) (night .n) before end ≡ before
+      → before ≡ bufferBy image before (overOf night p end image size)
   unfolding overOf
   over-keeps before z = by (lookedOf image (night .n) (night .tries) size p) refl
     where
@@ -227,7 +232,8 @@ module _ (night : Night) (response : Response) (image before : List ℕ) (r : Ca
   step-finished e a =
       by-stand before Finished e a (over-says night 0 next.Finished image (length before) refl) (over-keeps night 0 next.Finished image (length before) before refl)
 
-  pub step-gave-up : (name : Name) (why : Why) (p : ℕ) → night .stand ≡ GaveUp name why → p ≡ numberOf name → r ≡ overOf night p (next.GaveUp name why) image (length before)
+  pub step-gave-up : (name : Name) (why : Why) (p : ℕ) → night .stand ≡ GaveUp name why → p ≡ numberOf name
+      → r ≡ overOf night p (next.GaveUp name why) image (length before)
       → Step·Is night response image before r before
   step-gave-up name why p e q a =
       by-stand before (GaveUp name why) e (a ∙ ap (λ (x : ℕ). overOf night x (next.GaveUp name why) image (length before)) q)
@@ -250,7 +256,8 @@ module _ (image : List ℕ) (bank : Bank) (n tries : ℕ) (before : List ℕ) (r
   abbrev first : Looked
   first = lookedOf image n tries (length before) 0
 
-  pub start-refused : (why : Next) → Refused why ≡ first → r ≡ called (nightOf bank n tries NotBegun) why → Start·Is image bank n tries before r before
+  pub start-refused : (why : Next) → Refused why ≡ first → r ≡ called (nightOf bank n tries NotBegun) why
+      → Start·Is image bank n tries before r before
   unfolding startOf
   start-refused why e a =
       record {
@@ -261,7 +268,8 @@ module _ (image : List ℕ) (bank : Bank) (n tries : ℕ) (before : List ℕ) (r
             ∙ ap (λ (l : Looked). bufferBy image before (begun image bank n tries l)) e;
       }
 
-  pub start-gone : (after : List ℕ) (sector count : ℕ) → Good sector count ≡ first → GoesOn·Is (nightOf bank n tries (At ModeStart 1)) image before r after
+  pub start-gone : (after : List ℕ) (sector count : ℕ) → Good sector count ≡ first
+      → GoesOn·Is (nightOf bank n tries (At ModeStart 1)) image before r after
       → Start·Is image bank n tries before r after
   unfolding startOf
   start-gone after sector count e g =

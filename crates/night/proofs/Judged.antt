@@ -79,7 +79,8 @@ same-bank One Zero e = no-way (sym e)
 same-bank One One e = refl
 
 -- what carries a result that is not 0 is the command's own response
-own-reads : (command : Command) (response : Response) (result : ℕ) → 0 < result → ownResult command response ≡ result → response ≡ Plain command result
+own-reads : (command : Command) (response : Response) (result : ℕ) → 0 < result → ownResult command response ≡ result
+    → response ≡ Plain command result
 own-reads command Unreadable result h e = absurd (omega arith)
 own-reads command (Plain other r) result h e =
     split (λ (x : ℕ). x ≡ result → Plain other r ≡ Plain command result) (eqb (responseCode other) (responseCode command))
@@ -247,7 +248,8 @@ module _ (name : Name) (repeated : Bool) (bank : Bank) (image : List ℕ) (secto
   pub stopped-unsettled : (why : Why) → Stopping why name repeated bank image sector response → Settling name repeated bank image sector response → ⊥
   stopped-unsettled why e f = let q : Stops why ≡ Settled = sym e ∙ f in no-way cc
 
-  pub stopped-once : (why other : Why) → Stopping why name repeated bank image sector response → Stopping other name repeated bank image sector response
+  pub stopped-once : (why other : Why) → Stopping why name repeated bank image sector response
+      → Stopping other name repeated bank image sector response
       → why ≡ other
   stopped-once why other e f = let q : Stops why ≡ Stops other = sym e ∙ f in cc
 
@@ -423,7 +425,8 @@ module _ (night : Night) (response : Response) (image before : List ℕ) where
   abbrev Refusing : Called → Type 0
   Refusing c = (nextNumber (c .next) ≡ 0 → ⊥) → Kept night image before c
 
-  refused-kept : (p : ℕ) (why : Next) → Refused why ≡ lookedOf image (night .n) (night .tries) (length before) p → Kept night image before (called night why)
+  refused-kept : (p : ℕ) (why : Next) → Refused why ≡ lookedOf image (night .n) (night .tries) (length before) p
+      → Kept night image before (called night why)
   refused-kept p why e =
       record { same = refl; buffer = refused-keeps image (night .n) (night .tries) (length before) p (night .bank) (night .n) before why e }
 
@@ -439,7 +442,8 @@ module _ (night : Night) (response : Response) (image before : List ℕ) where
   unfolding atHandOf
   hand-kept name gone = by (lookedOf image (night .n) (night .tries) (length before) (numberOf name)) refl
     where
-      by : (l : Looked) → l ≡ lookedOf image (night .n) (night .tries) (length before) (numberOf name) → Refusing (judged night name gone response image l)
+      by : (l : Looked) → l ≡ lookedOf image (night .n) (night .tries) (length before) (numberOf name)
+          → Refusing (judged night name gone response image l)
       by (Refused why) e h = refused-kept (numberOf name) why e
       by (Good sector count) e h =
           absurd
@@ -543,7 +547,8 @@ module _ (night : Night) (response : Response) (image : List ℕ) (size : ℕ) (
       let here : stepOf night response image size ≡ atHandOf night name gone response image size = ap (byStand night response image size) e in
       here ∙ by (lookedOf image (night .n) (night .tries) size (numberOf name)) refl (sym (ap (λ (c : Called). nextNumber (c .next)) here) ∙ z)
     where
-      by : (l : Looked) → l ≡ lookedOf image (night .n) (night .tries) size (numberOf name) → nextNumber (judged night name gone response image l .next) ≡ 0
+      by : (l : Looked) → l ≡ lookedOf image (night .n) (night .tries) size (numberOf name)
+          → nextNumber (judged night name gone response image l .next) ≡ 0
           → judged night name gone response image l ≡ called (standing (GaveUp name Tries) night) (next.GaveUp name Tries)
       by (Refused why) q no-refusal =
           absurd (subst RefusalCounts (sym q) (refusal-counts image (night .n) (night .tries) size (numberOf name)) no-refusal)

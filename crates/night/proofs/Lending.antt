@@ -58,7 +58,8 @@ by-tests size tries true true false sector count = refl
 by-tests size tries true false p sector count = refl
 by-tests size tries false i p sector count = refl
 
-pub looked-by : (image : List ℕ) (n tries size p : ℕ) (placed : Placed) → placed ≡ placedOf image n p → byPlaced size tries placed ≡ lookedOf image n tries size p
+pub looked-by : (image : List ℕ) (n tries size p : ℕ) (placed : Placed) → placed ≡ placedOf image n p
+    → byPlaced size tries placed ≡ lookedOf image n tries size p
 unfolding lookedOf
 looked-by image n tries size p placed e =
     ap (byPlaced size tries) (e ∙ placed-is image n p)
@@ -87,7 +88,8 @@ countIn : Looked → ℕ
 countIn (Refused why) = 0
 countIn (Good sector count) = count
 
-pub lent : (image : List ℕ) (n tries size p sector count : ℕ) → Good sector count ≡ lookedOf image n tries size p → Lent image n tries size p sector count
+pub lent : (image : List ℕ) (n tries size p sector count : ℕ) → Good sector count ≡ lookedOf image n tries size p
+    → Lent image n tries size p sector count
 unfolding lookedOf sectorIn countIn
 lent image n tries size p sector count e =
     by (goodN n) (imageGood image n) (leb room size) (triesGood tries) (ltb p (packetCount image n)) refl refl refl refl refl e
@@ -144,8 +146,10 @@ looked-says image n tries size p = by (goodN n) (lengthsGood image n size) (trie
     by true false t b = refl
     by false i t b = refl
 
-pub says-refused : (image : List ℕ) (n tries size p : ℕ) (why : Next) → Refused why ≡ lookedOf image n tries size p → nextNumber why ≡ lentSays image n tries size p
+pub says-refused : (image : List ℕ) (n tries size p : ℕ) (why : Next) → Refused why ≡ lookedOf image n tries size p
+    → nextNumber why ≡ lentSays image n tries size p
 says-refused image n tries size p why e = ap numberIn e ∙ looked-says image n tries size p
 
-pub says-good : (image : List ℕ) (n tries size p sector count : ℕ) → Good sector count ≡ lookedOf image n tries size p → 0 ≡ lentSays image n tries size p
+pub says-good : (image : List ℕ) (n tries size p sector count : ℕ) → Good sector count ≡ lookedOf image n tries size p
+    → 0 ≡ lentSays image n tries size p
 says-good image n tries size p sector count e = ap numberIn e ∙ looked-says image n tries size p

@@ -33,14 +33,16 @@ module _ (name : Name) (bank : Bank) (n : ℕ) (image before after : List ℕ) (
         stands = a ∙ ap (frontOf before) (sym f);
       }
 
-  pub request-sent : next ≡ sentBy name made → (k : Name) (request : Request) → name ≡ k → frameOf image bank n k ≡ requestFrame request → givenGood request ≡ true → room ≤ length before
+  pub request-sent : next ≡ sentBy name made → (k : Name) (request : Request) → name ≡ k → frameOf image bank n k ≡ requestFrame request
+      → givenGood request ≡ true → room ≤ length before
       → Request·Is request before made after → Make·Is name bank n image before next after
   request-sent out k request e f g h r =
       let m = request-made request (length before) g h in
       framed (requestFrame request) out (r .answered ∙ m) (r .stands ∙ ap (λ (x : Made). madeAfter x before (requestFrame request)) m)
       (ap (frameOf image bank n) e ∙ f)
 
-  pub packet-sent : (p : ℕ) → next ≡ sentBy (Packet p) made → name ≡ Packet p → goodN n ≡ true → imageGood image n ≡ true → room ≤ length before → p < packetCount image n
+  pub packet-sent : (p : ℕ) → next ≡ sentBy (Packet p) made → name ≡ Packet p → goodN n ≡ true → imageGood image n ≡ true → room ≤ length before
+      → p < packetCount image n
       → Packet·Is image n p before made after → Make·Is name bank n image before next after
   packet-sent p out e g i h q r =
       let m = packet-made image n p (length before) g (eqb-true (length image) (sectorSize * n) i) h q in
