@@ -9,7 +9,8 @@ use Prim.Native.Nat.{ℕ, zero, suc, _*_, _^_, _≤_, _<_}
 use native.Mathlib.Decide.{ℕ-discrete}
 use native.Mathlib.Omega.{arith}
 use lib.Dec.{eqb}
-use lib.ListN.{length, take}
+use lib.ListN.{length, take, drop}
+use Rattle.buffer.proofs.Bools.{and-false}
 use lib.Seq.{length-take-le}
 use borrow.Author.Tests.{not-false}
 use Rattle.buffer.specs.Compare.{blankOf, sameOf}
@@ -61,6 +62,10 @@ use Rattle.demands.specs.Demand1.{
   acceptedIn,
   takesPackets,
   isFault,
+  noRequest,
+  wrongLength,
+  wrongState,
+  negativeResponse,
   parameterError,
   hostDone,
   answered,
@@ -212,6 +217,18 @@ ends-so : endsSession (controlFrame 0x75 (0x06 ∷ [])) ≡ true
 unfolding controlFrame framed
 ends-so = refl
 
+-- 15 in a command's own response
+declined-begin : (code : ℕ) → isBegin (controlFrame code (0x15 ∷ [])) ≡ false
+unfolding controlFrame framed
+declined-begin code = and-false (eqb code 0x70)
+
+declined-stored : (code : ℕ) → isStored (controlFrame code (0x15 ∷ [])) ≡ false
+unfolding controlFrame framed
+declined-stored code = refl
+
+declined-plain : (c : Command) → idle (Plain c 0x15) ≡ true
+declined-plain c = ap not (and-false (isEnd c))
+
 -- ---- states
 
 in-control : (s : State) (code : ℕ) → acceptedIn state.Idle code ≡ false → acceptedIn state.Write code ≡ false → acceptedIn s code ≡ true
@@ -319,18 +336,30 @@ module _ (image : List ℕ) (bank : Bank) (n : ℕ) where
         came b call (Fine k b g call) (refused-fine k b g call) (ap isFault e ∙ f)
         (λ h. subst (λ (x : Read). First (Fine k b g call) (afterFrame b call x)) (sym e) (rows h)) refl
 
+    -- a control frame: out of its state it is answered 15, and then come the rows behind the state
+    by-control : (k : Name) (c : Command) (code m : ℕ) → readOf (call .datagram) ≡ Control code m → noRequest (Control code m) ≡ false
+        → wrongLength (Control code m) ≡ false → negativeResponse (Control code m) ≡ controlFrame (responseCode c) (0x15 ∷ [])
+        → (Heard b call → wrongState (b .client .state) (Control code m) ≡ false
+        → First (Fine k b g call) (drop 3 (afterFrame b call (Control code m))))
+        → Arrived k
+    unfolding mayCarry addedOf
+    by-control k c code m e n l r rows =
+        by-rows k (Control code m) e refl
+        (λ h.
+        skip n
+        (skip l
+        (first
+        (λ _.
+        subst (λ (x : List ℕ). Fine k b g call (answered b call x)) (sym r)
+        (answered-fine k b g call (roomy b call h) (controlFrame (responseCode c) (0x15 ∷ [])) (control-short (responseCode c) 0x15)
+        (declined-begin (responseCode c)) (declined-stored (responseCode c)) (plain-idle c 0x15 refl refl (declined-plain c))))
+        (λ w. rows h w))))
+
     pub mode-start-moves : call .datagram ≡ requestFrame request.ModeStart → Arrived ModeStart
     unfolding controlFrame framed mayCarry addedOf
     mode-start-moves e =
-        by-rows ModeStart (Control 0x61 0) (ap readOf e ∙ request-read request.ModeStart) refl
-        (λ h.
-        skip refl
-        (skip refl
-        (first
-        (λ _.
-        answered-fine ModeStart b g call (roomy b call h) (controlFrame 0x71 (0x15 ∷ [])) (control-short 0x71 0x15) refl refl
-        (plain-idle command.ModeStart 0x15 refl refl refl))
-        (λ _.
+        by-control ModeStart command.ModeStart 0x61 0 (ap readOf e ∙ request-read request.ModeStart) refl refl refl
+        (λ h _.
         skip refl
         (skip refl
         (skip refl
@@ -339,7 +368,7 @@ module _ (image : List ℕ) (bank : Bank) (n : ℕ) where
         (λ _.
         changed-fine ModeStart b g call (roomy b call h) (opened (b .client)) (noticeWith Started 0 (call .address)) (controlFrame 0x71 (0x06 ∷ []))
         (control-short 0x71 0x06) (plain-idle command.ModeStart 0x06 refl refl refl) (not-write state.Control refl) (λ x. absurd (false≢true x)))
-        (λ x. absurd (false≢true (sym x)))))))))))
+        (λ x. absurd (false≢true (sym x))))))))
 
     -- a version is told in control state
     version-fine : b .client .fixed .revision < 2 ^ 32 → 14 ≤ length (call .buffer) → b .client .state ≡ state.Control
@@ -358,15 +387,8 @@ module _ (image : List ℕ) (bank : Bank) (n : ℕ) where
     pub version-moves : b .client .fixed .revision < 2 ^ 32 → call .datagram ≡ requestFrame request.VersionInfo → Arrived VersionInfo
     unfolding controlFrame framed mayCarry addedOf
     version-moves revision e =
-        by-rows VersionInfo (Control 0x68 0) (ap readOf e ∙ request-read request.VersionInfo) refl
-        (λ h.
-        skip refl
-        (skip refl
-        (first
-        (λ _.
-        answered-fine VersionInfo b g call (roomy b call h) (controlFrame 0x78 (0x15 ∷ [])) (control-short 0x78 0x15) refl refl
-        (plain-idle command.VersionInfo 0x15 refl refl refl))
-        (λ w.
+        by-control VersionInfo command.VersionInfo 0x68 0 (ap readOf e ∙ request-read request.VersionInfo) refl refl refl
+        (λ h w.
         skip refl
         (skip refl
         (skip refl
@@ -374,21 +396,14 @@ module _ (image : List ℕ) (bank : Bank) (n : ℕ) where
         (skip refl
         (skip refl
         (first (λ _. version-fine revision (roomy b call h) (in-control (b .client .state) 0x68 refl refl (not-false _ w)))
-        (λ x. absurd (false≢true (sym x)))))))))))))
+        (λ x. absurd (false≢true (sym x))))))))))
 
     pub bank-moves : call .datagram ≡ requestFrame request.BankInfo → Arrived BankInfo
     unfolding controlFrame framed mayCarry addedOf
     bank-moves e =
         let target : Bank = otherOf (b .client .fixed .running) in
-        by-rows BankInfo (Control 0x62 0) (ap readOf e ∙ request-read request.BankInfo) refl
-        (λ h.
-        skip refl
-        (skip refl
-        (first
-        (λ _.
-        answered-fine BankInfo b g call (roomy b call h) (controlFrame 0x72 (0x15 ∷ [])) (control-short 0x72 0x15) refl refl
-        (plain-idle command.BankInfo 0x15 refl refl refl))
-        (λ _.
+        by-control BankInfo command.BankInfo 0x62 0 (ap readOf e ∙ request-read request.BankInfo) refl refl refl
+        (λ h _.
         skip refl
         (skip refl
         (skip refl
@@ -398,20 +413,13 @@ module _ (image : List ℕ) (bank : Bank) (n : ℕ) where
         (λ _.
         answered-fine BankInfo b g call (roomy b call h) (controlFrame 0x72 (0x06 ∷ bankNumber target ∷ [])) (bank-short target) refl refl
         (ap idle (sym (bank-back target))))
-        (λ x. absurd (false≢true (sym x))))))))))))
+        (λ x. absurd (false≢true (sym x)))))))))
 
     pub mode-end-moves : call .datagram ≡ requestFrame request.ModeEnd → Arrived ModeEnd
     unfolding controlFrame framed mayCarry addedOf
     mode-end-moves e =
-        by-rows ModeEnd (Control 0x64 0) (ap readOf e ∙ request-read request.ModeEnd) refl
-        (λ h.
-        skip refl
-        (skip refl
-        (first
-        (λ _.
-        answered-fine ModeEnd b g call (roomy b call h) (controlFrame 0x74 (0x15 ∷ [])) (control-short 0x74 0x15) refl refl
-        (plain-idle command.ModeEnd 0x15 refl refl refl))
-        (λ _.
+        by-control ModeEnd command.ModeEnd 0x64 0 (ap readOf e ∙ request-read request.ModeEnd) refl refl refl
+        (λ h _.
         skip refl
         (skip refl
         (skip refl
@@ -432,7 +440,7 @@ module _ (image : List ℕ) (bank : Bank) (n : ℕ) where
           starts-next = d .starts-next;
           resting = not-write state.Idle refl;
         }))
-        (λ x. absurd (false≢true (sym x)))))))))))))))
+        (λ x. absurd (false≢true (sym x))))))))))))
 
     -- ---- a session begins
 
@@ -468,15 +476,8 @@ module _ (image : List ℕ) (bank : Bank) (n : ℕ) where
     pub write-start-moves : goodN n ≡ true → call .datagram ≡ requestFrame (request.WriteStart bank n) → Arrived WriteStart
     unfolding controlFrame framed mayCarry addedOf
     write-start-moves good e =
-        by-rows WriteStart (Control 0x40 8) (ap readOf e ∙ start-read bank n) refl
-        (λ h.
-        skip refl
-        (skip refl
-        (first
-        (λ _.
-        answered-fine WriteStart b g call (roomy b call h) (controlFrame 0x70 (0x15 ∷ [])) (control-short 0x70 0x15) refl refl
-        (plain-idle command.WriteStart 0x15 refl refl refl))
-        (λ w.
+        by-control WriteStart command.WriteStart 0x40 8 (ap readOf e ∙ start-read bank n) refl refl refl
+        (λ h w.
         first (λ _. parameter-fine WriteStart b g call (roomy b call h))
         (λ v.
         let told = start-tells (b .client .fixed) bank n good (h .good) (subst (pairGood (b .client .fixed)) e (not-false _ v)) in
@@ -487,7 +488,7 @@ module _ (image : List ℕ) (bank : Bank) (n : ℕ) where
         (skip refl
         (skip refl
         (first (λ _. begun-fine (roomy b call h) (in-control (b .client .state) 0x40 refl refl (not-false _ w)) (told .0) (told .1))
-        (λ x. absurd (false≢true (sym x))))))))))))))
+        (λ x. absurd (false≢true (sym x)))))))))))
 
   -- ---- a session of ours
 
@@ -670,16 +671,9 @@ module _ (image : List ℕ) (bank : Bank) (n : ℕ) where
         → Moves image bank n WriteEnd b g (stepMachine b (Datagram call)) (shown WriteEnd b g call (stepMachine b (Datagram call)))
     unfolding controlFrame framed mayCarry addedOf
     write-end-moves e =
-        by-rows b g call WriteEnd (Control 0x45 0) (ap readOf e ∙ request-read request.WriteEnd) refl
-        (λ h.
+        by-control b g call WriteEnd command.WriteEnd 0x45 0 (ap readOf e ∙ request-read request.WriteEnd) refl refl refl
+        (λ h v.
         let room = roomy b call h in
-        skip refl
-        (skip refl
-        (first
-        (λ _.
-        answered-fine WriteEnd b g call room (controlFrame 0x75 (0x15 ∷ [])) (control-short 0x75 0x15) refl refl
-        (plain-idle command.WriteEnd 0x15 refl refl refl))
-        (λ v.
         let w = ends-write (b .client .state) (not-false _ v) in
         skip refl
         (skip refl
@@ -700,7 +694,7 @@ module _ (image : List ℕ) (bank : Bank) (n : ℕ) where
         (λ _.
         over-fine room w 0x1E _ refl (said-back call (controlFrame 0x75 (0x1E ∷ [])) (control-short 0x75 0x1E) room)
         (plain-idle command.WriteEnd 0x1E refl refl refl))
-        (λ x. absurd (false≢true (sym x)))))))))))))))))
+        (λ x. absurd (false≢true (sym x))))))))))))))
 
   -- ---- the host
 
