@@ -8,12 +8,13 @@
 #include "plain.h"
 
 size_t client_take(size_t n, const uint8_t *slots, size_t length, uint8_t *bank0, size_t size0, uint8_t *bank1, size_t size1,
-                   const uint8_t *marks, size_t mark_count, const uint8_t *address, size_t address_length, uint8_t *buffer, size_t room);
+                   const uint8_t *marks, size_t mark_count, const uint8_t *addresses, size_t addresses_length, uint8_t *buffer, size_t room);
 
-enum { SECTOR = 512, MOST = 491, SLOT = 521, ROUNDS = 300, WAYS = 4 };
+enum { SECTOR = 512, MOST = 491, SLOT = 521, ADDRESS = 16, ROUNDS = 300, WAYS = 4 };
 enum { PROVED, TABLE, ZLIB, COPY };
 
-static uint8_t slots[(MOST + 4) * SLOT], image[MOST * SECTOR], running[MOST * SECTOR], target[WAYS][MOST * SECTOR], marks[MOST], address[16];
+static uint8_t slots[(MOST + 4) * SLOT], addresses[(MOST + 4) * ADDRESS], marks[MOST];
+static uint8_t image[MOST * SECTOR], running[MOST * SECTOR], target[WAYS][MOST * SECTOR];
 static size_t count;
 
 static uint32_t by_zlib(const uint8_t *bytes, size_t n) { return crc32(0, bytes, n); }
@@ -72,10 +73,10 @@ static size_t copied(uint8_t *bank) {
 }
 
 static size_t run(int way, size_t n, uint8_t *buffer) {
-    size_t size = n * SECTOR, length = count * SLOT;
+    size_t size = n * SECTOR, length = count * SLOT, from = count * ADDRESS;
     if (way == COPY) return copied(target[COPY]);
-    if (way == PROVED) return client_take(n, slots, length, running, size, target[PROVED], size, marks, n, address, 16, buffer, 14);
-    return plain_take(way == TABLE ? by_table : by_zlib, n, slots, length, running, size, target[way], size, marks, n, address, 16, buffer, 14);
+    if (way == PROVED) return client_take(n, slots, length, running, size, target[PROVED], size, marks, n, addresses, from, buffer, 14);
+    return plain_take(way == TABLE ? by_table : by_zlib, n, slots, length, running, size, target[way], size, marks, n, addresses, from, buffer, 14);
 }
 
 // The best time of what the slots hold, over a bank that was full of `before`; -1 to leave it as the round before did.

@@ -13,7 +13,7 @@ size_t plain_hex_read(const uint8_t *text, size_t length, size_t n, uint8_t *ima
 size_t plain_packet(const uint8_t *image, size_t size, size_t n, size_t p, uint8_t *buffer, size_t room);
 
 size_t plain_take(crc_of *crc, size_t n, const uint8_t *slots, size_t length, uint8_t *bank0, size_t size0, uint8_t *bank1,
-                  size_t size1, const uint8_t *marks, size_t mark_count, const uint8_t *address, size_t address_length,
+                  size_t size1, const uint8_t *marks, size_t mark_count, const uint8_t *addresses, size_t addresses_length,
                   uint8_t *buffer, size_t room);
 
 // With `indexed`, the packets' sectors are noted once, at the start.

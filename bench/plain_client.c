@@ -12,7 +12,7 @@ struct client {
     int running, next, state, latest;
     uint8_t major, minor;
     uint32_t revision;
-    uint8_t received[MOST];
+    uint8_t opener[ADDRESS], received[MOST];
     crc_of *crc;
 };
 
@@ -85,9 +85,14 @@ static int sound(const struct client *c, const uint8_t *bank, size_t size) {
     return blank(bank + end, size - end);
 }
 
-static size_t packet(struct client *c, uint8_t *target, const uint8_t *marks, const uint8_t *d, size_t m, uint8_t *buffer) {
+// Whether the mode is open, and another address opened it.
+static int stranger(const struct client *c, const uint8_t *address) {
+    return (c->state == CONTROL || c->state == WRITE) && memcmp(address, c->opener, ADDRESS);
+}
+
+static size_t packet(struct client *c, uint8_t *target, const uint8_t *marks, const uint8_t *address, const uint8_t *d, size_t m, uint8_t *buffer) {
     uint16_t k = number(d + 1, 2);
-    if (c->state != WRITE) return written(buffer, k, 0x15, 0x15, 0);
+    if (stranger(c, address) || c->state != WRITE) return written(buffer, k, 0x15, 0x15, 0);
     if (k < 1 || k > c->n || m < 1 || m > SECTOR || m % 4) return parameter_error(buffer);
     if (marks[k - 1]) return written(buffer, k, 0x06, 0x1C, 0);
     uint8_t *sector = target + (k - 1) * SECTOR;
@@ -115,7 +120,8 @@ static size_t finish(struct client *c, uint8_t *target, const uint8_t *marks, ui
     return result(buffer, 0x75, 0x06);
 }
 
-static size_t request(struct client *c, uint8_t *target, const uint8_t *marks, const uint8_t *d, size_t parameters, uint8_t *buffer) {
+static size_t request(struct client *c, uint8_t *target, const uint8_t *marks, const uint8_t *address, const uint8_t *d, size_t parameters,
+                      uint8_t *buffer) {
     uint8_t code = d[2], response;
     int state;
     switch (code) {
@@ -128,11 +134,12 @@ static size_t request(struct client *c, uint8_t *target, const uint8_t *marks, c
     default: return parameter_error(buffer);
     }
     if (parameters != (code == 0x40 ? 8 : 0)) return parameter_error(buffer);
-    if (c->state != state) return result(buffer, response, 0x15);
+    if (stranger(c, address) || c->state != state) return result(buffer, response, 0x15);
     switch (code) {
     case 0x61:
         c->state = CONTROL;
         c->latest = NOTHING;
+        memcpy(c->opener, address, ADDRESS);
         break;
     case 0x62: {
         uint8_t fields[2] = {0x06, !c->running};
@@ -156,6 +163,7 @@ static size_t request(struct client *c, uint8_t *target, const uint8_t *marks, c
     case 0x64:
         c->state = IDLE;
         c->latest = NOTHING;
+        memset(c->opener, 0, ADDRESS);
         memset(c->received, 0, MOST);
         break;
     }
@@ -168,7 +176,7 @@ static size_t frame_error(uint8_t *buffer) {
 }
 
 static size_t step(struct client *c, uint8_t *bank0, size_t size0, uint8_t *bank1, size_t size1, const uint8_t *marks, size_t mark_count,
-                   size_t address_length, uint8_t *buffer, size_t room, const uint8_t *d, size_t length) {
+                   const uint8_t *address, size_t address_length, uint8_t *buffer, size_t room, const uint8_t *d, size_t length) {
     if (c->n < 1 || c->n > MOST) return 3;
     if (size0 != c->n * SECTOR || size1 != c->n * SECTOR || mark_count != c->n || address_length != ADDRESS || room < BUFFER) return 2;
     if (c->state == CLOSED) return 1;
@@ -176,28 +184,29 @@ static size_t step(struct client *c, uint8_t *bank0, size_t size0, uint8_t *bank
     if (length >= 5 && d[0] == 0x01) {
         if (d[1] < 1 || length != d[1] + 4u || d[length - 2] != checksum(d + 1, length - 3) || d[length - 1] != 0x03)
             return frame_error(buffer);
-        return request(c, target, marks, d, d[1] - 1, buffer);
+        return request(c, target, marks, address, d, d[1] - 1, buffer);
     }
     if (length >= 7 && d[0] == 0x02) {
         size_t m = number(d + 3, 2);
         if (length != m + 7 || d[length - 2] != checksum(d + 1, length - 3) || (d[length - 1] != 0x03 && d[length - 1] != 0x17))
             return frame_error(buffer);
-        return packet(c, target, marks, d, m, buffer);
+        return packet(c, target, marks, address, d, m, buffer);
     }
     return frame_error(buffer);
 }
 
 size_t plain_take(crc_of *crc, size_t n, const uint8_t *slots, size_t length, uint8_t *bank0, size_t size0, uint8_t *bank1,
-                  size_t size1, const uint8_t *marks, size_t mark_count, const uint8_t *address, size_t address_length,
+                  size_t size1, const uint8_t *marks, size_t mark_count, const uint8_t *addresses, size_t addresses_length,
                   uint8_t *buffer, size_t room) {
     struct client c = {.n = n, .state = n >= 1 && n <= MOST ? IDLE : CLOSED, .crc = crc};
     size_t told = 0;
-    (void)address;
     for (size_t k = 0; k < length / SLOT; k++)
         if (number(slots + k * SLOT, 2) > SLOT - 2) return 2;
+    if (addresses_length != length / SLOT * ADDRESS) return 2;
     for (size_t k = 0; k < length / SLOT; k++) {
         const uint8_t *slot = slots + k * SLOT;
-        told = step(&c, bank0, size0, bank1, size1, marks, mark_count, address_length, buffer, room, slot + 2, number(slot, 2));
+        const uint8_t *address = addresses + k * ADDRESS;
+        told = step(&c, bank0, size0, bank1, size1, marks, mark_count, address, ADDRESS, buffer, room, slot + 2, number(slot, 2));
     }
     return told;
 }

@@ -66,8 +66,8 @@ pub fn run(script: &[u8], wrong: Option<Wrong>) -> Vec<String> {
 }
 
 /// The script line by line: what a line writes is out before the next is waited for.
-pub fn talk(input: impl Read, mut output: impl Write) -> io::Result<()> {
-    let (mut board, mut input, mut line) = (Board::new(None), BufReader::new(input), Vec::new());
+pub fn talk(input: impl Read, mut output: impl Write, wrong: Option<Wrong>) -> io::Result<()> {
+    let (mut board, mut input, mut line) = (Board::new(wrong), BufReader::new(input), Vec::new());
     for i in 1.. {
         line.clear();
         if input.read_until(b'\n', &mut line)? == 0 {
@@ -260,7 +260,7 @@ impl Board {
     }
 
     fn record(&self) -> String {
-        let Client { n, running, next, state, latest, version, received, .. } = &self.client;
+        let Client { n, running, next, state, latest, opener, version, received, .. } = &self.client;
         let state = match state {
             State::Closed => "closed",
             State::Idle => "idle",
@@ -272,12 +272,13 @@ impl Board {
             Latest::Good => "good",
             Latest::Otherwise => "otherwise",
         };
+        let opener = hex::text(opener.as_deref().unwrap_or_default());
         let received = match received.is_empty() {
             true => "-".to_string(),
             false => received.iter().map(usize::to_string).collect::<Vec<_>>().join(","),
         };
         let Version { major, minor, revision } = version;
-        format!("record {n} {running} {next} {state} {latest} {major} {minor} {revision} {received}")
+        format!("record {n} {running} {next} {state} {latest} {opener} {major} {minor} {revision} {received}")
     }
 }
 

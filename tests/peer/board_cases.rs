@@ -7,6 +7,7 @@ use crate::hex;
 use crate::image::{self, Image};
 use crate::script::{packet, pair, request, write_start, Script, REQUESTS, STATES};
 use crate::script::{BANK_INFORMATION, MODE_END, MODE_START, VERSION, WRITE_END, WRITE_START};
+use crate::stranger;
 use crate::wrong;
 
 const BAD_N: [usize; 6] = [0, 492, 493, 512, 65_536, 999_999];
@@ -22,6 +23,7 @@ pub fn all() -> Vec<String> {
     cases.parameter_faults();
     cases.worn();
     cases.sessions();
+    cases.strangers();
     cases.leftovers();
     cases.commands();
     cases.codes();
@@ -45,18 +47,18 @@ pub fn selftest() -> Result<String, String> {
     }
 }
 
-struct Cases {
-    script: Script,
-    draw: Draw,
+pub struct Cases {
+    pub script: Script,
+    pub draw: Draw,
 }
 
 impl Cases {
-    fn count(&mut self) -> usize {
+    pub fn count(&mut self) -> usize {
         1 + self.draw.below(30)
     }
 
     /// A new client on a board whose running bank is sound and whose target holds a former owner's bytes.
-    fn board(&mut self, about: &str, n: usize, running: usize) {
+    pub fn board(&mut self, about: &str, n: usize, running: usize) {
         self.script.case(about, n, running);
         if n <= 3 {
             let (count, kept) = (self.count(), self.draw.bytes(n * SECTOR));
@@ -177,7 +179,11 @@ impl Cases {
             let (n, running) = ([1, 2, 3, 32][k % 4], k / 4 % 2);
             let state = STATES[self.draw.below(4)];
             self.board_in("drawn datagrams", state, n, running);
-            for _ in 0..60 {
+            let addresses = stranger::addresses(&mut self.draw);
+            for i in 0..60 {
+                if i % 10 == 5 {
+                    self.script.add(format!("address {}", addresses[self.draw.below(3)]));
+                }
                 let datagram = self.drawn_datagram(n);
                 self.script.send(&datagram);
             }
@@ -279,7 +285,7 @@ impl Cases {
     }
 
     /// Parameters of a wrong length, address pairs that are wrong at one end, sectors and data lengths out of range.
-    fn faults(&mut self, n: usize, running: usize) -> Vec<Vec<u8>> {
+    pub fn faults(&mut self, n: usize, running: usize) -> Vec<Vec<u8>> {
         let [own, good] = [running, 1 - running].map(|bank| pair(bank, n));
         let mut faults: Vec<Vec<u8>> = REQUESTS.iter().map(|code| request(*code, &[0x00])).collect();
         for pair in [&good[..0], &good[..7], &[&own[..4], &good[4..]].concat(), &[&good[..4], &own[4..]].concat()] {
@@ -358,7 +364,7 @@ impl Cases {
         }
     }
 
-    fn deliver(&mut self, image: &Image) {
+    pub fn deliver(&mut self, image: &Image) {
         for sector in image::in_any_order(&mut self.draw, &image.sent()) {
             self.script.send(&packet(sector, image.sector(sector)));
         }
@@ -367,26 +373,12 @@ impl Cases {
     /// Too little and too much of each thing that is lent, then the right length again.
     fn lent_lengths(&mut self) {
         for (n, running) in [(1, 1), (3, 0), (32, 1), (MOST_SECTORS, 0)] {
-            let whole = n * SECTOR;
-            let mut lendings: Vec<[String; 2]> = Vec::new();
-            for bank in 0..2 {
-                for length in [0, 1, whole - SECTOR, whole - 1, whole + 1, whole + SECTOR, 252_416] {
-                    lendings.push([format!("bank {} {}", bank, length), format!("bank {} {}", bank, whole)]);
-                }
-            }
-            for length in [0, n - 1, n + 1, 512] {
-                lendings.push([format!("marks {}", length), format!("marks {}", n)]);
-            }
             let address = hex::text(&self.draw.bytes(16));
-            for length in [0, 1, 15, 17, 32] {
-                let other = hex::text(&self.draw.bytes(length));
-                lendings.push([format!("address {}", other), format!("address {}", address)]);
-            }
-            for length in [0, 1, 5, 6, 12, 13, 14, 20, 1024] {
-                lendings.push([format!("buffer {} 5A", length), "buffer 14 A5".to_string()]);
-            }
+            let lendings = self.lendings(n, &address);
             for state in STATES {
-                self.board_in("lent lengths", state, n, running);
+                self.board(&format!("lent lengths, {}, N = {}", state, n), n, running);
+                self.script.add(format!("address {}", address));
+                self.script.on_to(state, running, n);
                 if state == "write" {
                     let data = self.draw.bytes(SECTOR);
                     self.script.send(&packet(n, &data));
@@ -405,8 +397,29 @@ impl Cases {
         }
     }
 
+    /// A line that lends otherwise, and the one that lends as before, the address among it.
+    pub fn lendings(&mut self, n: usize, address: &str) -> Vec<[String; 2]> {
+        let (whole, mut lendings) = (n * SECTOR, Vec::new());
+        for bank in 0..2 {
+            for length in [0, 1, whole - SECTOR, whole - 1, whole + 1, whole + SECTOR, 252_416] {
+                lendings.push([format!("bank {} {}", bank, length), format!("bank {} {}", bank, whole)]);
+            }
+        }
+        for length in [0, n - 1, n + 1, 512] {
+            lendings.push([format!("marks {}", length), format!("marks {}", n)]);
+        }
+        for length in [0, 1, 15, 17, 32] {
+            let other = hex::text(&self.draw.bytes(length));
+            lendings.push([format!("address {}", other), format!("address {}", address)]);
+        }
+        for length in [0, 1, 5, 6, 12, 13, 14, 20, 1024] {
+            lendings.push([format!("buffer {} 5A", length), "buffer 14 A5".to_string()]);
+        }
+        lendings
+    }
+
     /// A buffer may be long enough, so that what is sent then has to leave the state as it is.
-    fn lend(&mut self, line: &str, n: usize, running: usize) {
+    pub fn lend(&mut self, line: &str, n: usize, running: usize) {
         let data = self.draw.bytes(8);
         self.script.add(line);
         self.script.send(&[]);
@@ -455,14 +468,14 @@ impl Cases {
                 }
             }
         }
-        // an address of its own with each notice
+        // an address of its own with each mode and its notices
         for k in 0..20 {
             self.board("notices", 2, k % 2);
             self.script.add("initiate");
-            for code in [MODE_START, VERSION, MODE_START, MODE_END, MODE_END] {
+            for _ in 0..2 {
                 let address = hex::text(&self.draw.bytes(16));
                 self.script.add(format!("address {}", address));
-                self.script.ask(code);
+                [MODE_START, VERSION, MODE_START, MODE_END, MODE_END].iter().for_each(|code| self.script.ask(*code));
             }
             self.script.add("terminate");
             self.script.look();
@@ -690,9 +703,23 @@ impl Cases {
             self.board("walk", n, running);
             let count = self.count();
             let image = image::drawn(&mut self.draw, n, count);
-            let mut state = "closed";
+            let addresses = stranger::addresses(&mut self.draw);
+            let (mut state, mut speaks, mut opener) = ("closed", 0, 0);
+            self.script.add(format!("address {}", addresses[speaks]));
             for _ in 0..24 {
-                state = self.walk(state, &image, n, running);
+                let next = self.walk(state, &image, n, running);
+                let open = ["control", "write"].contains(&state);
+                // a stranger leads nowhere
+                if !open || speaks == opener || next == "closed" {
+                    state = next;
+                }
+                if !open {
+                    opener = speaks;
+                }
+                if self.draw.below(4) == 0 {
+                    speaks = [opener, opener, self.draw.below(3)][self.draw.below(3)];
+                    self.script.add(format!("address {}", addresses[speaks]));
+                }
                 match self.draw.below(5) {
                     0 => self.script.add("record"),
                     1 => self.script.look(),
@@ -717,8 +744,8 @@ impl Cases {
             (3, _) => self.script.add(format!("mark {} {:02X}", sector, [0, 0, 1, 0xFF][self.draw.below(4)])),
             (4, _) => self.script.add(format!("marks {}", n)),
             (5, _) => {
-                let address = self.draw.bytes(16);
-                self.script.add(format!("address {}", hex::text(&address)));
+                let sent = stranger::sends(&mut self.draw, n, target);
+                self.script.send(&sent.datagram);
             }
             (6, _) => self.script.add(format!("buffer {} {:02X}", 13 + self.draw.below(9), self.draw.byte())),
             (7, _) => {

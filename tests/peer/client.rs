@@ -1,5 +1,5 @@
 //! The client: the paper's 'The client, step by step' and 'What comes back when it is no', in the order that it gives; a parameter fault is
-//! answered by Respond Error, as 02 §3 has it.
+//! answered by Respond Error, as 02 §3 has it, and any address but the one that opened the mode by 15, as 02 §5 has it.
 use crate::bank::{self, MOST_SECTORS, SECTOR};
 use crate::crc::crc32;
 use crate::frame::{self, Frame};
@@ -44,6 +44,8 @@ pub struct Client {
     pub next: usize,
     pub state: State,
     pub latest: Latest,
+    /// The address that opened the mode, while one is open.
+    pub opener: Option<Vec<u8>>,
     pub version: Version,
     pub received: BTreeSet<usize>,
     wrong: Option<Wrong>,
@@ -96,7 +98,8 @@ impl Client {
     /// The record is handed back where it is refused, too.
     pub fn new(n: usize, running: usize, version: Version, wrong: Option<Wrong>) -> (Client, Result<(), Refused>) {
         let (state, latest) = (State::Closed, Latest::Nothing);
-        let client = Client { n, running, next: running, state, latest, version, received: BTreeSet::new(), wrong };
+        let (opener, received) = (None, BTreeSet::new());
+        let client = Client { n, running, next: running, state, latest, opener, version, received, wrong };
         let taken = client.has_good_n();
         (client, taken)
     }
@@ -126,6 +129,9 @@ impl Client {
         self.state = State::Closed;
         self.received.clear();
         self.latest = Latest::Nothing;
+        if !self.is(Wrong::KeepsOpenerClosed) {
+            self.opener = None;
+        }
         Ok(())
     }
 
@@ -154,8 +160,18 @@ impl Client {
             None => return (response(RESPOND_ERROR, PARAMETER, &[]), None),
         };
         let fits = self.state == state;
+        let stranger = self.is_stranger(lent.address) && !(code == 0x45 && self.is(Wrong::AnyoneEnds));
+        if stranger && self.is(Wrong::AddressFirst) {
+            return (response(own, STATE, &[]), None);
+        }
         if parameters.len() != length && (fits || !self.is(Wrong::StateFirst)) {
             return (self.parameter_fault(Wrong::OwnParameterLength, response(own, PARAMETER, &[])), None);
+        }
+        if stranger && !self.is(Wrong::AddressLast) {
+            if code == 0x61 && self.is(Wrong::TakesOver) {
+                self.opener = Some(lent.address.to_vec());
+            }
+            return (self.turned_away(response(own, STATE, &[])), None);
         }
         if !fits {
             return (response(own, STATE, &[]), None);
@@ -163,10 +179,14 @@ impl Client {
         if code == 0x40 && !self.takes_pair(parameters) {
             return (self.parameter_fault(Wrong::OwnAddressPair, response(own, PARAMETER, &[])), None);
         }
+        if stranger {
+            return (response(own, STATE, &[]), None);
+        }
         let (result, added, notice) = match code {
             0x61 => {
                 self.state = State::Control;
                 self.latest = Latest::Nothing;
+                self.opened_by(lent.address);
                 (TAKEN, vec![], Some(Notice::Begun))
             }
             0x62 => (TAKEN, vec![self.other_bank() as u8], None),
@@ -190,6 +210,35 @@ impl Client {
             own
         } else {
             response(RESPOND_ERROR, PARAMETER, &[])
+        }
+    }
+
+    /// Whether the mode is open, and another address has opened it: all 16 bytes count.
+    fn is_stranger(&self, address: &[u8]) -> bool {
+        let Some(opener) = &self.opener else {
+            return false;
+        };
+        match self.wrong {
+            Some(Wrong::Everyone) => false,
+            Some(Wrong::ComparesFirst15) => opener[..ADDRESS - 1] != address[..ADDRESS - 1],
+            Some(Wrong::ComparesLast15) => opener[1..] != address[1..],
+            Some(Wrong::ZerosOpenNothing) if *opener == [0; ADDRESS] => false,
+            Some(Wrong::KeepsFirstOpener) if self.state == State::Idle => false,
+            _ => opener != address,
+        }
+    }
+
+    fn opened_by(&mut self, address: &[u8]) {
+        if self.opener.is_none() || !self.is(Wrong::KeepsFirstOpener) {
+            self.opener = Some(address.to_vec());
+        }
+    }
+
+    /// What a stranger is answered, the command's own response.
+    fn turned_away(&self, own: Vec<u8>) -> Vec<u8> {
+        match self.wrong {
+            Some(Wrong::StrangersError) => response(RESPOND_ERROR, STATE, &[]),
+            _ => own,
         }
     }
 
@@ -251,6 +300,9 @@ impl Client {
         if !self.is(Wrong::KeepsReceived) {
             self.received.clear();
         }
+        if self.is(Wrong::ForgetsOpener) {
+            self.opener = None;
+        }
         self.state = State::Control;
         result
     }
@@ -265,6 +317,9 @@ impl Client {
         self.state = State::Idle;
         self.latest = Latest::Nothing;
         self.received.clear();
+        if !self.is(Wrong::KeepsOpenerIdle) && !self.is(Wrong::KeepsFirstOpener) {
+            self.opener = None;
+        }
         if self.is(Wrong::ForgetsEnd) {
             3
         } else {
@@ -275,8 +330,16 @@ impl Client {
     fn write(&mut self, sector: u16, data: &[u8], lent: &mut Lent) -> Vec<u8> {
         let good_sector = (1..=self.n).contains(&(sector as usize));
         let good_length = (1..=SECTOR).contains(&data.len()) && data.len() % 4 == 0;
+        let stranger = self.is_stranger(lent.address) && !self.is(Wrong::AnyonesPackets);
+        let refused = write_response(sector, [STATE; 2], 0);
+        if stranger && !self.is(Wrong::AddressLast) {
+            if self.is(Wrong::StoresStrangers) && self.state == State::Write && good_sector && good_length {
+                self.store(sector as usize, data, lent);
+            }
+            return self.turned_away(refused);
+        }
         if self.state != State::Write && (good_sector && good_length || !self.is(Wrong::ValuesFirst)) {
-            return write_response(sector, [STATE; 2], 0);
+            return refused;
         }
         let own = write_response(sector, [PARAMETER; 2], 0);
         if !good_sector {
@@ -284,6 +347,9 @@ impl Client {
         }
         if !good_length {
             return self.parameter_fault(Wrong::OwnDataLength, own);
+        }
+        if stranger {
+            return refused;
         }
         let (result, crc) = self.store(sector as usize, data, lent);
         write_response(sector, [TAKEN, result], crc)

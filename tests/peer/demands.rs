@@ -10,6 +10,7 @@ use crate::image::{self, Image};
 use crate::judge::{self, Seen};
 use crate::script::{packet, pair, request, write_start, Script};
 use crate::script::{BANK_INFORMATION, MODE_END, MODE_START, REQUESTS, VERSION, WRITE_END, WRITE_START};
+use crate::stranger;
 use crate::wrong::{self, Wrong};
 
 const TAKEN_START: &str = "answer 010270068803";
@@ -42,16 +43,18 @@ pub fn judge(directory: &str) -> Result<String, String> {
 }
 
 fn scripts([deliveries, walks]: [usize; 2]) -> [Vec<String>; 2] {
-    let mut pairs = Pairs { scripts: Default::default(), draw: Draw(0x4445_4D41_4E44), n: 1, running: 0 };
+    let (scripts, addresses) = Default::default();
+    let mut pairs = Pairs { scripts, draw: Draw(0x4445_4D41_4E44), n: 1, running: 0, addresses };
     pairs.statements();
+    pairs.addresses();
     pairs.deliveries(deliveries);
     pairs.walks(walks);
     pairs.scripts.map(|script| script.lines)
 }
 
 fn told(seen: Seen) -> Result<String, String> {
-    let Seen { cases, expected, accepted, good_ends, unsound_ends, worn_ends, parameter_faults, banks, omitted_by_one } =
-        seen;
+    let Seen { cases, expected, accepted, good_ends, unsound_ends, worn_ends, parameter_faults, strangers, .. } = seen;
+    let Seen { banks, omitted_by_one, .. } = seen;
     let enough = cases >= 500
         && expected >= 3_000
         && accepted >= 5_000
@@ -59,12 +62,13 @@ fn told(seen: Seen) -> Result<String, String> {
         && unsound_ends >= 200
         && worn_ends >= 50
         && parameter_faults >= 500
+        && strangers >= 2_000
         && banks >= 2_000
         && omitted_by_one >= 200;
     let said = format!(
         "{cases} cases on two boards: {accepted} packets accepted, {omitted_by_one} of them with 06 on one board and 1D on the other; \
          {good_ends} good, {unsound_ends} unsound and {worn_ends} worn ends; {parameter_faults} parameter faults; \
-         {banks} looks at the target; {expected} expected lines"
+         {strangers} datagrams of strangers; {banks} looks at the target; {expected} expected lines"
     );
     if enough {
         Ok(said)
@@ -77,18 +81,17 @@ fn told(seen: Seen) -> Result<String, String> {
 pub fn selftest() -> Result<String, String> {
     let scripts = scripts(SHORT).map(|lines| lines.join("\n"));
     let scripts = [&scripts[0][..], &scripts[1][..]];
-    let on = |wrong: Option<Wrong>| scripts.map(|script| board::run(script.as_bytes(), wrong).join("\n"));
-    let right = on(None);
+    let on = |script: &str, wrong: Option<Wrong>| board::run(script.as_bytes(), wrong).join("\n");
+    let right = scripts.map(|script| on(script, None));
     judge::two(scripts, [&right[0], &right[1]]).map_err(|why| format!("the judge refuses a right board: {}", why))?;
     let (mut refused, mut beside) = (0, 0);
     for wrong in wrong::ALL {
-        let outputs = on(Some(wrong));
-        let outputs = [&outputs[0][..], &outputs[1][..]];
-        let taken = judge::one(scripts[0], outputs[0]).is_ok();
+        let output = on(scripts[0], Some(wrong));
+        let taken = judge::one(scripts[0], &output).is_ok();
         if taken != only_by_comparison(wrong) {
             return Err(format!("the judge {} {:?}", if taken { "takes" } else { "refuses" }, wrong));
         }
-        if brings_leftovers_back(wrong) && judge::beside(scripts, outputs).is_ok() {
+        if brings_leftovers_back(wrong) && judge::beside(scripts, [&output, &on(scripts[1], Some(wrong))]).is_ok() {
             return Err(format!("the judge sees no leftovers of {:?}", wrong));
         }
         refused += !taken as usize;
@@ -103,9 +106,9 @@ fn brings_leftovers_back(wrong: Wrong) -> bool {
     matches!(wrong, KeepsTail | ComparesSent | SkipsBlanks | LeavesUnsent | CountsRefused | WornOmitted | StoresNothing)
 }
 
-/// No demand speaks of the order of refusals: the line by line comparison sees these.
+/// No demand speaks of the order of refusals, but for what a stranger is answered: the line by line comparison sees this one.
 fn only_by_comparison(wrong: Wrong) -> bool {
-    matches!(wrong, Wrong::ValuesFirst | Wrong::StateFirst)
+    wrong == Wrong::ValuesFirst
 }
 
 struct Pairs {
@@ -113,12 +116,18 @@ struct Pairs {
     draw: Draw,
     n: usize,
     running: usize,
+    /// The first is that of who opens the mode.
+    addresses: [String; 3],
 }
 
 impl Pairs {
     fn add(&mut self, line: impl Into<String>) {
         let line = line.into();
         self.scripts.iter_mut().for_each(|script| script.add(line.clone()));
+    }
+
+    fn add_all(&mut self, lines: &str) {
+        self.scripts.iter_mut().for_each(|script| script.add_all(lines));
     }
 
     fn send(&mut self, datagram: &[u8]) {
@@ -132,6 +141,38 @@ impl Pairs {
     /// The next line has to be one of these.
     fn expect(&mut self, answers: &[String]) {
         self.add(format!("# expect {}", answers.join(" | ")));
+    }
+
+    fn speaks(&mut self, k: usize) {
+        self.add(format!("address {}", self.addresses[k]));
+    }
+
+    /// Up to so many datagrams of the others, while the mode is the first one's: none of them changes anything.
+    fn strangers(&mut self, most: usize) {
+        let target = self.other_bank();
+        for _ in 0..self.draw.below(most + 1) {
+            let other = 1 + self.draw.below(2);
+            self.speaks(other);
+            let sent = stranger::sends(&mut self.draw, self.n, target);
+            self.expect_bytes(&sent.answer);
+            self.send(&sent.datagram);
+        }
+        self.speaks(0);
+    }
+
+    /// A stranger asks in vain for what the opener asks for then.
+    fn asked_in_vain(&mut self, code: u8) {
+        let other = 1 + self.draw.below(2);
+        self.speaks(other);
+        let sent = stranger::asks(code, self.n, self.other_bank());
+        self.expect_bytes(&sent.answer);
+        self.send(&sent.datagram);
+        self.look();
+        self.speaks(0);
+    }
+
+    fn expect_bytes(&mut self, answer: &[u8]) {
+        self.expect(&[format!("answer {}", hex::text(answer))]);
     }
 
     fn other_bank(&self) -> usize {
@@ -148,11 +189,13 @@ impl Pairs {
             script.put(running, 0, &own);
             script.put(1 - running, 0, &left);
         }
+        self.addresses = stranger::addresses(&mut self.draw);
+        self.speaks(0);
         self.look();
     }
 
     fn look(&mut self) {
-        self.scripts.iter_mut().for_each(|script| script.add_all("record|crc 0|crc 1"));
+        self.add_all("record|crc 0|crc 1");
     }
 
     fn end(&mut self) {
@@ -201,6 +244,29 @@ impl Pairs {
         }
     }
 
+    /// An opener, also one of 16 times 00, and strangers that differ from it in one byte, each in another.
+    fn addresses(&mut self) {
+        for (k, opener) in [vec![0x00; 16], self.draw.bytes(16), vec![0xFF; 16]].iter().enumerate() {
+            let image = self.drawn_image(1);
+            self.drawn_case("each byte of an address", 1, &image);
+            self.addresses = [opener, opener, &self.draw.bytes(16)].map(|address| hex::text(address));
+            self.speaks(0);
+            self.start();
+            self.send(&packet(1, &image.bytes));
+            for at in 0..16 {
+                let mut near = opener.clone();
+                near[at] ^= 1 << (at + k) % 8;
+                self.addresses[1] = hex::text(&near);
+                REQUESTS.iter().for_each(|code| self.asked_in_vain(*code));
+                self.strangers(4);
+            }
+            self.expect(&[TAKEN_END.to_string()]);
+            self.end();
+            self.ask(MODE_END);
+            self.look();
+        }
+    }
+
     /// What a former owner may have left: nothing, anything, the image that comes or one like it, another image.
     fn leftovers(&mut self, n: usize, image: &Image) -> Vec<u8> {
         let mut left = match self.draw.below(5) {
@@ -234,7 +300,13 @@ impl Pairs {
             let image = image::drawn(&mut self.draw, n, 1 + k % 30);
             self.drawn_case("delivery", n, &image);
             self.add("initiate");
+            // a mode before it, of another opener, leaves nothing of that one
+            if k % 3 == 1 {
+                self.other_mode();
+            }
+            self.expect(&[format!("answer 010271068703 notice 6033 {}", self.addresses[0])]);
             self.ask(MODE_START);
+            self.strangers(3);
             // a session before it, ended in any way, takes nothing from what follows
             if k % 4 == 1 {
                 self.send(&write_start(self.other_bank(), n));
@@ -244,14 +316,30 @@ impl Pairs {
             }
             // nor does a parameter fault, before the session and within it
             self.delivery(&image, k % 4 > 1);
-            self.expect(&[format!("answer 010274068403 notice 6034 01 {}", "00".repeat(16))]);
+            self.asked_in_vain(MODE_END);
+            self.expect(&[format!("answer 010274068403 notice 6034 01 {}", self.addresses[0])]);
             self.ask(MODE_END);
             self.look();
         }
     }
 
-    /// Each sector packet of a sound image at least once, in any order: the end is good, and the bank is the image. With faults, one stands
-    /// before the session and one behind each packet.
+    fn other_mode(&mut self) {
+        self.speaks(1);
+        self.ask(MODE_START);
+        self.send(&write_start(self.other_bank(), self.n));
+        match self.draw.below(2) {
+            0 => self.add_all("terminate|initiate"),
+            _ => {
+                self.end();
+                self.ask(MODE_END);
+            }
+        }
+        self.look();
+        self.speaks(0);
+    }
+
+    /// Each sector packet of a sound image at least once, in any order, and the end, all from the address that opened the mode and with strangers
+    /// between them: the end is good, and the bank is the image. With faults, one stands before the session and one behind each packet.
     fn delivery(&mut self, image: &Image, with_faults: bool) {
         let (n, to) = (self.n, self.other_bank());
         if with_faults {
@@ -267,6 +355,7 @@ impl Pairs {
                 let answer = frame::write(sector as u16, &fields, frame::END).expect("six bytes");
                 format!("answer {}", hex::text(&answer))
             });
+            self.strangers(2);
             self.expect(&answers);
             self.send(&packet(sector, data));
             if with_faults {
@@ -274,15 +363,17 @@ impl Pairs {
                 self.parameter_fault(WRITE_END);
             }
         }
+        self.asked_in_vain(WRITE_END);
         self.expect(&[TAKEN_END.to_string()]);
         self.ask(WRITE_END);
+        self.strangers(2);
         self.expect(&[format!("crc {} {} {:08X}", to, n * SECTOR, crc32(&image.bytes))]);
         self.add(format!("crc {}", to));
         if n <= 3 {
             self.expect(&[format!("show {}", hex::text(&image.bytes))]);
             self.add(format!("show {} 0 {}", to, n * SECTOR));
         }
-        self.expect(&[format!("record {} {} {} control good 1 2 3 -", n, self.running, to)]);
+        self.expect(&[format!("record {} {} {} control good {} 1 2 3 -", n, self.running, to, self.addresses[0])]);
         self.add("record");
         let most = if n > 32 { 1 } else { 4 };
         for (i, body) in image.bodies.iter().enumerate().take(most) {
@@ -304,6 +395,14 @@ impl Pairs {
         self.send(&request(WRITE_START, &wrong));
     }
 
+    /// One of the three, or the same again; it is the first then.
+    fn another_opens(&mut self) {
+        self.addresses.rotate_left(self.draw.below(3));
+        self.speaks(0);
+        self.ask(MODE_START);
+        self.send(&write_start(self.other_bank(), self.n));
+    }
+
     /// This request with a wrong parameter length, or a packet whose sector or data length is out of range.
     fn parameter_fault(&mut self, code: u8) {
         let sector = 1 + self.draw.below(self.n);
@@ -322,7 +421,7 @@ impl Pairs {
         self.send(&datagram);
     }
 
-    /// Calls of no plan on both boards, with marks and lent lengths that change, over several sessions.
+    /// Calls of no plan on both boards, with marks, lent lengths and addresses that change, over several sessions.
     fn walks(&mut self, count: usize) {
         for k in 0..count {
             let n = [1, 2, 3, 4, 2, 3, 1, 8][k % 8];
@@ -331,6 +430,10 @@ impl Pairs {
             self.start();
             for _ in 0..18 {
                 self.step(&image);
+                if self.draw.below(4) == 0 {
+                    self.strangers(3);
+                    self.look();
+                }
             }
             self.end();
             self.ask(MODE_END);
@@ -364,6 +467,7 @@ impl Pairs {
             13 | 14 => self.send(&write_start(to, n)),
             15 => {
                 self.add(format!("mark {} 01", sector));
+                self.strangers(1);
                 self.send(&packet(sector, &data));
                 self.send(&packet(sector, &data[2..]));
                 self.add("record");
@@ -371,6 +475,7 @@ impl Pairs {
             }
             16 => {
                 self.add(format!("mark {} 80", sector));
+                self.strangers(1);
                 self.end();
                 self.add(format!("marks {}", n));
             }
@@ -382,13 +487,15 @@ impl Pairs {
                 self.look();
             }
             18 => {
+                self.end();
                 self.ask(MODE_END);
-                self.ask(MODE_START);
+                self.another_opens();
             }
             19 => {
                 self.add("terminate");
                 self.look();
-                self.start();
+                self.add("initiate");
+                self.another_opens();
             }
             20 => {
                 let mut datagram = packet(sector, &data);

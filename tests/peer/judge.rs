@@ -7,11 +7,14 @@
 //! 2. A line `# expect ANSWER | ANSWER..` in the script says what the next command has to write: demands.rs puts these on deliveries.
 //! 3. The target holds what the script put there, but for the sectors that the board itself accepted, and after an end answered 06 or 1E it
 //!    holds these and 0xFF. Of two boards whose leftovers differ, the answers are alike but for 06 or 1D, and so is all else.
+//!
+//! In each, a mode is that of the address whose start was answered 06, and the record says so. Any other one is answered as 02 §5 has it, and all else is
+//! looked at as if it had not sent.
 use crate::bank::{self, MOST_SECTORS, SECTOR};
 use crate::crc::crc32;
 use crate::frame::{self, Frame};
 use crate::hex;
-use crate::script::{pair, REQUESTS, WRITE_END, WRITE_START};
+use crate::script::{self, pair, MODE_END, MODE_START, REQUESTS, WRITE_END, WRITE_START};
 use std::collections::BTreeSet;
 
 /// How often something was there to be judged.
@@ -24,6 +27,7 @@ pub struct Seen {
     pub unsound_ends: usize,
     pub worn_ends: usize,
     pub parameter_faults: usize,
+    pub strangers: usize,
     pub banks: usize,
     pub omitted_by_one: usize,
 }
@@ -132,6 +136,9 @@ struct Board {
     version: [String; 3],
     target: Vec<u8>,
     session: Option<BTreeSet<usize>>,
+    /// The address that is lent, and the one that opened the mode.
+    address: Vec<u8>,
+    opener: Option<Vec<u8>>,
     running_crc: Option<String>,
     sent: bool,
     unlooked: bool,
@@ -149,6 +156,8 @@ impl Board {
             version: Default::default(),
             target: Vec::new(),
             session: None,
+            address: Vec::new(),
+            opener: None,
             running_crc: None,
             sent: false,
             unlooked: false,
@@ -173,7 +182,7 @@ impl Board {
             (["initiate"], ["done"] | ["refused", "4"]) => Ok(()),
             (["terminate"], ["refused", "4"]) => Ok(()),
             (["terminate"], ["done"]) => {
-                self.session = None;
+                (self.session, self.opener) = (None, None);
                 Ok(())
             }
             (["send", datagram], ["refused", "1" | "2"]) => {
@@ -182,7 +191,7 @@ impl Board {
             }
             (["send", datagram], ["answer", _, notice @ ..]) => {
                 self.sent = true;
-                holds(is_notice(notice), "no such notice")?;
+                holds(is_notice(notice, &hex::text(&self.address)), "no such notice")?;
                 self.answered(frame::read(&hex::bytes(datagram).ok_or("no datagram")?), line.written)
             }
             (["record"], ["record", fields @ ..]) => self.record(fields),
@@ -208,7 +217,10 @@ impl Board {
             }
             (["marks", length], ["marks", same]) => holds(length == same, "another number of marks"),
             (["mark", sector, byte], ["mark", again, same]) => holds(sector == again && byte == same, "another mark"),
-            (["address", bytes], ["address", count]) => holds(length_of(bytes) == decimal(count), "another address"),
+            (["address", bytes], ["address", count]) => {
+                self.address = hex::bytes(bytes).ok_or("no address")?;
+                holds(Some(self.address.len()) == decimal(count), "another address")
+            }
             (["buffer", length, _], ["buffer", same]) => holds(length == same, "another buffer"),
             (["fill", bank, byte], ["fill", again, same]) => {
                 holds(bank == again && byte == same, "another fill")?;
@@ -231,6 +243,7 @@ impl Board {
         (self.n, self.running, self.next) = (n, running, running);
         self.target = vec![0xFF; n * SECTOR];
         (self.session, self.running_crc, self.sent, self.unlooked) = (None, None, false, false);
+        (self.address, self.opener) = (vec![0; 16], None);
         self.seen.cases += 1;
         Ok(())
     }
@@ -266,7 +279,7 @@ impl Board {
     }
 
     fn record(&self, fields: &[&str]) -> Judged<()> {
-        let [n, running, next, state, latest, version @ .., received] = fields else {
+        let [n, running, next, state, latest, opener, version @ .., received] = fields else {
             return Err("no such record".to_string());
         };
         let sectors: Option<Vec<usize>> = match *received {
@@ -281,6 +294,8 @@ impl Board {
         holds(matches!(*latest, "nothing" | "good" | "otherwise"), "no such end")?;
         holds(matches!(*state, "closed" | "idle" | "control" | "write"), "no such state")?;
         holds((*state == "write") == self.session.is_some(), "the state of no session")?;
+        holds(matches!(*state, "control" | "write") == self.opener.is_some(), "the state of no mode")?;
+        holds(*opener == hex::text(self.opener.as_deref().unwrap_or_default()), "another opener")?;
         holds(sectors == self.session.clone().unwrap_or_default(), "received other than accepted")
     }
 
@@ -289,6 +304,9 @@ impl Board {
         let answer = answer(written).ok_or("the answer is no frame")?;
         let noticed = matches!(&answer, Frame::Control { code: 0x71 | 0x74, parameters } if parameters == &[0x06]);
         holds(noticed == written.contains("notice"), "a notice too many, or one too few")?;
+        if self.opener.as_ref().is_some_and(|opener| *opener != self.address) {
+            return self.stranger_answered(request, written);
+        }
         match (request, answer) {
             (Some(Frame::Write { sector, data, .. }), Frame::Control { code: 0xE0, parameters }) => {
                 self.seen.parameter_faults += 1;
@@ -304,6 +322,25 @@ impl Board {
         }
     }
 
+    /// 15 in its own response, but for what is found before; and it leaves nothing behind here.
+    fn stranger_answered(&mut self, request: Option<Frame>, written: &str) -> Judged<()> {
+        self.seen.strangers += 1;
+        self.unlooked = true;
+        let wanted = match request {
+            None => frame::control(0xE0, &[0x07]),
+            Some(Frame::Write { sector, .. }) => frame::write(sector, &[0x15, 0x15, 0, 0, 0, 0], frame::END),
+            Some(Frame::Control { code, parameters }) => {
+                let length = if code == WRITE_START { 8 } else { 0 };
+                match REQUESTS.contains(&code) && parameters.len() == length {
+                    true => frame::control(script::own(code), &[0x15]),
+                    false => frame::control(0xE0, &[0x05]),
+                }
+            }
+        };
+        let wanted = format!("answer {}", hex::text(&wanted.expect("a short answer")));
+        holds(wanted == written, "a stranger is answered otherwise")
+    }
+
     fn control_answered(&mut self, code: u8, sent: &[u8], own: u8, parameters: &[u8]) -> Judged<()> {
         let result = *parameters.first().ok_or("an answer without a result")?;
         let added = match (own, result) {
@@ -312,14 +349,14 @@ impl Board {
             _ => 0,
         };
         holds(parameters.len() == 1 + added, "an answer of another length")?;
-        let documented: &[u8] = match (code, own) {
-            (_, 0xE0) => &[0x05],
-            (0x61, 0x71) | (0x62, 0x72) | (0x68, 0x78) | (WRITE_START, 0x70) | (0x64, 0x74) => &[0x06, 0x15],
-            (WRITE_END, 0x75) => &[0x06, 0x15, 0x1C, 0x1E],
-            _ => &[],
+        let known = REQUESTS.contains(&code);
+        let documented: &[u8] = match code {
+            _ if own == 0xE0 => &[0x05],
+            _ if !known || own != script::own(code) => &[],
+            WRITE_END => &[0x06, 0x15, 0x1C, 0x1E],
+            _ => &[0x06, 0x15],
         };
         holds(documented.contains(&result), "no such answer to this request")?;
-        let known = REQUESTS.contains(&code);
         let wanted = if code == WRITE_START { pair(1 - self.running, self.n) } else { Vec::new() };
         let good = known && sent == wanted;
         holds(result == 0x15 || good == (own != 0xE0), "an error for good parameters, or none for wrong ones")?;
@@ -331,6 +368,15 @@ impl Board {
                 Ok(())
             }
             (WRITE_END, 0x06 | 0x1C | 0x1E) => self.ended(result),
+            (MODE_START, 0x06) => {
+                holds(self.opener.is_none(), "a mode within a mode")?;
+                self.opener = Some(self.address.clone());
+                Ok(())
+            }
+            (MODE_END, 0x06) => {
+                self.opener = None;
+                Ok(())
+            }
             _ => Ok(()),
         }
     }
@@ -380,13 +426,13 @@ fn length_of(bytes: &str) -> Option<usize> {
     hex::bytes(bytes).map(|bytes| bytes.len())
 }
 
-fn is_notice(words: &[&str]) -> bool {
-    let address = match words {
-        [] => return true,
-        ["notice", "6033", address] | ["notice", "6034", "01" | "02" | "03", address] => address,
-        _ => return false,
-    };
-    bytes(address).is_some_and(|address| address.len() == 16)
+/// None, or one that has the sender's address.
+fn is_notice(words: &[&str], sender: &str) -> bool {
+    match words {
+        [] => true,
+        ["notice", "6033", address] | ["notice", "6034", "01" | "02" | "03", address] => *address == sender,
+        _ => false,
+    }
 }
 
 /// Two boards on the way through the same case.

@@ -17,6 +17,7 @@
 //!     peer board-cases       the script that `board` is tried with
 //!     peer board-endings     lines that are none, each of which ends a script
 //!     peer board             what the script on standard input writes, on a board with the peer's own client (docs/BOARD.md)
+//!     peer wrong-board NAME  the same on a board that goes wrong, by its name in wrong.rs
 //!     peer demands DIR       two scripts, DIR/first.script and DIR/second.script, for the user's demands
 //!     peer judge DIR         whether DIR/first.output and DIR/second.output, as a board wrote them, meet the demands
 //!     peer wrong-boards      that the script tells each wrong board from a right one, and that the judge refuses it
@@ -26,12 +27,17 @@
 //!                            so many nights over a radio by the seed, between the commands NIGHT, which is given its four words, and BOARD
 //!     peer nights-udp SEED COUNT NIGHT BOARD
 //!                            the same over sockets of the loopback, where there is one
+//!     peer nights-among SEED COUNT NIGHT BOARD
+//!                            so many nights beside another gateway
 //!     peer late NIGHT BOARD  the night on which a write start comes too late
+//!     peer taken-over NIGHT BOARD
+//!                            nights on which another gateway wants to write when ours has done so
 mod bank;
 mod bank_cases;
 mod board;
 mod board_cases;
 mod board_endings;
+mod board_strangers;
 mod cases;
 mod client;
 mod crc;
@@ -69,8 +75,11 @@ mod selftest_sending;
 mod sender;
 mod sending;
 mod sending_cases;
+mod stranger;
+mod taken_over;
 mod text_cases;
 mod texts;
+mod two_gateways;
 mod update;
 mod wrong;
 mod wrong_nights;
@@ -85,7 +94,8 @@ fn main() {
         ["selftest"] => selftest::run(),
         ["cases"] => write_out(&[cases::all(), bank_cases::all()].concat()),
         ["vectors"] => read_in().and_then(|text| write_out(&lines::answers(&text))),
-        ["board"] => board::talk(io::stdin(), BufWriter::new(io::stdout())).map_err(|e| e.to_string()),
+        ["board"] => talk(None),
+        ["wrong-board", name] => wrong::named(name).and_then(|wrong| talk(Some(wrong))),
         ["board-cases"] => write_out(&board_cases::all()),
         ["board-endings"] => write_out(&board_endings::all()),
         ["demands", directory] => demands::write(directory),
@@ -99,7 +109,11 @@ fn main() {
         ["nights-udp", seed, count, night, board] => {
             counted(seed, count).and_then(|(seed, count)| told(radio_udp::nights(seed, count, night, board)))
         }
+        ["nights-among", seed, count, night, board] => {
+            counted(seed, count).and_then(|(seed, count)| told(two_gateways::nights(seed, count, night, board)))
+        }
         ["late", night, board] => told(late::run(night, board)),
+        ["taken-over", night, board] => told(taken_over::run(night, board)),
         ["wrong-nights"] => told(wrong_nights::told()),
         ["sending-cases", ref files @ ..] => {
             let texts: Result<Vec<Vec<u8>>, String> = files.iter().map(|file| read_file(file)).collect();
@@ -166,7 +180,11 @@ fn write_files(directory: &str, kind: &str, contents: &[Vec<u8>]) -> Result<(), 
     Ok(())
 }
 
+fn talk(wrong: Option<wrong::Wrong>) -> Result<(), String> {
+    board::talk(io::stdin(), BufWriter::new(io::stdout()), wrong).map_err(|e| e.to_string())
+}
+
 /// That the checks of a board can fail.
 fn wrong_boards() -> Result<String, String> {
-    Ok(format!("{}; {}", board_cases::selftest()?, demands::selftest()?))
+    Ok(format!("{}; {}, {}", board_cases::selftest()?, demands::selftest()?, two_gateways::selftest()?))
 }

@@ -37,6 +37,17 @@ pub enum Said {
     GaveUp(String, &'static str),
 }
 
+impl Said {
+    /// That the image is in, as far as a night can tell.
+    pub fn is_in(&self) -> bool {
+        match self {
+            Said::Finished => true,
+            Said::GaveUp(name, _) => name == "mode end",
+            Said::Sends => false,
+        }
+    }
+}
+
 impl Judge {
     pub fn new(image: &[u8], bank: usize, tries: usize) -> Judge {
         let steps = night_steps::all(image, bank);

@@ -18,6 +18,8 @@ pub struct Count {
     pub late: usize,
     /// Requests that were older than one that had come, and were not handed to the board.
     pub too_old: usize,
+    /// Datagrams of other gateways.
+    pub strangers: usize,
 }
 
 impl Count {
@@ -29,6 +31,7 @@ impl Count {
         self.doubled += other.doubled;
         self.late += other.late;
         self.too_old += other.too_old;
+        self.strangers += other.strangers;
         for (name, count) in &other.gave_up {
             *self.gave_up.entry(name.clone()).or_default() += count;
         }
@@ -37,9 +40,9 @@ impl Count {
     /// In one line; nights that all come to nothing show nothing.
     pub fn told(&self, nights: usize) -> Result<String, String> {
         let gave_up: Vec<String> = self.gave_up.iter().map(|(name, count)| format!("{} {}", name, count)).collect();
-        let Count { finished, requests, lost, answers_lost, doubled, late, too_old, .. } = self;
+        let Count { finished, requests, lost, answers_lost, doubled, late, too_old, strangers, .. } = self;
         let said = format!(
-            "{} nights, {} finished, {} gave up ({}); {} requests, {} lost, {} doubled, {} too old; {} answers lost, {} late",
+            "{} nights, {} finished, {} gave up ({}); {} requests, {} lost, {} doubled, {} too old; {} answers lost, {} late; {} datagrams of strangers",
             nights,
             finished,
             nights - finished,
@@ -49,7 +52,8 @@ impl Count {
             doubled,
             too_old,
             answers_lost,
-            late
+            late,
+            strangers
         );
         match finished * 5 >= nights {
             true => Ok(said),
@@ -125,26 +129,19 @@ impl Night {
         self.program.say(&line)
     }
 
-    /// What is found in the morning. `alone`: but for losses nothing was done to requests and answers.
+    /// What is found in the morning, where nobody else has sent. `alone`: but for losses nothing was done to requests and answers.
     pub fn over(
-        mut self,
+        self,
         evening: &Evening,
         said: &Said,
         board: &mut Program,
         before: &Found,
         alone: bool,
     ) -> Result<Count, String> {
-        let status = self.program.end()?;
-        holds(status == (*said != Said::Finished) as i32, "another status than its last line says")?;
         let found = rack::look(board, evening.board_n)?;
         let running = evening.running;
         holds(found.banks[running] == before.banks[running], "the running bank has changed")?;
-        let in_place = match said {
-            Said::Finished => true,
-            Said::GaveUp(name, _) => name == "mode end",
-            Said::Sends => false,
-        };
-        if in_place {
+        if said.is_in() {
             holds(evening.sound, "an unsound image is said to be in place")?;
             holds(found.n == evening.n, "the board has another N")?;
             holds(
@@ -157,6 +154,13 @@ impl Night {
             let end_lost = self.judge.at_hand().kind == Kind::WriteEnd && self.first_end_lost;
             holds(!self.through || end_lost, "it gives up though a try went through both ways")?;
         }
+        self.ends(said)
+    }
+
+    /// Its status, and what there was.
+    pub fn ends(mut self, said: &Said) -> Result<Count, String> {
+        let status = self.program.end()?;
+        holds(status == (*said != Said::Finished) as i32, "another status than its last line says")?;
         self.count.requests = self.judge.requests;
         match said {
             Said::GaveUp(name, reason) => {

@@ -7,6 +7,9 @@ use crate::image;
 use crate::program::Program;
 use crate::script::{packet, request, write_start, Script, MODE_START, WRITE_END};
 
+/// The address that a new board is lent.
+pub const NOBODY: &str = "00000000000000000000000000000000";
+
 #[derive(Clone, Copy, PartialEq, Debug)]
 pub enum State {
     Closed,
@@ -29,6 +32,8 @@ pub struct Evening {
     pub board_n: usize,
     pub running: usize,
     pub state: State,
+    /// The address of who left it so.
+    pub former: String,
     /// A sector that is worn all night.
     pub worn: Option<usize>,
 }
@@ -38,6 +43,7 @@ pub struct Found {
     pub n: usize,
     pub next: usize,
     pub state: String,
+    pub opener: String,
     pub banks: [Vec<u8>; 2],
 }
 
@@ -68,7 +74,8 @@ impl Evening {
         let (running, count) = (draw.below(2), 1 + draw.below(if n == 32 { 30 } else { 6 }));
         let image = if draw.below(5) == 0 { image::alike(draw, n) } else { image::drawn(draw, n, count) }.bytes;
         let (bank, tries) = (1 - running, 1 + draw.below(9));
-        Evening { n, bank, tries, image, sound: true, board_n: n, running, state: State::Idle, worn: None }
+        let (state, former) = (State::Idle, NOBODY.to_string());
+        Evening { n, bank, tries, image, sound: true, board_n: n, running, state, former, worn: None }
     }
 
     /// One bit off: a body's, the table's or one of the blanks.
@@ -102,6 +109,7 @@ impl Evening {
         script.add(format!("client {} {} 1 2 3", n, running));
         script.put(running, 0, &draw.bytes(n * SECTOR));
         self.leave(&mut script, draw);
+        script.add(format!("address {}", self.former));
         match self.state {
             State::Closed => (),
             State::Idle => script.add("initiate"),
@@ -153,8 +161,9 @@ pub fn look(board: &mut Program, n: usize) -> Result<Found, String> {
     let record = board.ask("record")?;
     let fields: Vec<&str> = record.split(' ').collect();
     let number = |k: usize| fields.get(k).and_then(|field| field.parse().ok()).ok_or("no record");
+    let word = |k: usize| fields.get(k).map(|field| field.to_string()).ok_or("no record");
     let banks = [shown(board, 0, n)?, shown(board, 1, n)?];
-    Ok(Found { n: number(1)?, next: number(3)?, state: fields.get(4).copied().unwrap_or("").to_string(), banks })
+    Ok(Found { n: number(1)?, next: number(3)?, state: word(4)?, opener: word(6)?, banks })
 }
 
 /// The bytes of a bank, which its CRC-32 confirms.

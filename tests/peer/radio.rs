@@ -3,17 +3,53 @@
 use crate::bank::SECTOR;
 use crate::draw::Draw;
 use crate::hex;
-use crate::night_judge::Said;
+use crate::night_judge::{Heard, Said};
 use crate::night_run::{Count, Night};
 use crate::program::Program;
 use crate::rack::Evening;
 
 #[derive(Clone, Copy, PartialEq)]
-enum Radio {
+pub enum Radio {
     Perfect,
     /// It loses, and nothing worse.
     Losing,
     Wild,
+}
+
+impl Radio {
+    pub fn drawn(draw: &mut Draw) -> Radio {
+        [Radio::Perfect, Radio::Losing, Radio::Losing, Radio::Wild, Radio::Wild, Radio::Wild][draw.below(6)]
+    }
+
+    /// How many copies of a request come to the board.
+    pub fn copies(self, draw: &mut Draw, odds: usize, count: &mut Count) -> usize {
+        if self == Radio::Perfect {
+            return 1;
+        }
+        if draw.below(odds) == 0 {
+            count.lost += 1;
+            return 0;
+        }
+        if self == Radio::Wild && draw.below(4) == 0 {
+            count.doubled += 1;
+            return 2 + draw.below(2);
+        }
+        1
+    }
+
+    /// What is heard, of the answers that were given this night: those from `earlier` on are new.
+    pub fn heard(self, draw: &mut Draw, odds: usize, given: &[Vec<u8>], earlier: usize, night: &mut Night) -> Heard {
+        if self == Radio::Wild && !given.is_empty() && draw.below(odds + 2) == 0 {
+            let k = draw.below(given.len());
+            night.count.late += (k < earlier) as usize;
+            return Some(given[k].clone());
+        }
+        let arrived = given.len() > earlier;
+        let lost = arrived && self != Radio::Perfect && draw.below(odds) == 0;
+        night.count.answers_lost += lost as usize;
+        night.tried(arrived, arrived && !lost);
+        (arrived && !lost).then(|| given[earlier].clone())
+    }
 }
 
 pub fn nights(seed: u64, count: usize, night: &str, board: &str) -> Result<String, String> {
@@ -29,7 +65,7 @@ pub fn nights(seed: u64, count: usize, night: &str, board: &str) -> Result<Strin
 }
 
 fn one(draw: &mut Draw, night: &str, board: &mut Program) -> Result<Count, String> {
-    let radio = [Radio::Perfect, Radio::Losing, Radio::Losing, Radio::Wild, Radio::Wild, Radio::Wild][draw.below(6)];
+    let radio = Radio::drawn(draw);
     let evening = if draw.below(3) == 0 { Evening::fitting(draw) } else { Evening::any(draw) };
     let found = evening.set_up(board, draw)?;
     let host = radio == Radio::Wild && draw.below(5) == 0;
@@ -63,48 +99,17 @@ struct Air<'a> {
 
 impl Air<'_> {
     /// The request at hand goes out; what is heard then.
-    fn round(
-        &mut self,
-        draw: &mut Draw,
-        odds: usize,
-        night: &mut Night,
-        evening: &Evening,
-    ) -> Result<Option<Vec<u8>>, String> {
+    fn round(&mut self, draw: &mut Draw, odds: usize, night: &mut Night, evening: &Evening) -> Result<Heard, String> {
         if self.host && draw.below(12) == 0 {
             self.host_commands(draw)?;
         }
         let earlier = self.given.len();
-        let copies = self.copies(draw, odds, &mut night.count);
-        for _ in 0..copies {
+        for _ in 0..self.radio.copies(draw, odds, &mut night.count) {
             if let Some(answer) = self.call(draw, &night.request(), evening)? {
                 self.given.push(answer);
             }
         }
-        let arrived = self.given.len() > earlier;
-        if self.radio == Radio::Wild && !self.given.is_empty() && draw.below(odds + 2) == 0 {
-            let k = draw.below(self.given.len());
-            night.count.late += (k < earlier) as usize;
-            return Ok(Some(self.given[k].clone()));
-        }
-        let lost = arrived && self.radio != Radio::Perfect && draw.below(odds) == 0;
-        night.count.answers_lost += lost as usize;
-        night.tried(copies > 0, arrived && !lost);
-        Ok((arrived && !lost).then(|| self.given[earlier].clone()))
-    }
-
-    fn copies(&self, draw: &mut Draw, odds: usize, count: &mut Count) -> usize {
-        if self.radio == Radio::Perfect {
-            return 1;
-        }
-        if draw.below(odds) == 0 {
-            count.lost += 1;
-            return 0;
-        }
-        if self.radio == Radio::Wild && draw.below(4) == 0 {
-            count.doubled += 1;
-            return 2 + draw.below(2);
-        }
-        1
+        Ok(self.radio.heard(draw, odds, &self.given, earlier, night))
     }
 
     fn host_commands(&mut self, draw: &mut Draw) -> Result<(), String> {

@@ -14,6 +14,18 @@ pub const WRITE_END: u8 = 0x45;
 pub const MODE_END: u8 = 0x64;
 pub const REQUESTS: [u8; 6] = [MODE_START, BANK_INFORMATION, VERSION, WRITE_START, WRITE_END, MODE_END];
 
+/// The code of a request's own response.
+pub fn own(code: u8) -> u8 {
+    match code {
+        MODE_START => 0x71,
+        BANK_INFORMATION => 0x72,
+        VERSION => 0x78,
+        WRITE_START => 0x70,
+        WRITE_END => 0x75,
+        _ => 0x74,
+    }
+}
+
 pub const STATES: [&str; 4] = ["closed", "idle", "control", "write"];
 
 pub fn request(code: u8, parameters: &[u8]) -> Vec<u8> {

@@ -3,7 +3,7 @@ use crate::{bank, board, crc, frame, hex, selftest_hexout, selftest_night, selft
 
 pub fn run() -> Result<(), String> {
     let mut checks = vec![crcs(), continued(), checksums(), frames(), faults(), addresses(), banks()];
-    checks.extend([clients(), write_results(), parameter_faults()]);
+    checks.extend([clients(), write_results(), parameter_faults(), strangers(), openers()]);
     checks.extend(selftest_sending::all());
     checks.extend(selftest_hexout::all());
     checks.extend(selftest_night::all());
@@ -161,6 +161,7 @@ fn clients() -> Checks {
     let (long, longer) = ("00".repeat(512), "00".repeat(516));
     let padded = format!("01020304{}", "FF".repeat(508));
     let example_1 = format!("answer 010271068703 notice 6033 {}", none);
+    let record = format!("record 491 0 0 write nothing {} 1 2 3 1,2,3,491", none);
     let start = [
         ("a new client", "client 491 0 1 2 3", "done"),
         ("initiated", "initiate", "done"),
@@ -181,7 +182,7 @@ fn clients() -> Checks {
         ("example 8, M of 512", format!("send 0200020200{}FC03", long), "answer 02000200060606B2AA7578A303"),
         ("example 8, M of 516", format!("send 0200010204{}F903", longer), "answer 0102E0051903"),
         ("example 11", format!("send 0200030200{}ED17", padded), "answer 02000300060606132351D88C03"),
-        ("the record", "record".to_string(), "record 491 0 0 write nothing 1 2 3 1,2,3,491"),
+        ("the record", "record".to_string(), &record),
         ("a new client, N = 32", "client 32 0 1 2 3".to_string(), "done"),
         ("initiated, N = 32", "initiate".to_string(), "done"),
         ("example 1, N = 32", "send 0101619E03".to_string(), &example_1),
@@ -222,7 +223,7 @@ fn write_results() -> Checks {
         ("number 2", "send -", "refused 2"),
         ("N of 492", "client 492 0 0 0 0", "refused 3"),
         ("number 3", "send -", "refused 3"),
-        ("a record with a bad N", "record", "record 492 0 0 closed nothing 0 0 0 -"),
+        ("a record with a bad N", "record", "record 492 0 0 closed nothing - 0 0 0 -"),
     ];
     held("write results", &lines.map(|(what, line, written)| (what, line.to_string(), written)))
 }
@@ -231,7 +232,9 @@ fn write_results() -> Checks {
 /// session goes on.
 fn parameter_faults() -> Checks {
     let error = "answer 0102E0051903";
-    let started = format!("answer 010271068703 notice 6033 {}", "00".repeat(16));
+    let none = "00".repeat(16);
+    let started = format!("answer 010271068703 notice 6033 {}", none);
+    let record = format!("record 1 1 1 write nothing {} 0 0 0 1", none);
     let lines = [
         ("a new client", "client 1 1 0 0 0", "done"),
         ("a parameter too many when closed", "send 010261009D03", "refused 1"),
@@ -252,10 +255,94 @@ fn parameter_faults() -> Checks {
         ("sector 2 of 1", "send 0200020004FF8040221903", error),
         ("another address pair in write state", "send 01094014000A0014000BFF7B03", "answer 010270157903"),
         ("an end with a parameter", "send 01024500B903", error),
-        ("the session goes on", "record", "record 1 1 1 write nothing 0 0 0 1"),
+        ("the session goes on", "record", &record),
         ("a worn end", "send 010145BA03", "answer 0102751C6D03"),
     ];
     held("parameter faults", &lines.map(|(what, line, written)| (what, line.to_string(), written)))
+}
+
+const OPENER: &str = "000102030405060708090A0B0C0D0E0F";
+/// It has another last byte.
+const STRANGER: &str = "000102030405060708090A0B0C0D0E10";
+
+/// 15 for each request and packet of a stranger, by 02 §5: behind the frame, the code and the parameters' length, before values and worn marks.
+fn strangers() -> Checks {
+    let (opener, stranger) = (format!("address {}", OPENER), format!("address {}", STRANGER));
+    let started = format!("answer 010271068703 notice 6033 {}", OPENER);
+    let (control, write) = ("record 1 1 1 control nothing", "record 1 1 1 write nothing");
+    let (control, write) = (format!("{} {} 0 0 0 -", control, OPENER), format!("{} {} 0 0 0 1", write, OPENER));
+    let ended = format!("answer 010274068403 notice 6034 02 {}", OPENER);
+    let lines = [
+        ("a new client", "client 1 1 0 0 0", "done"),
+        ("initiated", "initiate", "done"),
+        ("the opener", &opener, "address 16"),
+        ("its mode start", "send 0101619E03", &started),
+        ("a stranger", &stranger, "address 16"),
+        ("mode start", "send 0101619E03", "answer 010271157803"),
+        ("bank information", "send 0101629D03", "answer 010272157703"),
+        ("version", "send 0101689703", "answer 010278157103"),
+        ("write start", "send 01094010000A0010000BFF8303", "answer 010270157903"),
+        ("another address pair", "send 01094014000A0014000BFF7B03", "answer 010270157903"),
+        ("mode end", "send 0101649B03", "answer 010274157503"),
+        ("no bytes", "send -", "answer 0102E0071703"),
+        ("code 60", "send 0101609F03", "answer 0102E0051903"),
+        ("a parameter too many", "send 010261009D03", "answer 0102E0051903"),
+        ("nothing has changed", "record", &control),
+        ("the opener again", &opener, "address 16"),
+        ("its write start", "send 01094010000A0010000BFF8303", "answer 010270068803"),
+        ("its packet", "send 0200010004FFFFFFFFFF03", "answer 0200010006061DBD7BC39F3C03"),
+        ("the stranger again", &stranger, "address 16"),
+        ("a packet", "send 0200010004FF8040221A03", "answer 0200010006151500000000CF03"),
+        ("sector 0", "send 0200000004FF8040221B03", "answer 0200000006151500000000D003"),
+        ("M of 6", "send 0200010006000000000000F903", "answer 0200010006151500000000CF03"),
+        ("a mark", "mark 1 40", "mark 1 40"),
+        ("a packet for a worn sector", "send 0200010004FF8040221A03", "answer 0200010006151500000000CF03"),
+        ("write end", "send 010145BA03", "answer 010275157403"),
+        ("no mark", "mark 1 00", "mark 1 00"),
+        ("an address too short", "address 000102030405060708090A0B0C0D0E", "address 15"),
+        ("number 2", "send 010145BA03", "refused 2"),
+        ("the session goes on", "record", &write),
+        ("nothing was stored", "show 0 0 4", "show FFFFFFFF"),
+        ("the opener once more", &opener, "address 16"),
+        ("its write end", "send 010145BA03", "answer 0102751E6B03"),
+        ("the stranger after the write end", &stranger, "address 16"),
+        ("mode end after the write end", "send 0101649B03", "answer 010274157503"),
+        ("the opener at last", &opener, "address 16"),
+        ("its mode end", "send 0101649B03", &ended),
+    ];
+    held("strangers", &lines.map(|(what, line, written)| (what, line.to_string(), written)))
+}
+
+/// How long an address is the opener's: to the end of the mode, or until the host terminates. One of 16 times 00 is one like another.
+fn openers() -> Checks {
+    let (zeros, stranger) = ("00".repeat(16), format!("address {}", STRANGER));
+    let [by_zeros, by_stranger] = [&zeros[..], STRANGER].map(|a| format!("answer 010271068703 notice 6033 {}", a));
+    let [of_zeros, of_stranger] = [&zeros[..], STRANGER].map(|a| format!("record 1 1 1 control nothing {} 0 0 0 -", a));
+    let ended = format!("answer 010274068403 notice 6034 03 {}", zeros);
+    let first = format!("address {}", zeros);
+    let lines = [
+        ("a new client", "client 1 1 0 0 0", "done"),
+        ("none when closed", "record", "record 1 1 1 closed nothing - 0 0 0 -"),
+        ("initiated", "initiate", "done"),
+        ("a mode start from 16 times 00", "send 0101619E03", &by_zeros),
+        ("the opener", "record", &of_zeros),
+        ("a stranger", &stranger, "address 16"),
+        ("its mode end", "send 0101649B03", "answer 010274157503"),
+        ("16 times 00", &first, "address 16"),
+        ("mode end", "send 0101649B03", &ended),
+        ("none in idle state", "record", "record 1 1 1 idle nothing - 0 0 0 -"),
+        ("the stranger again", &stranger, "address 16"),
+        ("15 in idle state, by the state alone", "send 0101649B03", "answer 010274157503"),
+        ("its mode start", "send 0101619E03", &by_stranger),
+        ("the new opener", "record", &of_stranger),
+        ("the former one", &first, "address 16"),
+        ("is a stranger now", "send 0101649B03", "answer 010274157503"),
+        ("terminated", "terminate", "done"),
+        ("none when terminated", "record", "record 1 1 1 closed nothing - 0 0 0 -"),
+        ("initiated again", "initiate", "done"),
+        ("a mode start from 16 times 00 again", "send 0101619E03", &by_zeros),
+    ];
+    held("openers", &lines.map(|(what, line, written)| (what, line.to_string(), written)))
 }
 
 fn held(about: &str, lines: &[(&str, String, &str)]) -> Checks {

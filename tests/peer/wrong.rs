@@ -1,6 +1,6 @@
 //! Clients that go wrong on purpose: what the checks have to see. The paper's 'Shortcuts that bring the leftovers back', what it shuts out
-//! under 'How much each function must say', slips of order, 05 where it stood before 02 §3, and the "discarded" of J11 7.2 taken for
-//! all that the session received.
+//! under 'How much each function must say', slips of order, 05 where it stood before 02 §3, the "discarded" of J11 7.2 taken for
+//! all that the session received, and what goes wrong about the address that opened the mode (02 §5).
 
 #[derive(Clone, Copy, PartialEq, Debug)]
 pub enum Wrong {
@@ -50,13 +50,43 @@ pub enum Wrong {
     TakesRunning,
     /// The end of the mode forgets how the session ended.
     ForgetsEnd,
+    /// Whoever sends is taken for who opened the mode.
+    Everyone,
+    /// Of the two addresses the last byte is not compared.
+    ComparesFirst15,
+    /// Of the two addresses the first byte is not compared.
+    ComparesLast15,
+    /// An opener whose address is 16 times 00 counts as none.
+    ZerosOpenNothing,
+    /// The end of the mode leaves the opener: in idle state the others are answered 15.
+    KeepsOpenerIdle,
+    /// Terminate leaves the opener: in idle state the others are answered 15.
+    KeepsOpenerClosed,
+    /// The first opener stays for good: another one may open the mode, and is a stranger in it.
+    KeepsFirstOpener,
+    /// The end of a write session forgets the opener.
+    ForgetsOpener,
+    /// A mode start that is answered 15 makes its sender the opener.
+    TakesOver,
+    /// A write end is taken from anyone.
+    AnyoneEnds,
+    /// Packets are taken from anyone.
+    AnyonesPackets,
+    /// A stranger's packet is answered 15, and stored.
+    StoresStrangers,
+    /// A stranger is answered 15 by Respond Error.
+    StrangersError,
+    /// The address is looked at before the parameters' length.
+    AddressFirst,
+    /// The address is looked at behind state and values.
+    AddressLast,
     /// No call is taken.
     RefusesAll,
     /// Every datagram has the answer of a good end.
     OneAnswer,
 }
 
-pub const ALL: [Wrong; 25] = [
+pub const ALL: [Wrong; 40] = [
     Wrong::KeepsTail,
     Wrong::ComparesSent,
     Wrong::SkipsBlanks,
@@ -80,6 +110,26 @@ pub const ALL: [Wrong; 25] = [
     Wrong::FaultDiscards,
     Wrong::TakesRunning,
     Wrong::ForgetsEnd,
+    Wrong::Everyone,
+    Wrong::ComparesFirst15,
+    Wrong::ComparesLast15,
+    Wrong::ZerosOpenNothing,
+    Wrong::KeepsOpenerIdle,
+    Wrong::KeepsOpenerClosed,
+    Wrong::KeepsFirstOpener,
+    Wrong::ForgetsOpener,
+    Wrong::TakesOver,
+    Wrong::AnyoneEnds,
+    Wrong::AnyonesPackets,
+    Wrong::StoresStrangers,
+    Wrong::StrangersError,
+    Wrong::AddressFirst,
+    Wrong::AddressLast,
     Wrong::RefusesAll,
     Wrong::OneAnswer,
 ];
+
+/// By its name here.
+pub fn named(name: &str) -> Result<Wrong, String> {
+    ALL.into_iter().find(|wrong| format!("{:?}", wrong) == name).ok_or_else(|| format!("no wrong board {}", name))
+}

@@ -6,6 +6,7 @@ use client::notice::Kind;
 use client::notice::Notice;
 use client::record::Client;
 use client::step::Stepped;
+use decision::plan::ADDRESS;
 use exchange::answer::Answer;
 use exchange::answer::Refusal;
 use script::say;
@@ -22,13 +23,13 @@ fn say_code(kind: Kind) {
     say::text(b" ");
 }
 
-fn say_started(address: [u8; 16]) {
+fn say_started(address: [u8; ADDRESS]) {
     say_code(Kind::Started);
     say::bytes(&address);
     say::end();
 }
 
-fn say_ended(result: u8, address: [u8; 16]) {
+fn say_ended(result: u8, address: [u8; ADDRESS]) {
     say_code(Kind::Ended);
     say::byte(result);
     say::text(b" ");

@@ -5,6 +5,7 @@ use crate::word::Show;
 use crate::wrong::Wrong;
 use client::record::Client;
 use client::record::Latest;
+use decision::plan::ADDRESS;
 use exchange::state::State;
 use layout::Bank;
 use layout::MOST;
@@ -49,6 +50,16 @@ fn say_latest(latest: Latest) {
     }
 }
 
+// The address that opened the mode, while one is open.
+fn say_opener(state: State, opener: [u8; ADDRESS]) {
+    say::text(b" ");
+    if exchange::state::is_open(state) {
+        say::bytes(&opener);
+    } else {
+        say::text(b"-");
+    }
+}
+
 fn say_bank(bank: Bank) {
     say::field(layout::bank_number(bank) as usize);
 }
@@ -90,6 +101,7 @@ fn say_record(client: Client) {
     let next = client.next;
     let state = client.state;
     let latest = client.latest;
+    let opener = client.opener;
     let received = client.received;
     say::text(b"record");
     say::field(fixed.n);
@@ -97,6 +109,7 @@ fn say_record(client: Client) {
     say_bank(next);
     say_state(state);
     say_latest(latest);
+    say_opener(state, opener);
     say_version(fixed.major, fixed.minor, fixed.revision);
     say::text(b" ");
     say_received(received);

@@ -3,6 +3,7 @@ ghost use Prim.Native.Nat.{_≤_};
 use crate::wrong;
 use crate::wrong::Wrong;
 use client::record::Client;
+use decision::plan::ADDRESS;
 use layout::MOST;
 use layout::SECTOR;
 
@@ -17,7 +18,6 @@ pub const BUFFER_ROOM: usize = 1_024;
 
 // How much of each room is lent to the client is a number of its own.
 pub struct Board {
-    pub client: Client,
     pub bank0: u32,
     pub bank1: u32,
     pub marks: [u8; MARKS_ROOM],
@@ -28,6 +28,8 @@ pub struct Board {
     pub buffer_lent: u32,
     // As many bytes as the latest answer in the buffer has.
     pub answered: usize,
+    // Behind the rooms, whose lengths the proofs look for from the front.
+    pub client: Client,
     // Whether the latest line was a line of the script; the first that is none ends it, and this is what is wrong with it.
     pub known: bool,
     pub wrong: Wrong,
@@ -51,7 +53,7 @@ pub(crate) fn fresh(client: Client) -> Board {
         marks: [0u8; MARKS_ROOM],
         marks_lent: lent,
         address: [0u8; ADDRESS_ROOM],
-        address_lent: 16,
+        address_lent: ADDRESS as u32,
         buffer: [0xA5u8; BUFFER_ROOM],
         buffer_lent: 14,
         answered: 0,

@@ -29,7 +29,7 @@ use Rattle.client.proofs.Numbers.{take-says, beside-says}
 
 -- do, and then say
 pub carry-is : (c : Client) (plan : Plan) (target address buffer bytes : List ℕ) (notice : Notice) (s : Served) (after answered : List ℕ) (n : ℕ)
-    → notice ≡ noticeOf plan (c .latest) address → Served·Is (servedOf c plan target bytes) s after → Say·Is (s .answer) buffer answered n
+    → notice ≡ noticeOf plan (c .latest) address → Served·Is (servedOf c plan target address bytes) s after → Say·Is (s .answer) buffer answered n
     → Carried·Is (carriedOf c plan target address buffer bytes) (record { client = s .client; answer = s .answer; length = n; notice = notice }) after answered
 unfolding carriedOf
 carry-is c plan target address buffer bytes notice s after answered n e d a =

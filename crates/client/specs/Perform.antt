@@ -72,15 +72,15 @@ checkedOf c target =
 abbrev pub finishOf : Client → List ℕ → Done
 finishOf c target = checkedOf c (sweptOf target (c .fixed .n) (c .received))
 
--- a plan, the target bank, the data of the datagram; at a write start the next-start bank is set first
-unfoldable pub servedOf : Client → Plan → List ℕ → List ℕ → Done
-servedOf c (Keep answer) target bytes = done c answer target
-servedOf c Open target bytes = done (opened c) (Response ModeStart 0x06) target
-servedOf c Leave target bytes = done (modeEnded c) (Response ModeEnd 0x06) target
-servedOf c Begin target bytes = done (begun (starting (c .fixed .running) c)) (Response WriteStart 0x06) target
-servedOf c (Store sector) target bytes = storeOf c sector bytes target
-servedOf c Wear target bytes = done (ended Otherwise c) (Response WriteEnd 0x1C) target
-servedOf c Finish target bytes = finishOf c target
+-- a plan, the target bank, the sender's address, the data of the datagram; at a write start the next-start bank is set first
+unfoldable pub servedOf : Client → Plan → List ℕ → List ℕ → List ℕ → Done
+servedOf c (Keep answer) target address bytes = done c answer target
+servedOf c Open target address bytes = done (opened address c) (Response ModeStart 0x06) target
+servedOf c Leave target address bytes = done (modeEnded c) (Response ModeEnd 0x06) target
+servedOf c Begin target address bytes = done (begun (starting (c .fixed .running) c)) (Response WriteStart 0x06) target
+servedOf c (Store sector) target address bytes = storeOf c sector bytes target
+servedOf c Wear target address bytes = done (ended Otherwise c) (Response WriteEnd 0x1C) target
+servedOf c Finish target address bytes = finishOf c target
 
 abbrev pub served : Client → Answer → Served
 served c answer = record { client = c; answer = answer }
@@ -104,3 +104,13 @@ Fair Begin target = Unit {0}
 Fair (Store sector) target = Storable sector target
 Fair Wear target = Unit {0}
 Fair Finish target = Unit {0}
+
+-- what it needs of the address: where it is kept or told to the host it has its 16 bytes
+abbrev pub Addressed : Plan → ℕ → Type 0
+Addressed (Keep answer) address = Unit {0}
+Addressed Open address = address ≡ 16
+Addressed Leave address = address ≡ 16
+Addressed Begin address = Unit {0}
+Addressed (Store sector) address = Unit {0}
+Addressed Wear address = Unit {0}
+Addressed Finish address = Unit {0}

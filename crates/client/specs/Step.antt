@@ -38,16 +38,6 @@ noticeOf (Store sector) latest address = noNotice
 noticeOf Wear latest address = noNotice
 noticeOf Finish latest address = noNotice
 
--- where there is a notice, the address has its 16 bytes
-abbrev pub Addressed : Plan → ℕ → Type 0
-Addressed (Keep answer) address = Unit {0}
-Addressed Open address = address ≡ 16
-Addressed Leave address = address ≡ 16
-Addressed Begin address = Unit {0}
-Addressed (Store sector) address = Unit {0}
-Addressed Wear address = Unit {0}
-Addressed Finish address = Unit {0}
-
 -- what a plan leads to, said and done
 pub record Carried : Type 0 where
   pub client : Client
@@ -71,7 +61,7 @@ saidOf d notice buffer =
 
 -- a plan carried out on a target, with the data that the datagram has
 unfoldable pub carriedOf : Client → Plan → List ℕ → List ℕ → List ℕ → List ℕ → Carried
-carriedOf c plan target address buffer bytes = saidOf (servedOf c plan target bytes) (noticeOf plan (c .latest) address) buffer
+carriedOf c plan target address buffer bytes = saidOf (servedOf c plan target address bytes) (noticeOf plan (c .latest) address) buffer
 
 pub record Carried·Is (d : Carried) (r : Stepped) (after answered : List ℕ) : Type 0 where
   pub client : r .client ≡ d .client

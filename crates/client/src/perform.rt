@@ -12,7 +12,7 @@ ghost use Prim.Native.Nat.{_≤_};
 ghost use lib.ListN.{length};
 ghost use Rattle.layout.specs.Layout.{bankSize, mostSectors};
 ghost use Rattle.client.specs.Record.{starting, begun};
-ghost use Rattle.client.specs.Perform.{fitOf, storeResult, sectorCrc, storeOf, checkedOf, finishOf, servedOf, served, Served·Is, Fair};
+ghost use Rattle.client.specs.Perform.{fitOf, storeResult, sectorCrc, storeOf, checkedOf, finishOf, servedOf, served, Served·Is, Fair, Addressed};
 ghost use Rattle.exchange.specs.declared.answer.Answer.the-variants.{Response};
 
 pub(crate) struct Served {
@@ -121,16 +121,17 @@ impl Client {
         self.starting(running).begun()
     }
 
-    pub(crate) fn serve(self, plan: Plan, target: &mut [u8], bytes: &[u8]) -> Served
+    pub(crate) fn serve(self, plan: Plan, target: &mut [u8], address: &[u8], bytes: &[u8]) -> Served
         requires { ⌜ Fair plan (length (now target)) ⌝ }
-        ensures { λ r. ⌜ Served·Is (servedOf self plan (now (target .entry)) (now (bytes .entry))) r (now (target .exit)) ⌝ }
+        requires { ⌜ Addressed plan (length (now address)) ⌝ }
+        ensures { λ r. ⌜ Served·Is (servedOf self plan (now (target .entry)) (now (address .entry)) (now (bytes .entry))) r (now (target .exit)) ⌝ }
     {
         match plan {
             Plan::Keep(answer) => Served {
                 client: self,
                 answer,
             },
-            Plan::Open => self.opened().responds(Command::ModeStart, 0x06),
+            Plan::Open => self.opened(address).responds(Command::ModeStart, 0x06),
             Plan::Leave => self.left(State::Idle).responds(Command::ModeEnd, 0x06),
             Plan::Begin => self.begin().responds(Command::WriteStart, 0x06),
             Plan::Store { sector } => self.store(target, sector, bytes),

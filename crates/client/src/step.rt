@@ -9,9 +9,8 @@ use exchange::answer::Refusal;
 use layout::Bank;
 ghost use mathlib.Core.Path.{_≡_};
 ghost use lib.ListN.{length};
-ghost use Rattle.frame.specs.Read.{dataIn};
-ghost use Rattle.client.specs.Perform.{Fair};
-ghost use Rattle.client.specs.Step.{noticeOf, Addressed, carriedOf, besideOf, Carried·Is, Keeps, Take·Is, Step·Is};
+ghost use Rattle.client.specs.Perform.{Fair, Addressed};
+ghost use Rattle.client.specs.Step.{noticeOf, carriedOf, besideOf, Carried·Is, Keeps, Take·Is, Step·Is};
 
 pub struct Stepped {
     pub client: Client,
@@ -57,7 +56,7 @@ impl Client {
     {
         let latest = self.latest;
         let notice = notice_for(plan, latest, address);
-        let served = self.serve(plan, target, bytes);
+        let served = self.serve(plan, target, address, bytes);
         let answer = served.answer;
         let length = exchange::answer::say(answer, buffer);
         let client = served.client;

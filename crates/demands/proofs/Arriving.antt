@@ -7,6 +7,7 @@ use mathlib.Core.Option.{Option, none, some}
 use Prim.Native.Nat.{ℕ, _≤_}
 use lib.Dec.{eqb}
 use lib.ListN.{length}
+use Rattle.frame.specs.Frame.{frameError}
 use Rattle.frame.specs.Read.{readOf}
 use Rattle.layout.specs.Layout.{goodN, bankSize}
 use Rattle.layout.specs.Pair.{bankIn}
@@ -15,7 +16,7 @@ use Rattle.decision.specs.Plan.{lentGood}
 use Rattle.decision.proofs.Planning.{lent}
 use Rattle.calls.specs.Call.{Board}
 use Rattle.demands.specs.Board.{LentCall, Input, Datagram, Outcome, lentOf, lentTarget, stepMachine}
-use Rattle.demands.specs.Demand1.{Row, firstOf, isFault, refused, afterFrame, callRows, tableOf}
+use Rattle.demands.specs.Demand1.{Row, firstOf, isFault, refused, answered, afterFrame, callRows, tableOf}
 use Rattle.demands.proofs.Demand1.{table}
 use Rattle.demands.proofs.Rows.{Heard, given, comes}
 
@@ -58,21 +59,26 @@ module _ (b : Board) (call : LentCall) where
   roomy h =
       lent (b .client .fixed .n) (length (lentTarget b call)) (length (call .marks)) (length (call .address)) (length (call .buffer)) (h .lengths) .roomy
 
-  pub came : (P : Outcome → Type 0) → ((number : ℕ) → P (refused b (call .buffer) number)) → isFault (readOf (call .datagram)) ≡ false
-      → (Heard b call → First P (afterFrame b call (readOf (call .datagram)))) → P (stepMachine b (Datagram call))
-  came P r f rows = by (goodN (b .client .fixed .n)) runs lengths (isClosed (b .client .state)) refl refl refl refl
+  pub came : (P : Outcome → Type 0) → ((number : ℕ) → P (refused b (call .buffer) number))
+      → (isFault (readOf (call .datagram)) ≡ true → Heard b call → P (answered b call frameError))
+      → (isFault (readOf (call .datagram)) ≡ false → Heard b call → First P (afterFrame b call (readOf (call .datagram))))
+      → P (stepMachine b (Datagram call))
+  came P r fault rows = by (goodN (b .client .fixed .n)) runs lengths (isClosed (b .client .state)) (isFault (readOf (call .datagram))) refl refl refl refl refl
     where
       refuses : (k : ℕ) → firstOf (callRows b call) ≡ some (refused b (call .buffer) k) → P (stepMachine b (Datagram call))
       refuses k e = subst P (sym (comes b (Datagram call) (refused b (call .buffer) k) e)) (r k)
 
-      by : (g u l c : Bool) → goodN (b .client .fixed .n) ≡ g → runs ≡ u → lengths ≡ l → isClosed (b .client .state) ≡ c
-          → P (stepMachine b (Datagram call))
-      by false u l c eg eu el ec = refuses 3 (rw eg)
-      by true false l c eg eu el ec = refuses 2 (rw (eg, eu))
-      by true true false c eg eu el ec = refuses 2 (rw (eg, eu, el))
-      by true true true true eg eu el ec = refuses 1 (rw (eg, eu, el, ec))
-      by true true true false eg eu el ec =
-          let rest : firstOf (callRows b call) ≡ firstOf (afterFrame b call (readOf (call .datagram))) = rw (eg, eu, el, ec, f) in
+      by : (g u l c f : Bool) → goodN (b .client .fixed .n) ≡ g → runs ≡ u → lengths ≡ l → isClosed (b .client .state) ≡ c
+          → isFault (readOf (call .datagram)) ≡ f → P (stepMachine b (Datagram call))
+      by false u l c f eg eu el ec ef = refuses 3 (rw eg)
+      by true false l c f eg eu el ec ef = refuses 2 (rw (eg, eu))
+      by true true false c f eg eu el ec ef = refuses 2 (rw (eg, eu, el))
+      by true true true true f eg eu el ec ef = refuses 1 (rw (eg, eu, el, ec))
+      by true true true false true eg eu el ec ef =
+          subst P (sym (comes b (Datagram call) (answered b call frameError) (rw (eg, eu, el, ec, ef))))
+          (fault ef (record { good = eg; runs = eu; lengths = el; live = ec }))
+      by true true true false false eg eu el ec ef =
+          let rest : firstOf (callRows b call) ≡ firstOf (afterFrame b call (readOf (call .datagram))) = rw (eg, eu, el, ec, ef) in
           first-of P (afterFrame b call (readOf (call .datagram))) (stepMachine b (Datagram call))
-          (rows (record { good = eg; runs = eu; lengths = el; live = ec }))
+          (rows ef (record { good = eg; runs = eu; lengths = el; live = ec }))
           (sym rest ∙ table b (Datagram call))

@@ -52,6 +52,7 @@ use Rattle.decision.specs.Plan.{
   planPacket,
   planControl,
   planGood,
+  isStranger,
   planRequest,
   planAsked,
   planOf,
@@ -68,7 +69,7 @@ use Rattle.client.specs.Step.{Carried, carriedOf, takeOf, besideOf}
 use Rattle.calls.proofs.Leading.{fits-stored, storing}
 use Rattle.calls.specs.Call.{Board, board}
 use Rattle.demands.specs.Board.{LentCall, Input, Initiate, Terminate, Datagram, Outcome, lentOf, backIn, lentTarget, callOutcome, stepMachine}
-use Rattle.demands.specs.Demand1.{firstOf, isFault, refused, changed, answered, stored, parameterError, afterFrame, callRows, tableOf, sweptTarget, Meets1}
+use Rattle.demands.specs.Demand1.{firstOf, isFault, fromStranger, refused, changed, answered, stored, parameterError, afterFrame, callRows, tableOf, sweptTarget, Meets1}
 use Rattle.demands.proofs.Lending.{back-with, whole-again}
 use Rattle.demands.proofs.Steps.{run-stays, run-running}
 
@@ -140,9 +141,9 @@ module _ (b : Board) (call : LentCall) where
 -- ---- a datagram, as it is read
 
 -- the board in each state, so that a state's row computes
-module _ (fixed : Fixed) (next : Bank) (latest : Latest) (received : List Bool) (pair : Banks) (call : LentCall) where
+module _ (fixed : Fixed) (next : Bank) (latest : Latest) (opener : List ℕ) (received : List Bool) (pair : Banks) (call : LentCall) where
   abbrev c : State → Client
-  c s = record { fixed = fixed; next = next; state = s; latest = latest; received = received }
+  c s = record { fixed = fixed; next = next; state = s; latest = latest; opener = opener; received = received }
 
   abbrev at : State → Board
   at s = board (c s) pair
@@ -153,7 +154,7 @@ module _ (fixed : Fixed) (next : Bank) (latest : Latest) (received : List Bool) 
   abbrev comesOf : State → Read → Outcome
   comesOf s r =
       callOutcome (at s) call
-      (carriedOf (c s) (planAsked (standingOf (c s)) (askedBy (parametersIn d) r) (call .marks)) (lentTarget (at s) call) (call .address) (call .buffer) (dataIn d))
+      (carriedOf (c s) (planAsked (standingOf (c s)) (askedBy (parametersIn d) r) (call .marks) (call .address)) (lentTarget (at s) call) (call .address) (call .buffer) (dataIn d))
 
   abbrev Holds : State → Read → Type 0
   Holds s r = firstOf (afterFrame (at s) call r) ≡ some (comesOf s r)
@@ -188,62 +189,72 @@ module _ (fixed : Fixed) (next : Bank) (latest : Latest) (received : List Bool) 
         → some (stored (at s) call (r .client) (r .target) (answerBytes answer)) ≡ some (callOutcome (at s) call r)
     left s answer r a f n z = ap some (sym (stored-is (at s) call r (r .client) (r .target) answer (says s r answer a f) refl refl n z))
 
-    code-61 : (m : ℕ) (t : Bool) (s : State) → eqb m 0 ≡ t → isClosed s ≡ false → Holds s (Control 0x61 m)
-    unfolding Tells askedBy codedBy counted planAsked planRequest planGood planControl carriedOf servedOf answerBytes
-    code-61 m false s z l = rw z (faulty s _ refl (refl, refl) refl)
-    code-61 m true state.Closed z l = closed-not l
-    code-61 m true state.Idle z l = rw z (kept state.Idle (Response ModeStart 0x06) _ refl (refl, refl) refl refl)
-    code-61 m true state.Control z l = rw z (kept state.Control (Response ModeStart 0x15) _ refl (refl, refl) refl refl)
-    code-61 m true state.Write z l = rw z (kept state.Write (Response ModeStart 0x15) _ refl (refl, refl) refl refl)
+    -- from the address that opened the mode, or while none is open
+    abbrev strange : State → Bool
+    strange s = fromStranger (c s) (call .address)
 
-    code-62 : (m : ℕ) (t : Bool) (s : State) → eqb m 0 ≡ t → isClosed s ≡ false → Holds s (Control 0x62 m)
-    unfolding Tells askedBy codedBy counted planAsked planRequest planGood planControl carriedOf servedOf answerBytes
-    code-62 m false s z l = rw z (faulty s _ refl (refl, refl) refl)
-    code-62 m true state.Closed z l = closed-not l
-    code-62 m true state.Idle z l = rw z (kept state.Idle (Response BankInfo 0x15) _ refl (refl, refl) refl refl)
-    code-62 m true state.Control z l = rw z (kept state.Control (BankIs (otherOf (fixed .running))) _ refl (refl, refl) refl refl)
-    code-62 m true state.Write z l = rw z (kept state.Write (Response BankInfo 0x15) _ refl (refl, refl) refl refl)
+    code-61 : (m : ℕ) (t x : Bool) (s : State) → eqb m 0 ≡ t → strange s ≡ x → isClosed s ≡ false → Holds s (Control 0x61 m)
+    unfolding Tells askedBy codedBy counted planAsked planRequest isStranger planGood planControl carriedOf servedOf answerBytes
+    code-61 m false x s z y l = rw z (faulty s _ refl (refl, refl) refl)
+    code-61 m true true s z y l = rw (z, y) (kept s (Response ModeStart 0x15) _ refl (refl, refl) refl refl)
+    code-61 m true false state.Closed z y l = closed-not l
+    code-61 m true false state.Idle z y l = rw z (kept state.Idle (Response ModeStart 0x06) _ refl (refl, refl) refl refl)
+    code-61 m true false state.Control z y l = rw (z, y) (kept state.Control (Response ModeStart 0x15) _ refl (refl, refl) refl refl)
+    code-61 m true false state.Write z y l = rw (z, y) (kept state.Write (Response ModeStart 0x15) _ refl (refl, refl) refl refl)
 
-    code-68 : (m : ℕ) (t : Bool) (s : State) → eqb m 0 ≡ t → isClosed s ≡ false → Holds s (Control 0x68 m)
-    unfolding Tells askedBy codedBy counted planAsked planRequest planGood planControl carriedOf servedOf answerBytes
-    code-68 m false s z l = rw z (faulty s _ refl (refl, refl) refl)
-    code-68 m true state.Closed z l = closed-not l
-    code-68 m true state.Idle z l = rw z (kept state.Idle (Response VersionInfo 0x15) _ refl (refl, refl) refl refl)
-    code-68 m true state.Control z l = rw z (kept state.Control (VersionIs (fixed .major) (fixed .minor) (fixed .revision)) _ refl (refl, refl) refl refl)
-    code-68 m true state.Write z l = rw z (kept state.Write (Response VersionInfo 0x15) _ refl (refl, refl) refl refl)
+    code-62 : (m : ℕ) (t x : Bool) (s : State) → eqb m 0 ≡ t → strange s ≡ x → isClosed s ≡ false → Holds s (Control 0x62 m)
+    unfolding Tells askedBy codedBy counted planAsked planRequest isStranger planGood planControl carriedOf servedOf answerBytes
+    code-62 m false x s z y l = rw z (faulty s _ refl (refl, refl) refl)
+    code-62 m true true s z y l = rw (z, y) (kept s (Response BankInfo 0x15) _ refl (refl, refl) refl refl)
+    code-62 m true false state.Closed z y l = closed-not l
+    code-62 m true false state.Idle z y l = rw z (kept state.Idle (Response BankInfo 0x15) _ refl (refl, refl) refl refl)
+    code-62 m true false state.Control z y l = rw (z, y) (kept state.Control (BankIs (otherOf (fixed .running))) _ refl (refl, refl) refl refl)
+    code-62 m true false state.Write z y l = rw (z, y) (kept state.Write (Response BankInfo 0x15) _ refl (refl, refl) refl refl)
 
-    code-64 : (m : ℕ) (t : Bool) (s : State) → eqb m 0 ≡ t → isClosed s ≡ false → Holds s (Control 0x64 m)
-    unfolding Tells askedBy codedBy counted planAsked planRequest planGood planControl carriedOf servedOf answerBytes
-    code-64 m false s z l = rw z (faulty s _ refl (refl, refl) refl)
-    code-64 m true state.Closed z l = closed-not l
-    code-64 m true state.Idle z l = rw z (kept state.Idle (Response ModeEnd 0x15) _ refl (refl, refl) refl refl)
-    code-64 m true state.Control z l = rw z (kept state.Control (Response ModeEnd 0x06) _ refl (refl, refl) refl refl)
-    code-64 m true state.Write z l = rw z (kept state.Write (Response ModeEnd 0x15) _ refl (refl, refl) refl refl)
+    code-68 : (m : ℕ) (t x : Bool) (s : State) → eqb m 0 ≡ t → strange s ≡ x → isClosed s ≡ false → Holds s (Control 0x68 m)
+    unfolding Tells askedBy codedBy counted planAsked planRequest isStranger planGood planControl carriedOf servedOf answerBytes
+    code-68 m false x s z y l = rw z (faulty s _ refl (refl, refl) refl)
+    code-68 m true true s z y l = rw (z, y) (kept s (Response VersionInfo 0x15) _ refl (refl, refl) refl refl)
+    code-68 m true false state.Closed z y l = closed-not l
+    code-68 m true false state.Idle z y l = rw z (kept state.Idle (Response VersionInfo 0x15) _ refl (refl, refl) refl refl)
+    code-68 m true false state.Control z y l = rw (z, y) (kept state.Control (VersionIs (fixed .major) (fixed .minor) (fixed .revision)) _ refl (refl, refl) refl refl)
+    code-68 m true false state.Write z y l = rw (z, y) (kept state.Write (Response VersionInfo 0x15) _ refl (refl, refl) refl refl)
+
+    code-64 : (m : ℕ) (t x : Bool) (s : State) → eqb m 0 ≡ t → strange s ≡ x → isClosed s ≡ false → Holds s (Control 0x64 m)
+    unfolding Tells askedBy codedBy counted planAsked planRequest isStranger planGood planControl carriedOf servedOf answerBytes
+    code-64 m false x s z y l = rw z (faulty s _ refl (refl, refl) refl)
+    code-64 m true true s z y l = rw (z, y) (kept s (Response ModeEnd 0x15) _ refl (refl, refl) refl refl)
+    code-64 m true false state.Closed z y l = closed-not l
+    code-64 m true false state.Idle z y l = rw z (kept state.Idle (Response ModeEnd 0x15) _ refl (refl, refl) refl refl)
+    code-64 m true false state.Control z y l = rw (z, y) (kept state.Control (Response ModeEnd 0x06) _ refl (refl, refl) refl refl)
+    code-64 m true false state.Write z y l = rw (z, y) (kept state.Write (Response ModeEnd 0x15) _ refl (refl, refl) refl refl)
 
     -- the address pair
     abbrev pair-good : Bool
     pair-good = addressesGood (fixed .n) (fixed .running) (numberAt 4 (parametersIn d) 0) (numberAt 4 (parametersIn d) 4)
 
-    code-40 : (m : ℕ) (t : Bool) (s : State) (v : Bool) → eqb m 8 ≡ t → pair-good ≡ v → isClosed s ≡ false → Holds s (Control 0x40 m)
-    unfolding Tells askedBy codedBy counted planAsked planRequest planGood planControl carriedOf servedOf answerBytes planStart
-    code-40 m false s v z a l = rw z (faulty s _ refl (refl, refl) refl)
-    code-40 m true state.Closed v z a l = closed-not l
-    code-40 m true state.Idle v z a l = rw z (kept state.Idle (Response WriteStart 0x15) _ refl (refl, refl) refl refl)
-    code-40 m true state.Control false z a l = rw (z, a) (faulty state.Control _ refl (refl, refl) refl)
-    code-40 m true state.Control true z a l = rw (z, a) (kept state.Control (Response WriteStart 0x06) _ refl (refl, refl) refl refl)
-    code-40 m true state.Write v z a l = rw z (kept state.Write (Response WriteStart 0x15) _ refl (refl, refl) refl refl)
+    code-40 : (m : ℕ) (t x : Bool) (s : State) (v : Bool) → eqb m 8 ≡ t → strange s ≡ x → pair-good ≡ v → isClosed s ≡ false → Holds s (Control 0x40 m)
+    unfolding Tells askedBy codedBy counted planAsked planRequest isStranger planGood planControl carriedOf servedOf answerBytes planStart
+    code-40 m false x s v z y a l = rw z (faulty s _ refl (refl, refl) refl)
+    code-40 m true true s v z y a l = rw (z, y) (kept s (Response WriteStart 0x15) _ refl (refl, refl) refl refl)
+    code-40 m true false state.Closed v z y a l = closed-not l
+    code-40 m true false state.Idle v z y a l = rw z (kept state.Idle (Response WriteStart 0x15) _ refl (refl, refl) refl refl)
+    code-40 m true false state.Control false z y a l = rw (z, y, a) (faulty state.Control _ refl (refl, refl) refl)
+    code-40 m true false state.Control true z y a l = rw (z, y, a) (kept state.Control (Response WriteStart 0x06) _ refl (refl, refl) refl refl)
+    code-40 m true false state.Write v z y a l = rw (z, y) (kept state.Write (Response WriteStart 0x15) _ refl (refl, refl) refl refl)
 
     -- the worn marks, and then what the sweep left
-    code-45 : (m : ℕ) (t : Bool) (s : State) (w f : Bool) → eqb m 0 ≡ t → anyWorn (call .marks) ≡ w
+    code-45 : (m : ℕ) (t x : Bool) (s : State) (w f : Bool) → eqb m 0 ≡ t → strange s ≡ x → anyWorn (call .marks) ≡ w
         → fitOf fixed (sweptTarget (at state.Write) call) ≡ f → isClosed s ≡ false → Holds s (Control 0x45 m)
-    unfolding Tells askedBy codedBy counted planAsked planRequest planGood planControl carriedOf servedOf answerBytes planEnd checkedOf
-    code-45 m false s w f z a e l = rw z (faulty s _ refl (refl, refl) refl)
-    code-45 m true state.Closed w f z a e l = closed-not l
-    code-45 m true state.Idle w f z a e l = rw z (kept state.Idle (Response WriteEnd 0x15) _ refl (refl, refl) refl refl)
-    code-45 m true state.Control w f z a e l = rw z (kept state.Control (Response WriteEnd 0x15) _ refl (refl, refl) refl refl)
-    code-45 m true state.Write true f z a e l = rw (z, a) (kept state.Write (Response WriteEnd 0x1C) _ refl (refl, refl) refl refl)
-    code-45 m true state.Write false true z a e l = rw (z, a, e) (left state.Write (Response WriteEnd 0x06) _ refl (refl, refl) refl refl)
-    code-45 m true state.Write false false z a e l = rw (z, a, e) (left state.Write (Response WriteEnd 0x1E) _ refl (refl, refl) refl refl)
+    unfolding Tells askedBy codedBy counted planAsked planRequest isStranger planGood planControl carriedOf servedOf answerBytes planEnd checkedOf
+    code-45 m false x s w f z y a e l = rw z (faulty s _ refl (refl, refl) refl)
+    code-45 m true true s w f z y a e l = rw (z, y) (kept s (Response WriteEnd 0x15) _ refl (refl, refl) refl refl)
+    code-45 m true false state.Closed w f z y a e l = closed-not l
+    code-45 m true false state.Idle w f z y a e l = rw z (kept state.Idle (Response WriteEnd 0x15) _ refl (refl, refl) refl refl)
+    code-45 m true false state.Control w f z y a e l = rw (z, y) (kept state.Control (Response WriteEnd 0x15) _ refl (refl, refl) refl refl)
+    code-45 m true false state.Write true f z y a e l = rw (z, y, a) (kept state.Write (Response WriteEnd 0x1C) _ refl (refl, refl) refl refl)
+    code-45 m true false state.Write false true z y a e l = rw (z, y, a, e) (left state.Write (Response WriteEnd 0x06) _ refl (refl, refl) refl refl)
+    code-45 m true false state.Write false false z y a e l = rw (z, y, a, e) (left state.Write (Response WriteEnd 0x1E) _ refl (refl, refl) refl refl)
 
     -- none of the six
     code-other : (code m : ℕ) (s : State) → eqb code 0x61 ≡ false → eqb code 0x62 ≡ false → eqb code 0x68 ≡ false → eqb code 0x40 ≡ false
@@ -259,28 +270,28 @@ module _ (fixed : Fixed) (next : Bank) (latest : Latest) (received : List Bool) 
 
         by64 : (a : Bool) → eqb code 0x64 ≡ a → eqb code 0x61 ≡ false → eqb code 0x62 ≡ false → eqb code 0x68 ≡ false → eqb code 0x40 ≡ false
             → eqb code 0x45 ≡ false → Holds s (Control code m)
-        by64 true j e f g h i = one-of 0x64 j (code-64 m _ s refl l)
+        by64 true j e f g h i = one-of 0x64 j (code-64 m _ _ s refl refl l)
         by64 false j e f g h i = code-other code m s e f g h i j
 
         by45 : (a : Bool) → eqb code 0x45 ≡ a → eqb code 0x61 ≡ false → eqb code 0x62 ≡ false → eqb code 0x68 ≡ false → eqb code 0x40 ≡ false
             → Holds s (Control code m)
-        by45 true i e f g h = one-of 0x45 i (code-45 m _ s _ _ refl refl refl l)
+        by45 true i e f g h = one-of 0x45 i (code-45 m _ _ s _ _ refl refl refl refl l)
         by45 false i e f g h = by64 (eqb code 0x64) refl e f g h i
 
         by40 : (a : Bool) → eqb code 0x40 ≡ a → eqb code 0x61 ≡ false → eqb code 0x62 ≡ false → eqb code 0x68 ≡ false → Holds s (Control code m)
-        by40 true h e f g = one-of 0x40 h (code-40 m _ s _ refl refl l)
+        by40 true h e f g = one-of 0x40 h (code-40 m _ _ s _ refl refl refl l)
         by40 false h e f g = by45 (eqb code 0x45) refl e f g h
 
         by68 : (a : Bool) → eqb code 0x68 ≡ a → eqb code 0x61 ≡ false → eqb code 0x62 ≡ false → Holds s (Control code m)
-        by68 true g e f = one-of 0x68 g (code-68 m _ s refl l)
+        by68 true g e f = one-of 0x68 g (code-68 m _ _ s refl refl l)
         by68 false g e f = by40 (eqb code 0x40) refl e f g
 
         by62 : (a : Bool) → eqb code 0x62 ≡ a → eqb code 0x61 ≡ false → Holds s (Control code m)
-        by62 true f e = one-of 0x62 f (code-62 m _ s refl l)
+        by62 true f e = one-of 0x62 f (code-62 m _ _ s refl refl l)
         by62 false f e = by68 (eqb code 0x68) refl e f
 
         by61 : (a : Bool) → eqb code 0x61 ≡ a → Holds s (Control code m)
-        by61 true e = one-of 0x61 e (code-61 m _ s refl l)
+        by61 true e = one-of 0x61 e (code-61 m _ _ s refl refl l)
         by61 false e = by62 (eqb code 0x62) refl e
 
     -- ---- a packet
@@ -297,18 +308,19 @@ module _ (fixed : Fixed) (next : Bank) (latest : Latest) (received : List Bool) 
       fits v =
           fits-stored (c state.Write) before d sector (storing (c state.Write) (length before) d sector m footer reads refl good whole v)
 
-      packet : (s : State) (v w : Bool) → valuesGood (fixed .n) sector m ≡ v → isWorn (getD (call .marks) (sector - 1) 0) ≡ w → isClosed s ≡ false
+      packet : (s : State) (x v w : Bool) → strange s ≡ x → valuesGood (fixed .n) sector m ≡ v → isWorn (getD (call .marks) (sector - 1) 0) ≡ w → isClosed s ≡ false
           → Holds s (Write sector m footer)
-      unfolding Tells askedBy planAsked planRequest planGood planPacket carriedOf servedOf storeOf answerBytes
-      packet state.Closed v w a e l = closed-not l
-      packet state.Idle v w a e l = kept state.Idle (Written sector 0x15 0x15 0) _ refl (refl, refl) refl refl
-      packet state.Control v w a e l = kept state.Control (Written sector 0x15 0x15 0) _ refl (refl, refl) refl refl
-      packet state.Write false w a e l = rw a (faulty state.Write _ refl (refl, refl) refl)
-      packet state.Write true true a e l = rw (a, e) (kept state.Write (Written sector 0x06 0x1C 0) _ refl (refl, refl) refl refl)
-      packet state.Write true false a e l =
+      unfolding Tells askedBy planAsked planRequest isStranger planGood planPacket carriedOf servedOf storeOf answerBytes
+      packet s true v w y a e l = rw y (kept s (Written sector 0x15 0x15 0) _ refl (refl, refl) refl refl)
+      packet state.Closed false v w y a e l = closed-not l
+      packet state.Idle false v w y a e l = kept state.Idle (Written sector 0x15 0x15 0) _ refl (refl, refl) refl refl
+      packet state.Control false v w y a e l = rw y (kept state.Control (Written sector 0x15 0x15 0) _ refl (refl, refl) refl refl)
+      packet state.Write false false w y a e l = rw (y, a) (faulty state.Write _ refl (refl, refl) refl)
+      packet state.Write false true true y a e l = rw (y, a, e) (kept state.Write (Written sector 0x06 0x1C 0) _ refl (refl, refl) refl refl)
+      packet state.Write false true false y a e l =
           let answer : Answer =
           Written sector 0x06 (storeResult (blankOf bytes) (sameOf (sectorOf before sector) (paddedOf bytes))) (crcOf (paddedOf bytes)) in
-          rw (a, e)
+          rw (y, a, e)
           (ap some
           (sym
           (stored-is (at state.Write) call _ (marked sector (c state.Write)) (withSector before sector (paddedOf bytes)) answer
@@ -326,7 +338,7 @@ module _ (fixed : Fixed) (next : Bank) (latest : Latest) (received : List Bool) 
       unfolding Tells askedBy planAsked carriedOf servedOf answerBytes
       read-on Fault e = kept s FrameError _ refl (refl, refl) refl refl
       read-on (Control code m) e = control code m s live
-      read-on (Write sector m footer) e = packet sector m footer e good whole s _ _ refl refl live
+      read-on (Write sector m footer) e = packet sector m footer e good whole s _ _ _ refl refl refl live
 
   abbrev runs-good : Bool
   runs-good = eqb (length (bankIn (fixed .running) (lentOf (call .lent) pair))) (bankSize (fixed .n))
@@ -368,7 +380,7 @@ table b Initiate = host-table b _ _ refl refl .0
 table b Terminate = host-table b _ _ refl refl .1
 table b (Datagram call) =
     let c : Client = b .client in
-    call-table (c .fixed) (c .next) (c .latest) (c .received) (b .pair) call _ _ _ (c .state) _ refl refl refl refl
+    call-table (c .fixed) (c .next) (c .latest) (c .opener) (c .received) (b .pair) call _ _ _ (c .state) _ refl refl refl refl
 
 pub demand1 : Meets1 stepMachine
 demand1 = record { table = table; kept = λ b is. record { client = run-stays is b; bytes = run-running is b } }

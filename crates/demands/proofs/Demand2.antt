@@ -33,8 +33,6 @@ use Rattle.sender.specs.Packet.{packetCount, packetSector, footerOf, packetFram
 use Rattle.sender.specs.Request.{requestFrame}
 use Rattle.sender.proofs.Image.{SentAt, used-sent, packet-read, packet-data}
 use Rattle.sender.proofs.Packets.{Sent, sent-in, sector-length}
-use Rattle.commands.specs.declared.Command.{Command}
-use Rattle.commands.specs.declared.Command.the-variants as command
 use Rattle.exchange.specs.declared.answer.Answer.the-variants.{Written}
 use Rattle.client.specs.declared.record.Latest.the-variants.{Good}
 use Rattle.exchange.specs.declared.state.State.the-variants as state
@@ -52,11 +50,11 @@ use Rattle.calls.specs.Call.{Board, board}
 use Rattle.demands.specs.Board.{LentCall, Input, Datagram, Outcome, said, after, outcomes, targetBank, sectorsIn, lentOf, lentTarget, stepMachine}
 use Rattle.demands.specs.Session.{endsSession, allBlank, exchanged, noted}
 use Rattle.demands.specs.Demand1.{changed, stored, packetStored, sweptTarget}
-use Rattle.demands.specs.Demand2.{Lends, Packets, none, more, Ready, Fit, Delivery, Taken, AllTaken, none-taken, more-taken, Meets2}
+use Rattle.demands.specs.Demand2.{Lends, SentFrom, Packets, none, more, Ready, Fit, Delivery, Taken, AllTaken, none-taken, more-taken, Meets2}
 use Rattle.demands.proofs.Asking.{request-read, start-read, pairGood, start-addressed}
 use Rattle.demands.proofs.Bytes.{response-begin, written-begin, written-stored}
 use Rattle.demands.proofs.Lending.{lent-in}
-use Rattle.demands.proofs.Rows.{Heard, write-start, packet, write-end}
+use Rattle.demands.proofs.Rows.{Heard, from-opener, write-start, packet, write-end}
 use Rattle.demands.proofs.Sessions.{Session, Shows, lent-shows, step-shows, step-closes}
 use Rattle.demands.proofs.Steps.{machine-stays, lengths-kept}
 
@@ -114,16 +112,17 @@ pub padded-whole : (bytes : List ℕ) → length bytes ≡ 512 → paddedOf byte
 unfolding paddedOf
 padded-whole bytes e = rw e (append-nil bytes)
 
--- ---- a session under way on a board
+-- ---- a session under way on a board, in a mode that this address opened
 
-pub record Busy (fixed : Fixed) (b : Board) (image : List ℕ) : Type 0 where
+pub record Busy (address : List ℕ) (fixed : Fixed) (b : Board) (image : List ℕ) : Type 0 where
   pub stays : b .client .fixed ≡ fixed
+  pub opener : b .client .opener ≡ address
   pub writing : b .client .state ≡ state.Write
   pub whole : Whole (fixed .n) (b .pair)
   pub session : Session b image
 
-busy-size : (fixed : Fixed) (b : Board) (image : List ℕ) → Busy fixed b image → length image ≡ bankSize (fixed .n)
-busy-size fixed b image h =
+busy-size : (address : List ℕ) (fixed : Fixed) (b : Board) (image : List ℕ) → Busy address fixed b image → length image ≡ bankSize (fixed .n)
+busy-size address fixed b image h =
     let s = h .session in
     sym (ap length (s .shows))
     ∙ length-sweep (sectorsIn (b .client .fixed .n) b) (b .client .fixed .n) (b .client .received)
@@ -131,12 +130,14 @@ busy-size fixed b image h =
     ∙ ap (λ (f : Fixed). bankSize (f .n)) (h .stays)
 
 -- a step that goes on writing: what it notes is shown
-goes-on : (fixed : Fixed) (b : Board) (image now : List ℕ) (i : Input) → b .client .fixed ≡ fixed → Whole (fixed .n) (b .pair) → Shows b image
+goes-on : (address : List ℕ) (fixed : Fixed) (b : Board) (image now : List ℕ) (i : Input) → b .client .fixed ≡ fixed → Whole (fixed .n) (b .pair) → Shows b image
+    → stepMachine b i .board .client .opener ≡ address
     → stepMachine b i .board .client .state ≡ state.Write → noted (b .client .fixed .n) image i (stepMachine b i) ≡ now
-    → Busy fixed (stepMachine b i .board) now
-goes-on fixed b image now i stays whole shows w e =
+    → Busy address fixed (stepMachine b i .board) now
+goes-on address fixed b image now i stays whole shows o w e =
     record {
       stays = machine-stays b i ∙ stays;
+      opener = o;
       writing = w;
       whole = λ x. lengths-kept b i x ∙ whole x;
       session = subst (Session (stepMachine b i .board)) e (step-shows b image i shows w);
@@ -156,21 +157,22 @@ unfolding answerBytes
 begins-blank n image datagram = rw response-begin
 
 module _ (b : Board) (r : Ready b) (call : LentCall) (sent : call .datagram ≡ requestFrame (WriteStart (otherOf (b .client .fixed .running)) (b .client .fixed .n)))
-    (l : Lends (b .client .fixed .n) call) where
+    (l : SentFrom (b .client .opener) (b .client .fixed .n) call) where
   pub begun-is : stepMachine b (Datagram call)
       ≡ changed b call (begun (starting (b .client .fixed .running) (b .client))) noNotice (controlFrame 0x70 (0x06 ∷ []))
   begun-is =
-      write-start b call (heard b call (r .good) l (r .whole) (ap isClosed (r .control))) (r .control)
+      write-start b call (heard b call (r .good) (l .lends) (r .whole) (ap isClosed (r .control))) (from-opener (b .client) (call .address) (l .sender)) (r .control)
       (ap readOf sent ∙ start-read (otherOf (b .client .fixed .running)) (b .client .fixed .n))
       (subst (pairGood (b .client .fixed)) (sym sent) (start-addressed (b .client .fixed) (r .good)))
 
   pub begun-said : said (stepMachine b (Datagram call)) ≡ controlFrame 0x70 (0x06 ∷ [])
-  begun-said = ap said begun-is ∙ said-back call (controlFrame 0x70 (0x06 ∷ [])) (control-short 0x70 0x06) (l .room)
+  begun-said = ap said begun-is ∙ said-back call (controlFrame 0x70 (0x06 ∷ [])) (control-short 0x70 0x06) (l .lends .room)
 
-  pub begun-busy : Busy (b .client .fixed) (stepMachine b (Datagram call) .board) (allBlank (b .client .fixed .n))
+  pub begun-busy : Busy (b .client .opener) (b .client .fixed) (stepMachine b (Datagram call) .board) (allBlank (b .client .fixed .n))
   begun-busy =
-      goes-on (b .client .fixed) b (allBlank (b .client .fixed .n)) (allBlank (b .client .fixed .n)) (Datagram call) refl (r .whole)
+      goes-on (b .client .opener) (b .client .fixed) b (allBlank (b .client .fixed .n)) (allBlank (b .client .fixed .n)) (Datagram call) refl (r .whole)
       (λ w. absurd (not-write state.Control refl (sym (r .control) ∙ w)))
+      (ap (λ (o : Outcome). o .board .client .opener) begun-is)
       (ap (λ (o : Outcome). o .board .client .state) begun-is)
       (ap (exchanged (b .client .fixed .n) (allBlank (b .client .fixed .n)) (call .datagram)) begun-said ∙ begins-blank (b .client .fixed .n) (allBlank (b .client .fixed .n)) (call .datagram))
 
@@ -178,13 +180,13 @@ start-bytes : controlFrame 0x70 (0x06 ∷ []) ≡ 0x01 ∷ 0x02 ∷ 0x70 ∷ 0x0
 unfolding controlFrame framed checksumOf takenAway
 start-bytes = refl
 
-end-bytes : controlFrame 0x75 (0x06 ∷ []) ≡ 0x01 ∷ 0x02 ∷ 0x75 ∷ 0x06 ∷ 0x83 ∷ 0x03 ∷ []
+pub end-bytes : controlFrame 0x75 (0x06 ∷ []) ≡ 0x01 ∷ 0x02 ∷ 0x75 ∷ 0x06 ∷ 0x83 ∷ 0x03 ∷ []
 unfolding controlFrame framed checksumOf takenAway
 end-bytes = refl
 
 -- ---- a packet
 
-module _ (fixed : Fixed) (good : goodN (fixed .n) ≡ true) (image : List ℕ) (size : length image ≡ bankSize (fixed .n)) (p : ℕ) (h : p < packetCount image (fixed .n)) where
+module _ (address : List ℕ) (fixed : Fixed) (good : goodN (fixed .n) ≡ true) (image : List ℕ) (size : length image ≡ bankSize (fixed .n)) (p : ℕ) (h : p < packetCount image (fixed .n)) where
   abbrev n : ℕ
   n = fixed .n
 
@@ -203,7 +205,10 @@ module _ (fixed : Fixed) (good : goodN (fixed .n) ≡ true) (image : List ℕ) (
   values : valuesGood n k 512 ≡ true
   values = sym (values-words n k 512 (sent .low) (sent .high) (omega arith) (omega arith))
 
-  module _ (b : Board) (g : List ℕ) (busy : Busy fixed b g) (call : LentCall) (brings : call .datagram ≡ packetFrame image n p) (l : Lends n call) where
+  module _ (b : Board) (g : List ℕ) (busy : Busy address fixed b g) (call : LentCall) (brings : call .datagram ≡ packetFrame image n p) (comes : SentFrom address n call) where
+    l : Lends n call
+    l = comes .lends
+
     reads : readOf (call .datagram) ≡ Write k 512 (footerOf (packetCount image n) p)
     reads = ap readOf brings ∙ sym (packet-read image n p good by-sectors h)
 
@@ -224,7 +229,7 @@ module _ (fixed : Fixed) (good : goodN (fixed .n) ≡ true) (image : List ℕ) (
         packet b call
         (heard b call (ap (λ (f : Fixed). goodN (f .n)) (busy .stays) ∙ good) (own-lends fixed b call (busy .stays) l) (own-whole fixed b (busy .stays) (busy .whole))
         (ap isClosed (busy .writing)))
-        k 512 (footerOf (packetCount image n) p) (busy .writing) reads (ap (λ (f : Fixed). valuesGood (f .n) k 512) (busy .stays) ∙ values) unworn
+        k 512 (footerOf (packetCount image n) p) (from-opener (b .client) (call .address) (comes .sender ∙ sym (busy .opener))) (busy .writing) reads (ap (λ (f : Fixed). valuesGood (f .n) k 512) (busy .stays) ∙ values) unworn
 
     abbrev result : ℕ
     result = storeResult (blankOf (dataIn (call .datagram))) (sameOf (sectorOf (lentTarget b call) k) (paddedOf (dataIn (call .datagram))))
@@ -248,15 +253,16 @@ module _ (fixed : Fixed) (good : goodN (fixed .n) ≡ true) (image : List ℕ) (
         rw (written-begin k 0x06 result (crcOf (sectorOf image k)), written-stored k result (crcOf (sectorOf image k)) is-accepted, reads)
         (ap (withSector g k) padded-are)
 
-    pub next-busy : Busy fixed (stepMachine b (Datagram call) .board) (withSector g k (sectorOf image k))
+    pub next-busy : Busy address fixed (stepMachine b (Datagram call) .board) (withSector g k (sectorOf image k))
     next-busy =
-        goes-on fixed b g (withSector g k (sectorOf image k)) (Datagram call) (busy .stays) (busy .whole) (λ _. busy .session)
+        goes-on address fixed b g (withSector g k (sectorOf image k)) (Datagram call) (busy .stays) (busy .whole) (λ _. busy .session)
+        (ap (λ (o : Outcome). o .board .client .opener) stored-is ∙ busy .opener)
         (ap (λ (o : Outcome). o .board .client .state) stored-is ∙ busy .writing)
         (ap (exchanged (b .client .fixed .n) g (call .datagram)) stored-said ∙ shown-next)
 
 -- ---- all of them
 
-module _ (fixed : Fixed) (good : goodN (fixed .n) ≡ true) (image : List ℕ) (size : length image ≡ bankSize (fixed .n)) where
+module _ (address : List ℕ) (fixed : Fixed) (good : goodN (fixed .n) ≡ true) (image : List ℕ) (size : length image ≡ bankSize (fixed .n)) where
   abbrev sectors : ℕ
   sectors = fixed .n
 
@@ -313,15 +319,15 @@ module _ (fixed : Fixed) (good : goodN (fixed .n) ≡ true) (image : List ℕ) (
           inl (with-other shown s (sectorOf image s) lies-s w j (record { first = a; last = omega arith }) ne ∙ e)
       by (no ne) (inr c) = inr (later c ne)
 
-  deliver : {ps : List ℕ} {is : List Input} → Packets image sectors ps is → (b : Board) (shown : List ℕ) → Busy fixed b shown → Due shown ps
-      → Busy fixed (after stepMachine b is) image × AllTaken image sectors ps (outcomes stepMachine b is)
+  deliver : {ps : List ℕ} {is : List Input} → Packets address image sectors ps is → (b : Board) (shown : List ℕ) → Busy address fixed b shown → Due shown ps
+      → Busy address fixed (after stepMachine b is) image × AllTaken image sectors ps (outcomes stepMachine b is)
   deliver none b shown busy due =
-      (subst (Busy fixed b) (ext-sector shown image sectors (busy-size fixed b shown busy) size (got shown due)) busy, none-taken)
+      (subst (Busy address fixed b) (ext-sector shown image sectors (busy-size address fixed b shown busy) size (got shown due)) busy, none-taken)
   deliver (more {p} {ps} {call} {is} h e l rest) b shown busy due =
       let r =
-      deliver rest (stepMachine b (Datagram call) .board) _ (next-busy fixed good image size p h b shown busy call e l)
-      (due-next p ps shown h (busy-size fixed b shown busy) due) in
-      (r .0, more-taken (taken fixed good image size p h b shown busy call e l) (r .1))
+      deliver rest (stepMachine b (Datagram call) .board) _ (next-busy address fixed good image size p h b shown busy call e l)
+      (due-next p ps shown h (busy-size address fixed b shown busy) due) in
+      (r .0, more-taken (taken address fixed good image size p h b shown busy call e l) (r .1))
 
   -- at the start nothing but 0xFF is shown, and each sector that has another byte has its packet
   due-first : (ps : List ℕ) → ((p : ℕ) → p < packetCount image sectors → List·Memᴰ p ps) → Due (allBlank sectors) ps
@@ -339,10 +345,10 @@ module _ (fixed : Fixed) (good : goodN (fixed .n) ≡ true) (image : List ℕ) (
 
   -- ---- the end
 
-  module _ (b : Board) (busy : Busy fixed b image) (sound : fitOf fixed image ≡ true) (call : LentCall) (asks : call .datagram ≡ requestFrame WriteEnd)
-      (l : Lends (fixed .n) call) where
+  module _ (b : Board) (busy : Busy address fixed b image) (sound : fitOf fixed image ≡ true) (call : LentCall) (asks : call .datagram ≡ requestFrame WriteEnd)
+      (comes : SentFrom address (fixed .n) call) where
     lends : Lends (b .client .fixed .n) call
-    lends = own-lends fixed b call (busy .stays) l
+    lends = own-lends fixed b call (busy .stays) (comes .lends)
 
     own : Whole (b .client .fixed .n) (b .pair)
     own = own-whole fixed b (busy .stays) (busy .whole)
@@ -358,13 +364,14 @@ module _ (fixed : Fixed) (good : goodN (fixed .n) ≡ true) (image : List ℕ) (
     ended-is : stepMachine b (Datagram call)
         ≡ stored b call (starting (otherOf (b .client .fixed .running)) (ended Good (b .client))) (sweptTarget b call) (controlFrame 0x75 (0x06 ∷ []))
     ended-is =
-        write-end b call (heard b call good-own lends own (ap isClosed (busy .writing))) (busy .writing)
+        write-end b call (heard b call good-own lends own (ap isClosed (busy .writing)))
+        (from-opener (b .client) (call .address) (comes .sender ∙ sym (busy .opener))) (busy .writing)
         (ap readOf asks ∙ request-read WriteEnd)
-        (ap anyWorn (l .marks) ∙ no-mark (fixed .n))
+        (ap anyWorn (comes .lends .marks) ∙ no-mark (fixed .n))
         (ap (fitOf (b .client .fixed)) swept-is ∙ ap (λ (f : Fixed). fitOf f image) (busy .stays) ∙ sound)
 
     ended-said : said (stepMachine b (Datagram call)) ≡ 0x01 ∷ 0x02 ∷ 0x75 ∷ 0x06 ∷ 0x83 ∷ 0x03 ∷ []
-    ended-said = ap said ended-is ∙ said-back call (controlFrame 0x75 (0x06 ∷ [])) (control-short 0x75 0x06) (l .room) ∙ end-bytes
+    ended-said = ap said ended-is ∙ said-back call (controlFrame 0x75 (0x06 ∷ [])) (control-short 0x75 0x06) (comes .lends .room) ∙ end-bytes
 
     ended-next : stepMachine b (Datagram call) .board .client .next ≡ otherOf (fixed .running)
     ended-next = ap (λ (o : Outcome). o .board .client .next) ended-is ∙ ap (λ (f : Fixed). otherOf (f .running)) (busy .stays)
@@ -377,27 +384,29 @@ module _ (fixed : Fixed) (good : goodN (fixed .n) ≡ true) (image : List ℕ) (
         ∙ sym (take-all (bankSize (b .client .fixed .n)) (targetBank next) (omega arith))
         ∙ step-closes b image (Datagram call) (λ _. busy .session) (ap endsSession ended-said)
 
--- the board behind the end: in control state, and the session ended with 06
-pub record Over (b : Board) (fixed : Fixed) : Type 0 where
+-- the board behind the end: in control state, in the same mode, and the session ended with 06
+pub record Over (address : List ℕ) (b : Board) (fixed : Fixed) : Type 0 where
   pub stays : b .client .fixed ≡ fixed
+  pub opener : b .client .opener ≡ address
   pub control : b .client .state ≡ state.Control
   pub latest : b .client .latest ≡ Good
   pub whole : Whole (fixed .n) (b .pair)
 
 module _ (b : Board) (image : List ℕ) (ready : Ready b) (fit : Fit image (b .client .fixed)) (start : LentCall) (ps : List ℕ) (is : List Input) (end : LentCall)
-    (d : Delivery b image start ps is end) where
-  all : Busy (b .client .fixed) (after stepMachine b (Datagram start ∷ is)) image
+    (d : Delivery (b .client .opener) b image start ps is end) where
+  all : Busy (b .client .opener) (b .client .fixed) (after stepMachine b (Datagram start ∷ is)) image
       × AllTaken image (b .client .fixed .n) ps (outcomes stepMachine (stepMachine b (Datagram start) .board) is)
   all =
-      deliver (b .client .fixed) (ready .good) image (fit .size) (d .packets) (stepMachine b (Datagram start) .board) (allBlank (b .client .fixed .n))
-      (begun-busy b ready start (d .start-sent) (d .start-lends)) (due-first (b .client .fixed) (ready .good) image (fit .size) ps (d .each))
+      deliver (b .client .opener) (b .client .fixed) (ready .good) image (fit .size) (d .packets) (stepMachine b (Datagram start) .board) (allBlank (b .client .fixed .n))
+      (begun-busy b ready start (d .start-sent) (d .start-comes)) (due-first (b .client .opener) (b .client .fixed) (ready .good) image (fit .size) ps (d .each))
 
-  pub over : Over (stepMachine (after stepMachine b (Datagram start ∷ is)) (Datagram end) .board) (b .client .fixed)
+  pub over : Over (b .client .opener) (stepMachine (after stepMachine b (Datagram start ∷ is)) (Datagram end) .board) (b .client .fixed)
   over =
       let last : Board = after stepMachine b (Datagram start ∷ is) in
-      let e = ended-is (b .client .fixed) (ready .good) image (fit .size) last (all .0) (fit .sound) end (d .end-sent) (d .end-lends) in
+      let e = ended-is (b .client .opener) (b .client .fixed) (ready .good) image (fit .size) last (all .0) (fit .sound) end (d .end-sent) (d .end-comes) in
       record {
         stays = machine-stays last (Datagram end) ∙ all .0 .stays;
+        opener = ap (λ (o : Outcome). o .board .client .opener) e ∙ all .0 .opener;
         control = ap (λ (o : Outcome). o .board .client .state) e;
         latest = ap (λ (o : Outcome). o .board .client .latest) e;
         whole = λ x. lengths-kept last (Datagram end) x ∙ all .0 .whole x;
@@ -408,9 +417,9 @@ demand2 b image ready fit start ps is end d =
     let fixed : Fixed = b .client .fixed in
     let done = all b image ready fit start ps is end d in
     record {
-      started = begun-said b ready start (d .start-sent) (d .start-lends) ∙ start-bytes;
+      started = begun-said b ready start (d .start-sent) (d .start-comes) ∙ start-bytes;
       taken = done .1;
-      ended = ended-said fixed (ready .good) image (fit .size) _ (done .0) (fit .sound) end (d .end-sent) (d .end-lends);
-      bank = ended-bank fixed (ready .good) image (fit .size) _ (done .0) (fit .sound) end (d .end-sent) (d .end-lends);
-      next = ended-next fixed (ready .good) image (fit .size) _ (done .0) (fit .sound) end (d .end-sent) (d .end-lends);
+      ended = ended-said (b .client .opener) fixed (ready .good) image (fit .size) _ (done .0) (fit .sound) end (d .end-sent) (d .end-comes);
+      bank = ended-bank (b .client .opener) fixed (ready .good) image (fit .size) _ (done .0) (fit .sound) end (d .end-sent) (d .end-comes);
+      next = ended-next (b .client .opener) fixed (ready .good) image (fit .size) _ (done .0) (fit .sound) end (d .end-sent) (d .end-comes);
     }

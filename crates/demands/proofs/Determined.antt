@@ -73,6 +73,7 @@ determined =
       answered = λ code. once _;
       asked = λ datagram. once _;
       is-closed = λ state. once _;
+      is-open = λ state. once _;
       fits-state = λ state request. once _;
       declined = λ request. once _;
       refusal-number = λ why. once _;

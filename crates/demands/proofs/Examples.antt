@@ -49,14 +49,14 @@ use Rattle.calls.proofs.Leading.{fits-stored, storing}
 use Rattle.decision.proofs.Planning.{values-zero, values-above, values-empty, values-long, values-words, values-low, values-high}
 use Rattle.calls.specs.Call.{Board}
 use Rattle.demands.specs.Board.{LentCall, Datagram, Outcome, said, lentTarget, stepMachine}
-use Rattle.demands.specs.Demand1.{answered, parameterError, packetStored}
-use Rattle.demands.specs.Demand2.{Lends}
+use Rattle.demands.specs.Demand1.{fromStranger, answered, parameterError, packetStored}
+use Rattle.demands.specs.Demand2.{Lends, SentFrom}
 use Rattle.demands.specs.Examples.{Calls, Brings, PacketTaken, goodLength, isIdle, live, none, also, Examples}
 use Rattle.demands.specs.Session.{isStored}
 use Rattle.demands.proofs.Bytes.{written-stored}
 use Rattle.demands.proofs.Lending.{lent-in}
 use Rattle.demands.proofs.Demand2.{lent-whole, heard, said-back, control-short, written-short}
-use Rattle.demands.proofs.Rows.{Heard, mode-start, fault, no-request, packet, packet-wrong}
+use Rattle.demands.proofs.Rows.{Heard, from-opener, mode-start, fault, no-request, packet, packet-wrong}
 use Rattle.demands.proofs.Steps.{machine-stays, lengths-kept}
 use Rattle.demands.proofs.Fresh.{started-bytes}
 
@@ -145,6 +145,9 @@ example-6 b call c s d =
 -- ---- packets
 
 module _ (b : Board) (call : LentCall) (sector m : ℕ) (p : Brings b call sector m) where
+  own : fromStranger (b .client) (call .address) ≡ false
+  own = from-opener (b .client) (call .address) (p .sender)
+
   packet-heard : Heard b call
   packet-heard = calling b call (p .calls) (ap isClosed (p .writing))
 
@@ -163,7 +166,7 @@ module _ (b : Board) (call : LentCall) (sector m : ℕ) (p : Brings b call secto
   stored-is v =
       let low = values-low (b .client .fixed .n) sector m v in
       let high = values-high (b .client .fixed .n) sector m v in
-      packet b call packet-heard sector m (p .footer) (p .writing) (p .reads) v (unworn (omega arith))
+      packet b call packet-heard sector m (p .footer) own (p .writing) (p .reads) v (unworn (omega arith))
 
   stored-said : valuesGood (b .client .fixed .n) sector m ≡ true
       → said (stepMachine b (Datagram call)) ≡ writeFrame sector (writtenBytes 0x06 result (crcOf (paddedOf bytes))) End
@@ -181,7 +184,7 @@ module _ (b : Board) (call : LentCall) (sector m : ℕ) (p : Brings b call secto
 
   refused : valuesGood (b .client .fixed .n) sector m ≡ false → PacketTaken false b call
   refused v =
-      ap said (packet-wrong b call packet-heard sector m (p .footer) (p .writing) (p .reads) v)
+      ap said (packet-wrong b call packet-heard sector m (p .footer) own (p .writing) (p .reads) v)
       ∙ parameter-said b call (p .calls .lends .room)
 
 -- 7
@@ -217,7 +220,7 @@ module _ (b : Board) (call : LentCall) (sector : ℕ) (low : 1 ≤ sector) (high
 -- 9
 module _ (b : Board) (call again : LentCall) (sector m : ℕ) (p : Brings b call sector m)
     (stored : isStored (said (stepMachine b (Datagram call))) ≡ true)
-    (repeats : again .datagram ≡ call .datagram) (l : Lends (b .client .fixed .n) again) where
+    (repeats : again .datagram ≡ call .datagram) (comes : SentFrom (b .client .opener) (b .client .fixed .n) again) where
   -- what was accepted has good values
   values : valuesGood (b .client .fixed .n) sector m ≡ true
   values = by (valuesGood (b .client .fixed .n) sector m) refl
@@ -259,7 +262,7 @@ module _ (b : Board) (call again : LentCall) (sector m : ℕ) (p : Brings b call
       ap (λ (o : Outcome). lentTarget (o .board) again) (stored-is b call sector m p values)
       ∙ lent-in (again .lent) _ other
       ∙ ap (take (again .lent other)) (bank-there other (b .pair))
-      ∙ take-at left (drop (call .lent other) (bankIn other (b .pair))) (again .lent other) (left-size ∙ sym (l .banks other))
+      ∙ take-at left (drop (call .lent other) (bankIn other (b .pair))) (again .lent other) (left-size ∙ sym (comes .lends .banks other))
 
   fixed-next : next .client .fixed ≡ b .client .fixed
   fixed-next = machine-stays b (Datagram call)
@@ -270,8 +273,9 @@ module _ (b : Board) (call again : LentCall) (sector m : ℕ) (p : Brings b call
         calls = record {
           good = ap (λ (f : Fixed). goodN (f .n)) fixed-next ∙ p .calls .good;
           whole = λ x. lengths-kept b (Datagram call) x ∙ p .calls .whole x ∙ ap (λ (f : Fixed). bankSize (f .n)) (sym fixed-next);
-          lends = subst (λ (f : Fixed). Lends (f .n) again) (sym fixed-next) l;
+          lends = subst (λ (f : Fixed). Lends (f .n) again) (sym fixed-next) (comes .lends);
         };
+        sender = comes .sender ∙ sym (ap (λ (o : Outcome). o .board .client .opener) (stored-is b call sector m p values));
         writing = ap (λ (o : Outcome). o .board .client .state) (stored-is b call sector m p values) ∙ p .writing;
         footer = p .footer;
         reads = ap readOf repeats ∙ p .reads;

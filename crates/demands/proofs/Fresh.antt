@@ -23,17 +23,17 @@ use Rattle.client.specs.Record.{closedClient, initiated, opened, modeEnded}
 use Rattle.calls.specs.Call.{Board, board}
 use Rattle.demands.specs.Board.{LentCall, Input, Initiate, Datagram, Outcome, said, stepMachine}
 use Rattle.demands.specs.Demand1.{hostDone, changed}
-use Rattle.demands.specs.Demand2.{Lends, Ready, Fit, Delivery}
+use Rattle.demands.specs.Demand2.{Lends, SentFrom, Ready, Fit, Delivery}
 use Rattle.demands.specs.Fresh.{Fresh, inMode, afterAll, FreshRight, MeetsFresh}
 use Rattle.demands.proofs.Asking.{request-read}
 use Rattle.demands.proofs.Demand2.{Whole, heard, said-back, control-short, Over, over, demand2}
-use Rattle.demands.proofs.Rows.{initiate, mode-start, mode-end}
+use Rattle.demands.proofs.Rows.{from-opener, initiate, mode-start, mode-end}
 
 pub started-bytes : controlFrame 0x71 (0x06 ∷ []) ≡ 0x01 ∷ 0x02 ∷ 0x71 ∷ 0x06 ∷ 0x87 ∷ 0x03 ∷ []
 unfolding controlFrame framed checksumOf takenAway
 started-bytes = refl
 
-ended-bytes : controlFrame 0x74 (0x06 ∷ []) ≡ 0x01 ∷ 0x02 ∷ 0x74 ∷ 0x06 ∷ 0x84 ∷ 0x03 ∷ []
+pub ended-bytes : controlFrame 0x74 (0x06 ∷ []) ≡ 0x01 ∷ 0x02 ∷ 0x74 ∷ 0x06 ∷ 0x84 ∷ 0x03 ∷ []
 unfolding controlFrame framed checksumOf takenAway
 ended-bytes = refl
 
@@ -53,9 +53,9 @@ module _ (n : ℕ) (running : Bank) (major minor revision : ℕ) (pair : Banks) 
 
   module _ (mode : LentCall) (sent : mode .datagram ≡ requestFrame ModeStart) (l : Lends n mode) where
     abbrev opened-board : Board
-    opened-board = board (opened (initiated new)) pair
+    opened-board = board (opened (mode .address) (initiated new)) pair
 
-    mode-is : stepMachine hosted (Datagram mode) ≡ changed hosted mode (opened (hosted .client)) (noticeWith Started 0 (mode .address)) (controlFrame 0x71 (0x06 ∷ []))
+    mode-is : stepMachine hosted (Datagram mode) ≡ changed hosted mode (opened (mode .address) (hosted .client)) (noticeWith Started 0 (mode .address)) (controlFrame 0x71 (0x06 ∷ []))
     mode-is = mode-start hosted mode (heard hosted mode (fresh .good) l (fresh .whole) refl) refl (ap readOf sent ∙ request-read ModeStart)
 
     made-step : stepMachine (stepMachine made Initiate .board) (Datagram mode) ≡ stepMachine hosted (Datagram mode)
@@ -67,18 +67,28 @@ module _ (n : ℕ) (running : Bank) (major minor revision : ℕ) (pair : Banks) 
     opened-ready : Ready (inMode stepMachine made mode)
     opened-ready = subst Ready (sym in-mode) (record { good = fresh .good; control = refl; whole = fresh .whole })
 
+    opener-in : inMode stepMachine made mode .client .opener ≡ mode .address
+    opener-in = ap (λ (b : Board). b .client .opener) in-mode
+
     fixed-in : inMode stepMachine made mode .client .fixed ≡ fixedOf n running major minor revision
     fixed-in = ap (λ (b : Board). b .client .fixed) in-mode
 
     module _ (image : List ℕ) (fit : Fit image (fixedOf n running major minor revision)) (start : LentCall) (ps : List ℕ) (is : List Input) (end ending : LentCall)
-        (d : Delivery (inMode stepMachine made mode) image start ps is end) (asks : ending .datagram ≡ requestFrame ModeEnd) (e : Lends n ending) where
+        (from : Delivery (mode .address) (inMode stepMachine made mode) image start ps is end) (asks : ending .datagram ≡ requestFrame ModeEnd)
+        (comes : SentFrom (mode .address) n ending) where
+      e : Lends n ending
+      e = comes .lends
+
+      d : Delivery (inMode stepMachine made mode .client .opener) (inMode stepMachine made mode) image start ps is end
+      d = subst (λ (a : List ℕ). Delivery a (inMode stepMachine made mode) image start ps is end) (sym opener-in) from
+
       own-fit : Fit image (inMode stepMachine made mode .client .fixed)
       own-fit = subst (Fit image) (sym fixed-in) fit
 
       abbrev last : Board
       last = afterAll stepMachine made mode start is end
 
-      done : Over last (inMode stepMachine made mode .client .fixed)
+      done : Over (inMode stepMachine made mode .client .opener) last (inMode stepMachine made mode .client .fixed)
       done = over (inMode stepMachine made mode) image opened-ready own-fit start ps is end d
 
       fixed-last : last .client .fixed ≡ fixedOf n running major minor revision
@@ -90,7 +100,7 @@ module _ (n : ℕ) (running : Bank) (major minor revision : ℕ) (pair : Banks) 
           mode-end last ending
           (heard last ending (ap (λ (f : Fixed). goodN (f .n)) fixed-last ∙ fresh .good) (subst (λ (f : Fixed). Lends (f .n) ending) (sym fixed-last) e)
           (subst (λ (f : Fixed). Whole (f .n) (last .pair)) (sym (done .stays)) (done .whole)) (ap isClosed (done .control)))
-          (done .control) (ap readOf asks ∙ request-read ModeEnd)
+          (from-opener (last .client) (ending .address) (comes .sender ∙ sym (done .opener ∙ opener-in))) (done .control) (ap readOf asks ∙ request-read ModeEnd)
 
       pub told : FreshRight stepMachine made image mode start ps is end ending
       unfolding bytesOf

@@ -13,6 +13,8 @@ pub mod Determined
 pub mod Examples
 pub mod FirstOnly
 pub mod Fresh
+pub mod Heeding
+pub mod Kept
 pub mod Latest
 pub mod Lending
 pub mod New
@@ -27,6 +29,7 @@ pub mod NightRuns
 pub mod NightServed
 pub mod NightSettled
 pub mod NightShutOut
+pub mod NightStrangers
 pub mod NightTurns
 pub mod NightWitness
 pub mod Packets
@@ -38,6 +41,8 @@ pub mod Rows
 pub mod Sessions
 pub mod ShutOut
 pub mod Steps
+pub mod Strangers
+pub mod TakenOver
 pub mod Text
 pub mod TextWitness
 pub mod Texts

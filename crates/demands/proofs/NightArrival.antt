@@ -15,6 +15,7 @@ use Rattle.layout.specs.declared.Bank.{Bank}
 use Rattle.sender.specs.Made.{room}
 use Rattle.sender.specs.Packet.{packetCount, packetSector}
 use Rattle.exchange.specs.declared.state.State.{State}
+use Rattle.exchange.specs.State.{isOpen}
 use Rattle.calls.specs.Call.{Board}
 use Rattle.night.specs.declared.name.Name.{Name}
 use Rattle.night.specs.declared.name.Name.the-variants.{ModeStart, VersionInfo, BankInfo, WriteStart, Packet, WriteEnd, ModeEnd}
@@ -27,10 +28,14 @@ use Rattle.night.specs.Name.{numberOf, frameOf}
 use Rattle.night.specs.Record.{followingOf, movedOf}
 use Rattle.night.proofs.Judged.{silence-repeats}
 use Rattle.demands.specs.Board.{Input, Datagram, Outcome, said, after, outcomes, stepMachine}
-use Rattle.demands.specs.Demand2.{Lends}
+use Rattle.demands.specs.Demand2.{SentFrom}
 use Rattle.demands.specs.Night.{Told, nightSender, Startable, packetsFrom}
 use Rattle.demands.specs.NightLoop.{
   Arrival,
+  EachIn,
+  no-passage,
+  passage-more,
+  NoOther,
   callOf,
   inputsOf,
   Answer,
@@ -59,10 +64,22 @@ use Rattle.demands.specs.NightLoop.{
   through,
   MeetsArrival,
 }
-use Rattle.demands.proofs.NightLoop.{Inv, InvAt, lastName, event-from, event-keeps, passages-keep, request-then, first-request, first-known}
+use Rattle.demands.proofs.NightLoop.{
+  event-from,
+  lastName,
+  request-then,
+  first-request,
+  InvAt,
+  first-known,
+  event-keeps,
+  Anyone,
+  UpdateIn,
+  Known,
+  known-on,
+}
 use Rattle.demands.proofs.NightRuns.{behind, packets-next, moves, toldAt, stays-right, begins-right, start-is, event-is}
 use Rattle.demands.proofs.NightRuns.{Right as RightStand}
-use Rattle.demands.proofs.NightServed.{Fitting, still-fitting, Phase, stateAfter, Served, serve}
+use Rattle.demands.proofs.NightServed.{Fitting, still-fitting, Held, Phase, stateAfter, Served, serve}
 
 firstOr : Name → List Name → Name
 firstOr name [] = name
@@ -72,12 +89,12 @@ restOf : List Name → List Name
 restOf [] = []
 restOf (x ∷ xs) = xs
 
-module _ (image : List ℕ) (bank : Bank) (n tries : ℕ) (st : Startable image n tries) where
+module _ (image : List ℕ) (bank : Bank) (n tries : ℕ) (st : Startable image n tries) (start : Board) where
   abbrev count : ℕ
   count = packetCount image n
 
-  abbrev Known : Name → Board → List (List ℕ) → Type 0
-  Known k b answers = Inv image bank n tries st k b answers
+  abbrev KnownSo : Name → Loop Night → Type 0
+  KnownSo k l = Known image bank n tries st start k (l .inputs) (l .board) (l .answers)
 
   abbrev Fits : Board → Type 0
   Fits b = Fitting image bank n tries st b
@@ -137,17 +154,19 @@ module _ (image : List ℕ) (bank : Bank) (n tries : ℕ) (st : Startable image 
 
   -- ---- on the way
 
-  record Way (k : Name) (gone given : ℕ) (l : Loop Night) : Type 0 where
+  record Way (address : List ℕ) (k : Name) (gone given : ℕ) (l : Loop Night) : Type 0 where
     buffer : List ℕ
     told : l .told ≡ toldAt image bank n tries buffer (At k gone)
     right : RightStand count tries (At k gone)
     request : l .request ≡ frameOf image bank n k
-    known : Known k (l .board) (l .answers)
+    known : KnownSo k l
     fitting : Fits (l .board)
     phase : In k gone (l .board)
+    held : Held image bank n tries st address (l .board)
     counted : length (l .answers) ≡ given
 
-  module _ (k : Name) (gone given : ℕ) (l : Loop Night) (w : Way k gone given l) (r : Round) (h : room ≤ length (r .buffer)) where
+  module _ (address : List ℕ) (k : Name) (gone given : ℕ) (l : Loop Night) (w : Way address k gone given l) (r : Round) (h : room ≤ length (r .buffer))
+      (ours : EachIn NoOther (r .passages)) where
     abbrev inputs : List Input
     inputs = inputsOf (l .request) (r .passages)
 
@@ -155,7 +174,7 @@ module _ (image : List ℕ) (bank : Bank) (n tries : ℕ) (st : Startable image 
     board-then = after stepMachine (l .board) inputs
 
     abbrev answers-then : List (List ℕ)
-    answers-then = l .answers ++ saidIn (outcomes stepMachine (l .board) inputs)
+    answers-then = l .answers ++ saidIn (r .passages) (outcomes stepMachine (l .board) inputs)
 
     abbrev event : Event
     event = eventBy answers-then (r .comes)
@@ -170,8 +189,8 @@ module _ (image : List ℕ) (bank : Bank) (n tries : ℕ) (st : Startable image 
 
     -- another try or another request
     onto : (m : Name) (times given-then : ℕ) → moves image bank n tries (At k gone) event ≡ At m times → Fits board-then → In m times board-then
-        → length answers-then ≡ given-then → Way m times given-then next-loop
-    onto m times given-then e f p c =
+        → Held image bank n tries st address board-then → length answers-then ≡ given-then → Way address m times given-then next-loop
+    onto m times given-then e f p o c =
         record {
           buffer = r .buffer;
           told = told-then ∙ ap (toldAt image bank n tries (r .buffer)) e;
@@ -181,11 +200,13 @@ module _ (image : List ℕ) (bank : Bank) (n tries : ℕ) (st : Startable image 
               ∙ request-then image bank n tries st (At k gone) event (r .buffer) (l .request) (w .right) h (w .request)
               ∙ ap (λ (s : Stand). frameOf image bank n (lastName image bank n tries st s)) e;
           known =
-              subst (λ (s : Stand). InvAt image bank n tries st s board-then answers-then) e
-              (event-keeps image bank n tries st (At k gone) event board-then answers-then (w .right) (event-from answers-then (r .comes))
-              (passages-keep image bank n tries st k (w .right .2) (l .request) (w .request) (r .passages) (l .board) (l .answers) (w .known)));
+              subst (λ (s : Stand). InvAt image bank n tries st Anyone start (UpdateIn image bank n tries st start) s (l .inputs ++ inputs) board-then answers-then) e
+              (event-keeps image bank n tries st Anyone start (UpdateIn image bank n tries st start) (At k gone) event (l .inputs ++ inputs) board-then answers-then (w .right)
+              (event-from answers-then (r .comes))
+              (known-on image bank n tries st start k (w .right .2) (l .request) (w .request) (r .passages) ours (l .inputs) (l .board) (l .answers) (w .known)));
           fitting = f;
           phase = p;
+          held = o;
           counted = c;
         }
 
@@ -197,20 +218,20 @@ module _ (image : List ℕ) (bank : Bank) (n tries : ℕ) (st : Startable image 
   -- ---- one try
 
   module _ (address : List ℕ) where
-    lends-so : (request : List ℕ) (a : Arrival) → Right address n a → Lends n (callOf request a)
-    lends-so request a r =
+    comes-so : (request : List ℕ) (a : Arrival) → Right address n a → SentFrom address n (callOf request a)
+    comes-so request a r =
         let x = r .lends in
-        record { address = x .address; marks = x .marks; room = x .room; banks = x .banks }
+        record { sender = r .sender; lends = record { address = x .address; marks = x .marks; room = x .room; banks = x .banks } }
 
-    module _ (k : Name) (gone given : ℕ) (l : Loop Night) (w : Way k gone given l) where
+    module _ (k : Name) (gone given : ℕ) (l : Loop Night) (w : Way address k gone given l) where
       -- the request arrives
       abbrev outcome : Arrival → Outcome
       outcome a = stepMachine (l .board) (Datagram (callOf (l .request) a))
 
-      served : (a : Arrival) → Right address n a → Served image bank n tries st k gone (outcome a)
+      served : (a : Arrival) → Right address n a → Served image bank n tries st address k gone (outcome a)
       served a r =
-          serve image bank n tries st (l .board) (w .fitting) (callOf (l .request) a) (lends-so (l .request) a r) k gone (w .right .2) (w .request) (w .phase)
-          (l .answers) (w .known)
+          serve image bank n tries st address (l .board) (w .fitting) (w .held) (callOf (l .request) a) (comes-so (l .request) a r) k gone (w .right .2) (w .request) (w .phase)
+          start (l .inputs) (l .answers) (w .known)
 
       fits-then : (a : Arrival) → Fits (outcome a .board)
       fits-then a = still-fitting image bank n tries st (l .board) (Datagram (callOf (l .request) a)) (w .fitting)
@@ -220,14 +241,14 @@ module _ (image : List ℕ) (bank : Bank) (n tries : ℕ) (st : Startable image 
 
       -- a try that fails leaves one more to go
       failed : (t : Try) (buffer : List ℕ) → Fails address n k t → room ≤ length buffer → gone < tries
-          → Way k (gone + 1) (arrived t given) (round nightSender stepMachine image l (roundOf given buffer t))
+          → Way address k (gone + 1) (arrived t given) (round nightSender stepMachine image l (roundOf given buffer t))
       failed RequestLost buffer request-lost h g =
-          onto k gone given l w (roundOf given buffer RequestLost) h k (gone + 1) given (silent k gone given l w (roundOf given buffer RequestLost) h refl g)
-          (w .fitting) (again k gone (l .board) (w .phase)) (ap length (append-nil (l .answers)) ∙ w .counted)
+          onto address k gone given l w (roundOf given buffer RequestLost) h no-passage k (gone + 1) given (silent address k gone given l w (roundOf given buffer RequestLost) h no-passage refl g)
+          (w .fitting) (again k gone (l .board) (w .phase)) (w .held) (ap length (append-nil (l .answers)) ∙ w .counted)
       failed (AnswerLost a) buffer (answer-lost m r) h g =
-          onto k gone given l w (roundOf given buffer (AnswerLost a)) h k (gone + 1) (suc given)
-          (silent k gone given l w (roundOf given buffer (AnswerLost a)) h refl g) (fits-then a)
-          (once-more k gone (outcome a .board) (w .right .0) m (served a r .then)) (one-more a)
+          onto address k gone given l w (roundOf given buffer (AnswerLost a)) h (passage-more tt no-passage) k (gone + 1) (suc given)
+          (silent address k gone given l w (roundOf given buffer (AnswerLost a)) h (passage-more tt no-passage) refl g) (fits-then a)
+          (once-more k gone (outcome a .board) (w .right .0) m (served a r .then)) (served a r .held) (one-more a)
 
       -- one that goes through settles the request
       settled : (a : Arrival) (buffer : List ℕ) → Right address n a
@@ -240,7 +261,7 @@ module _ (image : List ℕ) (bank : Bank) (n tries : ℕ) (st : Startable image 
 
     arrive : {names : List Name} {left given : ℕ} {rs : List Round} → Goes address n tries names left given rs → (k : Name) (gone : ℕ)
         → names ≡ k ∷ behind count k
-        → gone + left ≡ tries → (l : Loop Night) → Way k gone given l → rounds nightSender stepMachine image l rs .told .next ≡ next.Finished
+        → gone + left ≡ tries → (l : Loop Night) → Way address k gone given l → rounds nightSender stepMachine image l rs .told .next ≡ next.Finished
     unfolding firstOr restOf
     arrive home k gone e q l w = no-way cc
     arrive (fails {name} {names} {left} {given} {rs} t buffer f h rest) k gone e q l w =
@@ -251,8 +272,8 @@ module _ (image : List ℕ) (bank : Bank) (n tries : ℕ) (st : Startable image 
         followed P k (w .right .2)
         (λ m place there ready s.
         arrive rest m 1 (tails ∙ place) (omega (arith, st .low)) then
-        (onto k gone given l w (roundOf given buffer (Through a)) h m 1 (suc given) (settled k gone given l w a buffer r ∙ sym s) (fits-then k gone given l w a)
-        (ready (outcome k gone given l w a .board) (served k gone given l w a r .then)) (one-more k gone given l w a)))
+        (onto address k gone given l w (roundOf given buffer (Through a)) h (passage-more tt no-passage) m 1 (suc given) (settled k gone given l w a buffer r ∙ sym s) (fits-then k gone given l w a)
+        (ready (outcome k gone given l w a .board) (served k gone given l w a r .then)) (served k gone given l w a r .held) (one-more k gone given l w a)))
         (λ z s. ended rest (tails ∙ ap (behind count) z) s)
         refl
       where
@@ -268,7 +289,7 @@ module _ (image : List ℕ) (bank : Bank) (n tries : ℕ) (st : Startable image 
         ended : {ns : List Name} {left given : ℕ} {rs : List Round} → Goes address n tries ns left given rs → ns ≡ [] → Finished ≡ followingOf k count
             → rounds nightSender stepMachine image then rs .told .next ≡ next.Finished
         ended home z s =
-            ap (λ (o : Told Night). o .next) (told-then k gone given l w (roundOf given buffer (Through a)) h)
+            ap (λ (o : Told Night). o .next) (told-then address k gone given l w (roundOf given buffer (Through a)) h (passage-more tt no-passage))
             ∙ ap (λ (x : Stand). toldAt image bank n tries buffer x .next) (settled k gone given l w a buffer r ∙ sym s)
         ended (fails t buffer f h rest) z s = no-way cc
         ended (through a buffer r h rest) z s = no-way cc
@@ -278,15 +299,16 @@ module _ (image : List ℕ) (bank : Bank) (n tries : ℕ) (st : Startable image 
 pub arrival-met : MeetsArrival nightSender stepMachine
 arrival-met image bank n tries before address b rs st h waits sound revision goes =
     let l : Loop Night = begins nightSender stepMachine image bank n tries before b in
-    arrive image bank n tries st address goes ModeStart 1 refl (omega (arith, st .low)) l
+    arrive image bank n tries st b address goes ModeStart 1 refl (omega (arith, st .low)) l
     (record {
       buffer = before;
       told = start-is image bank n tries st before h;
       right = begins-right image bank n tries st;
-      request = first-request image bank n tries st before b h revision;
-      known = first-known image bank n tries st before b h revision;
+      request = first-request image bank n tries st before b h;
+      known = first-known image bank n tries st Anyone b (UpdateIn image bank n tries st b) revision;
       fitting =
           record { sectors = waits .sectors; target = waits .target; sound = sound; revision = revision; whole = waits .whole };
       phase = inl (waits .idle);
+      held = λ t. absurd (false≢true (sym (ap isOpen (waits .idle)) ∙ t));
       counted = refl;
     })

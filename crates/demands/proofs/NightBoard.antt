@@ -47,6 +47,7 @@ use Rattle.sender.proofs.Packets.{Sent, sent-in, sector-length}
 use Rattle.exchange.specs.declared.state.State.{State}
 use Rattle.exchange.specs.declared.state.State.the-variants as state
 use Rattle.exchange.specs.Answer.{versionBytes, writtenBytes, answerBytes}
+use Rattle.exchange.specs.State.{isOpen}
 use Rattle.client.specs.Perform.{Accepted, storeResult}
 use Rattle.client.specs.declared.notice.Kind.the-variants.{Started, Ended}
 use Rattle.client.specs.declared.notice.Notice.{Notice}
@@ -64,6 +65,7 @@ use Rattle.demands.specs.Demand1.{
   isFault,
   noRequest,
   wrongLength,
+  fromStranger,
   wrongState,
   negativeResponse,
   parameterError,
@@ -85,7 +87,7 @@ use Rattle.demands.proofs.Demand1.{parameter-bytes}
 use Rattle.demands.proofs.Demand2.{said-back, control-short, written-short, padded-whole, begins-blank}
 use Rattle.demands.proofs.Bytes.{written-begin, written-stored}
 use Rattle.demands.proofs.Reading.{bank-short, version-short}
-use Rattle.demands.proofs.Rows.{Heard}
+use Rattle.demands.proofs.Rows.{Heard, own-mode}
 use Rattle.demands.proofs.Sessions.{Session, Shows, step-shows, step-closes}
 
 -- ---- when a request may go out: before the packets, or behind them
@@ -107,6 +109,15 @@ isEnding WriteStart = false
 isEnding (Packet p) = false
 isEnding WriteEnd = true
 isEnding ModeEnd = true
+
+pub ending-late : (k : Name) → isEnding k ≡ true → isEarly k ≡ false
+ending-late ModeStart e = absurd (false≢true e)
+ending-late VersionInfo e = absurd (false≢true e)
+ending-late BankInfo e = absurd (false≢true e)
+ending-late WriteStart e = absurd (false≢true e)
+ending-late (Packet p) e = refl
+ending-late WriteEnd e = refl
+ending-late ModeEnd e = refl
 
 -- ---- what an answer may tell the night sender of the board
 
@@ -141,8 +152,17 @@ module _ (image : List ℕ) (bank : Bank) (n : ℕ) where
     pub target : otherOf (b .client .fixed .running) ≡ bank
     pub made : (s : ℕ) → 1 ≤ s → s ≤ n → (sectorOf g s ≡ sectorOf image s) ⊎ (sectorOf g s ≡ blankSector)
 
+  -- each sector that is sent is shown
+  abbrev pub AllIn : List ℕ → Type 0
+  AllIn g = (q : ℕ) → q < packetCount image n → sectorOf g (packetSector image n q) ≡ sectorOf image (packetSector image n q)
+
+-- P tells the openers whose modes count: every address, or one
+module _ (image : List ℕ) (bank : Bank) (n : ℕ) (P : List ℕ → Type 0) where
+  abbrev pub Writing : Board → Type 0
+  Writing b = (b .client .state ≡ state.Write) × P (b .client .opener)
+
   abbrev pub Clean : Board → List ℕ → Type 0
-  Clean b g = b .client .state ≡ state.Write → Ours b g
+  Clean b g = Writing b → Ours image bank n b g
 
   -- the update is in, and no session is under way
   pub record Done (b : Board) : Type 0 where
@@ -150,34 +170,39 @@ module _ (image : List ℕ) (bank : Bank) (n : ℕ) where
     pub target : otherOf (b .client .fixed .running) ≡ bank
     pub is-image : sectorsIn n b ≡ image
     pub starts-next : b .client .next ≡ bank
-    pub resting : b .client .state ≡ state.Write → ⊥
+    pub resting : Writing b → ⊥
 
-  -- each sector that is sent is shown
-  abbrev pub AllIn : List ℕ → Type 0
-  AllIn g = (q : ℕ) → q < packetCount image n → sectorOf g (packetSector image n q) ≡ sectorOf image (packetSector image n q)
+  -- a write end that is answered 06: before it g was shown
+  pub record Ends (k : Name) (b : Board) (g : List ℕ) (o : Outcome) : Type 0 where
+    pub hand : k ≡ WriteEnd
+    pub writing : Writing b
+    pub answers : said o ≡ controlFrame 0x75 (0x06 ∷ [])
+    pub control : o .board .client .state ≡ state.Control
+    pub opener : o .board .client .opener ≡ b .client .opener
+    pub done : Clean b g → AllIn image bank n g → Done (o .board)
 
   -- what a response of this board says, where the request of this name arrived: before it g was shown, and now h is
-  abbrev pub Says : Name → Board → List ℕ → Board → List ℕ → Response → Type 0
-  Says k b g c h Unreadable = Unit {0}
-  Says k b g c h (Plain command.ModeStart r) = Unit {0}
-  Says k b g c h (Plain command.BankInfo r) = Unit {0}
-  Says k b g c h (Plain command.VersionInfo r) = Unit {0}
-  Says k b g c h (Plain command.WriteStart r) = Unit {0}
-  Says k b g c h (Plain command.WriteEnd r) = r ≡ 0x06 → (k ≡ WriteEnd) × ((b .client .state ≡ state.Write) × (Clean b g → AllIn g → Done c))
-  Says k b g c h (Plain command.ModeEnd r) = Unit {0}
-  Says k b g c h (Error r) = Unit {0}
-  Says k b g c h (Target x) = Unit {0}
-  Says k b g c h (Firmware id major minor revision) = Clean c h
-  Says k b g c h (Written s r w crc) =
-      r ≡ 0x06 → Accepted w → (isEarly k ≡ false) × (Clean b g → c .client .state ≡ state.Write → sectorOf h s ≡ sectorOf image s)
+  abbrev pub Says : Name → Board → List ℕ → Outcome → List ℕ → Response → Type 0
+  Says k b g o h Unreadable = Unit {0}
+  Says k b g o h (Plain command.ModeStart r) = Unit {0}
+  Says k b g o h (Plain command.BankInfo r) = Unit {0}
+  Says k b g o h (Plain command.VersionInfo r) = Unit {0}
+  Says k b g o h (Plain command.WriteStart r) = Unit {0}
+  Says k b g o h (Plain command.WriteEnd r) = r ≡ 0x06 → Ends k b g o
+  Says k b g o h (Plain command.ModeEnd r) = Unit {0}
+  Says k b g o h (Error r) = Unit {0}
+  Says k b g o h (Target x) = Unit {0}
+  Says k b g o h (Firmware id major minor revision) = Clean (o .board) h
+  Says k b g o h (Written s r w crc) =
+      r ≡ 0x06 → Accepted w → (isEarly k ≡ false) × (Clean b g → Writing (o .board) → sectorOf h s ≡ sectorOf image s)
 
   -- what one input does while the request of this name is at hand
   pub record Moves (k : Name) (b : Board) (g : List ℕ) (o : Outcome) (h : List ℕ) : Type 0 where
     pub clean : Clean b g → Clean (o .board) h
-    pub kept : isEarly k ≡ false → Clean b g → o .board .client .state ≡ state.Write
-        → (b .client .state ≡ state.Write) × ((s : ℕ) → 1 ≤ s → s ≤ n → sectorOf g s ≡ sectorOf image s → sectorOf h s ≡ sectorOf image s)
+    pub kept : isEarly k ≡ false → Clean b g → Writing (o .board)
+        → Writing b × ((s : ℕ) → 1 ≤ s → s ≤ n → sectorOf g s ≡ sectorOf image s → sectorOf h s ≡ sectorOf image s)
     pub done : isEnding k ≡ true → Done b → Done (o .board)
-    pub says : Says k b g (o .board) h (responseOf (said o))
+    pub says : Says k b g o h (responseOf (said o))
 
 -- ---- answers that tell nothing
 
@@ -231,14 +256,14 @@ declined-plain c = ap not (and-false (isEnd c))
 
 -- ---- states
 
-in-control : (s : State) (code : ℕ) → acceptedIn state.Idle code ≡ false → acceptedIn state.Write code ≡ false → acceptedIn s code ≡ true
+pub in-control : (s : State) (code : ℕ) → acceptedIn state.Idle code ≡ false → acceptedIn state.Write code ≡ false → acceptedIn s code ≡ true
     → s ≡ state.Control
 in-control state.Closed code i w e = absurd (false≢true e)
 in-control state.Idle code i w e = absurd (false≢true (sym i ∙ e))
 in-control state.Control code i w e = refl
 in-control state.Write code i w e = absurd (false≢true (sym w ∙ e))
 
-in-write : (s : State) → takesPackets s ≡ true → s ≡ state.Write
+pub in-write : (s : State) → takesPackets s ≡ true → s ≡ state.Write
 in-write state.Closed e = absurd (false≢true e)
 in-write state.Idle e = absurd (false≢true e)
 in-write state.Control e = absurd (false≢true e)
@@ -250,19 +275,19 @@ ends-write state.Idle e = absurd (false≢true e)
 ends-write state.Control e = absurd (false≢true e)
 ends-write state.Write e = refl
 
-module _ (image : List ℕ) (bank : Bank) (n : ℕ) where
-  idle-says : (k : Name) (b : Board) (g : List ℕ) (c : Board) (h : List ℕ) (r : Response) → idle r ≡ true → Says image bank n k b g c h r
-  idle-says k b g c h Unreadable e = tt
-  idle-says k b g c h (Plain command.ModeStart r) e = tt
-  idle-says k b g c h (Plain command.BankInfo r) e = tt
-  idle-says k b g c h (Plain command.VersionInfo r) e = tt
-  idle-says k b g c h (Plain command.WriteStart r) e = tt
-  idle-says k b g c h (Plain command.WriteEnd r) e = λ q. absurd (false≢true (sym (ap (λ (x : ℕ). not (eqb x 0x06)) q) ∙ e))
-  idle-says k b g c h (Plain command.ModeEnd r) e = tt
-  idle-says k b g c h (Error r) e = tt
-  idle-says k b g c h (Target x) e = tt
-  idle-says k b g c h (Firmware id major minor revision) e = absurd (false≢true e)
-  idle-says k b g c h (Written s r w crc) e = λ q a. absurd (false≢true (sym (told q a) ∙ e))
+module _ (image : List ℕ) (bank : Bank) (n : ℕ) (P : List ℕ → Type 0) where
+  idle-says : (k : Name) (b : Board) (g : List ℕ) (o : Outcome) (h : List ℕ) (r : Response) → idle r ≡ true → Says image bank n P k b g o h r
+  idle-says k b g o h Unreadable e = tt
+  idle-says k b g o h (Plain command.ModeStart r) e = tt
+  idle-says k b g o h (Plain command.BankInfo r) e = tt
+  idle-says k b g o h (Plain command.VersionInfo r) e = tt
+  idle-says k b g o h (Plain command.WriteStart r) e = tt
+  idle-says k b g o h (Plain command.WriteEnd r) e = λ q. absurd (false≢true (sym (ap (λ (x : ℕ). not (eqb x 0x06)) q) ∙ e))
+  idle-says k b g o h (Plain command.ModeEnd r) e = tt
+  idle-says k b g o h (Error r) e = tt
+  idle-says k b g o h (Target x) e = tt
+  idle-says k b g o h (Firmware id major minor revision) e = absurd (false≢true e)
+  idle-says k b g o h (Written s r w crc) e = λ q a. absurd (false≢true (sym (told q a) ∙ e))
     where
       told : r ≡ 0x06 → Accepted w → not (eqb r 0x06 && (eqb w 0x06 || eqb w 0x1D)) ≡ false
       told q (inl a) = rw (q, a)
@@ -270,22 +295,22 @@ module _ (image : List ℕ) (bank : Bank) (n : ℕ) where
 
   module _ (k : Name) (b : Board) (g : List ℕ) (o : Outcome) (h : List ℕ) where
     -- nothing changed
-    stands : o .board ≡ b → h ≡ g → Says image bank n k b g (o .board) h (responseOf (said o)) → Moves image bank n k b g o h
+    stands : o .board ≡ b → h ≡ g → Says image bank n P k b g o h (responseOf (said o)) → Moves image bank n P k b g o h
     stands e q says =
         record {
-          clean = λ c. subst (λ (x : Board). Clean image bank n x h) (sym e) (subst (λ (x : List ℕ). Clean image bank n b x) (sym q) c);
-          kept = λ _ _ w. (sym (ap (λ (x : Board). x .client .state) e) ∙ w, λ s l u z. ap (λ (x : List ℕ). sectorOf x s) q ∙ z);
-          done = λ _ d. subst (Done image bank n) (sym e) d;
+          clean = λ c. subst (λ (x : Board). Clean image bank n P x h) (sym e) (subst (λ (x : List ℕ). Clean image bank n P b x) (sym q) c);
+          kept = λ _ _ w. (subst (Writing image bank n P) e w, λ s l u z. ap (λ (x : List ℕ). sectorOf x s) q ∙ z);
+          done = λ _ d. subst (Done image bank n P) (sym e) d;
           says = says;
         }
 
-    stays : o .board ≡ b → h ≡ g → idle (responseOf (said o)) ≡ true → Moves image bank n k b g o h
-    stays e q i = stands e q (idle-says k b g (o .board) h (responseOf (said o)) i)
+    stays : o .board ≡ b → h ≡ g → idle (responseOf (said o)) ≡ true → Moves image bank n P k b g o h
+    stays e q i = stands e q (idle-says k b g o h (responseOf (said o)) i)
 
     -- the session, if there was one, is over
-    rests : (o .board .client .state ≡ state.Write → ⊥) → (isEnding k ≡ true → Done image bank n b → Done image bank n (o .board))
-        → Says image bank n k b g (o .board) h (responseOf (said o)) → Moves image bank n k b g o h
-    rests r d s = record { clean = λ _ w. absurd (r w); kept = λ _ _ w. absurd (r w); done = d; says = s }
+    rests : (o .board .client .state ≡ state.Write → ⊥) → (isEnding k ≡ true → Done image bank n P b → Done image bank n P (o .board))
+        → Says image bank n P k b g o h (responseOf (said o)) → Moves image bank n P k b g o h
+    rests r d s = record { clean = λ _ w. absurd (r (w .0)); kept = λ _ _ w. absurd (r (w .0)); done = d; says = s }
 
   -- ---- what an answer leaves shown
 
@@ -294,7 +319,7 @@ module _ (image : List ℕ) (bank : Bank) (n : ℕ) where
     shown o = noted (b .client .fixed .n) g (Datagram call) o
 
     abbrev Fine : Outcome → Type 0
-    Fine o = stepMachine b (Datagram call) ≡ o → Moves image bank n k b g o (shown o)
+    Fine o = stepMachine b (Datagram call) ≡ o → Moves image bank n P k b g o (shown o)
 
     refused-fine : (number : ℕ) → Fine (refused b (call .buffer) number)
     refused-fine number _ = stays k b g (refused b (call .buffer) number) g refl refl empty-idle
@@ -318,55 +343,52 @@ module _ (image : List ℕ) (bank : Bank) (n : ℕ) where
 
       -- a response with a result alone, and a record that is no session's
       changed-fine : (c : Client) (notice : Notice) (answer : List ℕ) → length answer ≤ 14 → idle (responseOf answer) ≡ true
-          → (c .state ≡ state.Write → ⊥) → (isEnding k ≡ true → Done image bank n b → Done image bank n (board c (b .pair))) → Fine (changed b call c notice answer)
+          → (c .state ≡ state.Write → ⊥) → (isEnding k ≡ true → Done image bank n P b → Done image bank n P (board c (b .pair))) → Fine (changed b call c notice answer)
       changed-fine c notice answer l d r e _ =
           let o : Outcome = changed b call c notice answer in
           rests k b g o (shown o) r e
-          (idle-says k b g (o .board) (shown o) (responseOf (said o)) (ap (λ (x : List ℕ). idle (responseOf x)) (said-back call answer l room) ∙ d))
+          (idle-says k b g o (shown o) (responseOf (said o)) (ap (λ (x : List ℕ). idle (responseOf x)) (said-back call answer l room) ∙ d))
 
   -- ---- the requests, one by one
 
   module _ (b : Board) (g : List ℕ) (call : LentCall) where
     abbrev Arrived : Name → Type 0
-    Arrived k = Moves image bank n k b g (stepMachine b (Datagram call)) (shown k b g call (stepMachine b (Datagram call)))
+    Arrived k = Moves image bank n P k b g (stepMachine b (Datagram call)) (shown k b g call (stepMachine b (Datagram call)))
 
     by-rows : (k : Name) (r : Read) → readOf (call .datagram) ≡ r → isFault r ≡ false
         → (Heard b call → First (Fine k b g call) (afterFrame b call r)) → Arrived k
     by-rows k r e f rows =
-        came b call (Fine k b g call) (refused-fine k b g call) (ap isFault e ∙ f)
-        (λ h. subst (λ (x : Read). First (Fine k b g call) (afterFrame b call x)) (sym e) (rows h)) refl
+        came b call (Fine k b g call) (refused-fine k b g call) (λ t _. absurd (false≢true (sym (ap isFault e ∙ f) ∙ t)))
+        (λ _ h. subst (λ (x : Read). First (Fine k b g call) (afterFrame b call x)) (sym e) (rows h)) refl
 
-    -- a control frame: out of its state it is answered 15, and then come the rows behind the state
+    -- a control frame: from a stranger, and out of its state, it is answered 15, and then come the rows behind the state
     by-control : (k : Name) (c : Command) (code m : ℕ) → readOf (call .datagram) ≡ Control code m → noRequest (Control code m) ≡ false
         → wrongLength (Control code m) ≡ false → negativeResponse (Control code m) ≡ controlFrame (responseCode c) (0x15 ∷ [])
-        → (Heard b call → wrongState (b .client .state) (Control code m) ≡ false
-        → First (Fine k b g call) (drop 3 (afterFrame b call (Control code m))))
+        → (Heard b call → fromStranger (b .client) (call .address) ≡ false → wrongState (b .client .state) (Control code m) ≡ false
+        → First (Fine k b g call) (drop 4 (afterFrame b call (Control code m))))
         → Arrived k
     unfolding mayCarry addedOf
     by-control k c code m e n l r rows =
         by-rows k (Control code m) e refl
         (λ h.
-        skip n
-        (skip l
-        (first
-        (λ _.
+        let declined : Fine k b g call (answered b call (negativeResponse (Control code m))) =
         subst (λ (x : List ℕ). Fine k b g call (answered b call x)) (sym r)
         (answered-fine k b g call (roomy b call h) (controlFrame (responseCode c) (0x15 ∷ [])) (control-short (responseCode c) 0x15)
-        (declined-begin (responseCode c)) (declined-stored (responseCode c)) (plain-idle c 0x15 refl refl (declined-plain c))))
-        (λ w. rows h w))))
+        (declined-begin (responseCode c)) (declined-stored (responseCode c)) (plain-idle c 0x15 refl refl (declined-plain c))) in
+        skip n (skip l (first (λ _. declined) (λ o. first (λ _. declined) (λ w. rows h o w)))))
 
     pub mode-start-moves : call .datagram ≡ requestFrame request.ModeStart → Arrived ModeStart
     unfolding controlFrame framed mayCarry addedOf
     mode-start-moves e =
         by-control ModeStart command.ModeStart 0x61 0 (ap readOf e ∙ request-read request.ModeStart) refl refl refl
-        (λ h _.
+        (λ h _ _.
         skip refl
         (skip refl
         (skip refl
         (skip refl
         (first
         (λ _.
-        changed-fine ModeStart b g call (roomy b call h) (opened (b .client)) (noticeWith Started 0 (call .address)) (controlFrame 0x71 (0x06 ∷ []))
+        changed-fine ModeStart b g call (roomy b call h) (opened (call .address) (b .client)) (noticeWith Started 0 (call .address)) (controlFrame 0x71 (0x06 ∷ []))
         (control-short 0x71 0x06) (plain-idle command.ModeStart 0x06 refl refl refl) (not-write state.Control refl) (λ x. absurd (false≢true x)))
         (λ x. absurd (false≢true (sym x))))))))
 
@@ -382,13 +404,13 @@ module _ (image : List ℕ) (bank : Bank) (n : ℕ) where
         let reads : responseOf (said o) ≡ Firmware 0x0400 (f .major) (f .minor) (f .revision) =
         ap responseOf e ∙ sym (version-back 0x0400 (f .major) (f .minor) (f .revision) (omega arith) revision) in
         stands VersionInfo b g o (shown VersionInfo b g call o) refl (quietly VersionInfo b g call answer e refl refl)
-        (subst (Says image bank n VersionInfo b g b (shown VersionInfo b g call o)) (sym reads) (λ w. absurd (not-write state.Control refl (sym c ∙ w))))
+        (subst (Says image bank n P VersionInfo b g o (shown VersionInfo b g call o)) (sym reads) (λ w. absurd (not-write state.Control refl (sym c ∙ w .0))))
 
     pub version-moves : b .client .fixed .revision < 2 ^ 32 → call .datagram ≡ requestFrame request.VersionInfo → Arrived VersionInfo
     unfolding controlFrame framed mayCarry addedOf
     version-moves revision e =
         by-control VersionInfo command.VersionInfo 0x68 0 (ap readOf e ∙ request-read request.VersionInfo) refl refl refl
-        (λ h w.
+        (λ h _ w.
         skip refl
         (skip refl
         (skip refl
@@ -403,7 +425,7 @@ module _ (image : List ℕ) (bank : Bank) (n : ℕ) where
     bank-moves e =
         let target : Bank = otherOf (b .client .fixed .running) in
         by-control BankInfo command.BankInfo 0x62 0 (ap readOf e ∙ request-read request.BankInfo) refl refl refl
-        (λ h _.
+        (λ h _ _.
         skip refl
         (skip refl
         (skip refl
@@ -419,7 +441,7 @@ module _ (image : List ℕ) (bank : Bank) (n : ℕ) where
     unfolding controlFrame framed mayCarry addedOf
     mode-end-moves e =
         by-control ModeEnd command.ModeEnd 0x64 0 (ap readOf e ∙ request-read request.ModeEnd) refl refl refl
-        (λ h _.
+        (λ h _ _.
         skip refl
         (skip refl
         (skip refl
@@ -438,7 +460,7 @@ module _ (image : List ℕ) (bank : Bank) (n : ℕ) where
           target = d .target;
           is-image = d .is-image;
           starts-next = d .starts-next;
-          resting = not-write state.Idle refl;
+          resting = λ w. not-write state.Idle refl (w .0);
         }))
         (λ x. absurd (false≢true (sym x))))))))))))
 
@@ -461,7 +483,7 @@ module _ (image : List ℕ) (bank : Bank) (n : ℕ) where
         record {
           clean = λ _ w.
               record {
-                session = shows-then o e (λ x. absurd (not-write state.Control refl (sym c ∙ x))) w;
+                session = shows-then o e (λ x. absurd (not-write state.Control refl (sym c ∙ x))) (w .0);
                 sectors = sectors;
                 target = target;
                 made = λ k l u. inr (ap (λ (x : List ℕ). sectorOf x k) blank ∙ sector-blanks n k l u);
@@ -469,7 +491,7 @@ module _ (image : List ℕ) (bank : Bank) (n : ℕ) where
           kept = λ x. absurd (false≢true (sym x));
           done = λ x. absurd (false≢true x);
           says =
-              idle-says WriteStart b g (o .board) h (responseOf (said o))
+              idle-says WriteStart b g o h (responseOf (said o))
               (ap (λ (x : List ℕ). idle (responseOf x)) s ∙ plain-idle command.WriteStart 0x06 refl refl refl);
         }
 
@@ -477,7 +499,7 @@ module _ (image : List ℕ) (bank : Bank) (n : ℕ) where
     unfolding controlFrame framed mayCarry addedOf
     write-start-moves good e =
         by-control WriteStart command.WriteStart 0x40 8 (ap readOf e ∙ start-read bank n) refl refl refl
-        (λ h w.
+        (λ h _ w.
         first (λ _. parameter-fine WriteStart b g call (roomy b call h))
         (λ v.
         let told = start-tells (b .client .fixed) bank n good (h .good) (subst (pairGood (b .client .fixed)) e (not-false _ v)) in
@@ -590,33 +612,35 @@ module _ (image : List ℕ) (bank : Bank) (n : ℕ) where
           let says-stored : responseOf (said o) ≡ Written k 0x06 result crc = ap responseOf s ∙ stored-back k result crc small (of-lt (paddedOf bytes)) taken in
           record {
             clean = λ c v.
-                let ours = c w in
+                let ours = c (w, v .1) in
                 record {
-                  session = shows-then b g call o e (λ _. ours .session) v;
+                  session = shows-then b g call o e (λ _. ours .session) (v .0);
                   sectors = ours .sectors;
                   target = ours .target;
                   made = λ j l u.
                       subst (λ (x : List ℕ). (sectorOf x j ≡ sectorOf image j) ⊎ (sectorOf x j ≡ blankSector)) (sym is) (still-made ours j l u (ours .made j l u));
                 };
-            kept = λ _ c v. (w, λ j l u m. ap (λ (x : List ℕ). sectorOf x j) is ∙ still-in (c w) j l u m);
+            kept = λ _ c v. ((w, v .1), λ j l u m. ap (λ (x : List ℕ). sectorOf x j) is ∙ still-in (c (w, v .1)) j l u m);
             done = λ x. absurd (false≢true x);
             says =
-                subst (Says image bank n (Packet p) b g (o .board) h) (sym says-stored)
-                (λ _ _. (refl, λ c _. ap (λ (x : List ℕ). sectorOf x k) is ∙ here (c w)));
+                subst (Says image bank n P (Packet p) b g o h) (sym says-stored)
+                (λ _ _. (refl, λ c v. ap (λ (x : List ℕ). sectorOf x k) is ∙ here (c (w, v .1))));
           }
 
-      pub packet-moves : Moves image bank n (Packet p) b g (stepMachine b (Datagram call)) (shown (Packet p) b g call (stepMachine b (Datagram call)))
+      pub packet-moves : Moves image bank n P (Packet p) b g (stepMachine b (Datagram call)) (shown (Packet p) b g call (stepMachine b (Datagram call)))
       unfolding answerBytes
       packet-moves =
           by-rows b g call (Packet p) (Write k 512 (footerOf (packetCount image n) p)) reads refl
           (λ h.
           let room = roomy b call h in
+          let declined =
+          answered-fine (Packet p) b g call room (writeFrame k (writtenBytes 0x15 0x15 0) End) (written-short k 0x15 0x15 0)
+          (written-begin k 0x15 0x15 0) (other-stored k 0x15 0x15 0 refl) (declined-idle k small) in
           skip refl
           (skip refl
-          (first
+          (first (λ _. declined)
           (λ _.
-          answered-fine (Packet p) b g call room (writeFrame k (writtenBytes 0x15 0x15 0) End) (written-short k 0x15 0x15 0)
-          (written-begin k 0x15 0x15 0) (other-stored k 0x15 0x15 0 refl) (declined-idle k small))
+          first (λ _. declined)
           (λ w.
           first (λ _. parameter-fine (Packet p) b g call room)
           (λ _.
@@ -624,22 +648,22 @@ module _ (image : List ℕ) (bank : Bank) (n : ℕ) where
           (λ _.
           answered-fine (Packet p) b g call room (writeFrame k (writtenBytes 0x06 0x1C 0) End) (written-short k 0x06 0x1C 0)
           (written-begin k 0x06 0x1C 0) (other-stored k 0x06 0x1C 0 refl) (worn-idle k small))
-          (λ _. skip refl (first (λ _. stored-fine room (in-write (b .client .state) (not-false _ w))) (λ x. absurd (false≢true (sym x))))))))))
+          (λ _. skip refl (first (λ _. stored-fine room (in-write (b .client .state) (not-false _ w))) (λ x. absurd (false≢true (sym x)))))))))))
 
   -- ---- the write end
 
   module _ (size : length image ≡ bankSize n) (b : Board) (g : List ℕ) (call : LentCall) where
     -- a session is over, without 06
-    over-fine : 14 ≤ length (call .buffer) → b .client .state ≡ state.Write → (result : ℕ) → (o : Outcome) → o .board .client .state ≡ state.Control
+    over-fine : 14 ≤ length (call .buffer) → Writing image bank n P b → (result : ℕ) → (o : Outcome) → o .board .client .state ≡ state.Control
         → said o ≡ controlFrame 0x75 (result ∷ []) → idle (responseOf (controlFrame 0x75 (result ∷ []))) ≡ true → Fine WriteEnd b g call o
     over-fine room w result o c s d _ =
         rests WriteEnd b g o (shown WriteEnd b g call o) (λ x. absurd (not-write state.Control refl (sym c ∙ x))) (λ _ d. absurd (d .resting w))
-        (idle-says WriteEnd b g (o .board) (shown WriteEnd b g call o) (responseOf (said o)) (ap (λ (x : List ℕ). idle (responseOf x)) s ∙ d))
+        (idle-says WriteEnd b g o (shown WriteEnd b g call o) (responseOf (said o)) (ap (λ (x : List ℕ). idle (responseOf x)) s ∙ d))
 
     abbrev goodEnd : Outcome
     goodEnd = stored b call (starting (otherOf (b .client .fixed .running)) (ended Good (b .client))) (sweptTarget b call) (controlFrame 0x75 (0x06 ∷ []))
 
-    ended-fine : 14 ≤ length (call .buffer) → b .client .state ≡ state.Write → Fine WriteEnd b g call goodEnd
+    ended-fine : 14 ≤ length (call .buffer) → Writing image bank n P b → Fine WriteEnd b g call goodEnd
     unfolding mayCarry addedOf
     ended-fine room w e =
         let o : Outcome = goodEnd in
@@ -647,34 +671,37 @@ module _ (image : List ℕ) (bank : Bank) (n : ℕ) where
         let s : said o ≡ controlFrame 0x75 (0x06 ∷ []) = said-back call (controlFrame 0x75 (0x06 ∷ [])) (control-short 0x75 0x06) room in
         let reads : responseOf (said o) ≡ Plain command.WriteEnd 0x06 = ap responseOf s ∙ sym (plain-back command.WriteEnd 0x06 refl refl) in
         rests WriteEnd b g o h (not-write state.Control refl) (λ _ d. absurd (d .resting w))
-        (subst (Says image bank n WriteEnd b g (o .board) h) (sym reads)
-        (λ _. (
-          refl,
-          (
-            w,
-            λ c all.
-                let ours = c w in
-                let closed : sectorsIn (b .client .fixed .n) (o .board) ≡ g =
-                subst (λ (x : Outcome). sectorsIn (b .client .fixed .n) (x .board) ≡ g) e
-                (step-closes b g (Datagram call) (λ _. ours .session) (ap (λ (x : Outcome). endsSession (said x)) e ∙ ap endsSession s ∙ ends-so)) in
-                record {
-                  sectors = ours .sectors;
-                  target = ours .target;
-                  is-image = ap (λ (x : ℕ). sectorsIn x (o .board)) (sym (ours .sectors)) ∙ closed ∙ whole-image size b g ours all;
-                  starts-next = ours .target;
-                  resting = not-write state.Control refl;
-                },
-          ),
-        )))
+        (subst (Says image bank n P WriteEnd b g o h) (sym reads)
+        (λ _.
+        record {
+          hand = refl;
+          writing = w;
+          answers = s;
+          control = refl;
+          opener = refl;
+          done = λ c all.
+              let ours = c w in
+              let closed : sectorsIn (b .client .fixed .n) (o .board) ≡ g =
+              subst (λ (x : Outcome). sectorsIn (b .client .fixed .n) (x .board) ≡ g) e
+              (step-closes b g (Datagram call) (λ _. ours .session) (ap (λ (x : Outcome). endsSession (said x)) e ∙ ap endsSession s ∙ ends-so)) in
+              record {
+                sectors = ours .sectors;
+                target = ours .target;
+                is-image = ap (λ (x : ℕ). sectorsIn x (o .board)) (sym (ours .sectors)) ∙ closed ∙ whole-image size b g ours all;
+                starts-next = ours .target;
+                resting = λ x. not-write state.Control refl (x .0);
+              };
+        }))
 
-    pub write-end-moves : call .datagram ≡ requestFrame request.WriteEnd
-        → Moves image bank n WriteEnd b g (stepMachine b (Datagram call)) (shown WriteEnd b g call (stepMachine b (Datagram call)))
+    pub write-end-moves : P (call .address) → call .datagram ≡ requestFrame request.WriteEnd
+        → Moves image bank n P WriteEnd b g (stepMachine b (Datagram call)) (shown WriteEnd b g call (stepMachine b (Datagram call)))
     unfolding controlFrame framed mayCarry addedOf
-    write-end-moves e =
+    write-end-moves own e =
         by-control b g call WriteEnd command.WriteEnd 0x45 0 (ap readOf e ∙ request-read request.WriteEnd) refl refl refl
-        (λ h v.
+        (λ h o v.
         let room = roomy b call h in
-        let w = ends-write (b .client .state) (not-false _ v) in
+        let s = ends-write (b .client .state) (not-false _ v) in
+        let w : Writing image bank n P b = (s, subst P (own-mode (b .client) (call .address) o (ap isOpen s)) own) in
         skip refl
         (skip refl
         (first
@@ -699,16 +726,16 @@ module _ (image : List ℕ) (bank : Bank) (n : ℕ) where
   -- ---- the host
 
   module _ (k : Name) (b : Board) (g : List ℕ) where
-    refused-host : (number : ℕ) → Moves image bank n k b g (refused b [] number) g
+    refused-host : (number : ℕ) → Moves image bank n P k b g (refused b [] number) g
     refused-host number = stays k b g (refused b [] number) g refl refl empty-idle
 
-    done-host : (c : Client) → (c .state ≡ state.Write → ⊥) → (Done image bank n b → Done image bank n (board c (b .pair)))
-        → Moves image bank n k b g (hostDone b c) g
-    done-host c r d = rests k b g (hostDone b c) g r (λ _. d) (idle-says k b g (board c (b .pair)) g (responseOf []) empty-idle)
+    done-host : (c : Client) → (c .state ≡ state.Write → ⊥) → (Done image bank n P b → Done image bank n P (board c (b .pair)))
+        → Moves image bank n P k b g (hostDone b c) g
+    done-host c r d = rests k b g (hostDone b c) g r (λ _. d) (idle-says k b g (hostDone b c) g (responseOf []) empty-idle)
 
-    pub initiate-moves : Moves image bank n k b g (stepMachine b Initiate) g
+    pub initiate-moves : Moves image bank n P k b g (stepMachine b Initiate) g
     initiate-moves =
-        hosted (λ (o : Outcome). Moves image bank n k b g o g) b Initiate
+        hosted (λ (o : Outcome). Moves image bank n P k b g o g) b Initiate
         (first (λ _. refused-host 3)
         (λ _.
         first (λ _. refused-host 4)
@@ -717,12 +744,12 @@ module _ (image : List ℕ) (bank : Bank) (n : ℕ) where
         (λ _.
         done-host (initiated (b .client)) (not-write state.Idle refl)
         (λ d.
-        record { sectors = d .sectors; target = d .target; is-image = d .is-image; starts-next = d .starts-next; resting = not-write state.Idle refl }))
+        record { sectors = d .sectors; target = d .target; is-image = d .is-image; starts-next = d .starts-next; resting = λ w. not-write state.Idle refl (w .0) }))
         (λ _. last))))
 
-    pub terminate-moves : Moves image bank n k b g (stepMachine b Terminate) g
+    pub terminate-moves : Moves image bank n P k b g (stepMachine b Terminate) g
     terminate-moves =
-        hosted (λ (o : Outcome). Moves image bank n k b g o g) b Terminate
+        hosted (λ (o : Outcome). Moves image bank n P k b g o g) b Terminate
         (first (λ _. refused-host 3)
         (λ _.
         first (λ _. refused-host 4)
@@ -731,5 +758,5 @@ module _ (image : List ℕ) (bank : Bank) (n : ℕ) where
         (λ _.
         done-host (terminated (b .client)) (not-write state.Closed refl)
         (λ d.
-        record { sectors = d .sectors; target = d .target; is-image = d .is-image; starts-next = d .starts-next; resting = not-write state.Closed refl }))
+        record { sectors = d .sectors; target = d .target; is-image = d .is-image; starts-next = d .starts-next; resting = λ w. not-write state.Closed refl (w .0) }))
         (λ _. last))))

@@ -2,7 +2,7 @@
 -- Assumes nothing.
 use mathlib.Core.Path.{_≡_, refl, sym, ap, subst, _∙_}
 use mathlib.Core.Logic.{_⊎_, inl, inr}
-use mathlib.Core.Bool.{Bool, true, false}
+use mathlib.Core.Bool.{Bool, true, false, false≢true}
 use mathlib.Core.List.{List, [], _∷_}
 use Prim.Native.Nat.{ℕ, _-_, _^_, _≤_, _<_}
 use native.Mathlib.Omega.{arith}
@@ -35,7 +35,7 @@ use Rattle.sender.proofs.Packets.{Sent, sent-in}
 use Rattle.exchange.specs.declared.state.State.{State}
 use Rattle.exchange.specs.declared.state.State.the-variants as state
 use Rattle.exchange.specs.Answer.{versionBytes, writtenBytes}
-use Rattle.exchange.specs.State.{isClosed}
+use Rattle.exchange.specs.State.{isClosed, isOpen}
 use Rattle.client.specs.Perform.{Accepted, fitOf, storeResult}
 use Rattle.decision.specs.declared.plan.Fixed.{Fixed}
 use Rattle.decision.specs.Plan.{isWorn, anyWorn, valuesGood}
@@ -47,16 +47,17 @@ use Rattle.night.specs.declared.name.Name.the-variants.{ModeStart, VersionInfo,
 use Rattle.night.specs.Name.{numberOf, frameOf}
 use Rattle.night.proofs.Judged.{Settling, done-own, ended-own, settled-version, settled-bank, settled-packet}
 use Rattle.demands.specs.Board.{LentCall, Input, Datagram, Outcome, said, lentTarget, stepMachine}
-use Rattle.demands.specs.Demand1.{sweptTarget}
-use Rattle.demands.specs.Demand2.{Lends}
+use Rattle.demands.specs.Demand1.{fromStranger, sweptTarget}
+use Rattle.demands.specs.Demand2.{Lends, SentFrom}
 use Rattle.demands.specs.Night.{Startable}
 use Rattle.demands.proofs.Asking.{request-read, start-read, pairGood, start-addressed}
 use Rattle.demands.proofs.Demand2.{lent-whole, heard, no-mark, said-back, control-short, written-short}
 use Rattle.demands.proofs.NightBoard.{Ours, whole-image, reads, padded-are, stored-back}
-use Rattle.demands.proofs.NightLoop.{Inv, all-heard, cleans}
+use Rattle.demands.proofs.NightLoop.{clean-heard, all-heard, Anyone, UpdateIn, Known}
 use Rattle.demands.proofs.Reading.{bank-short, version-short}
 use Rattle.demands.proofs.Rows.{
   Heard,
+  from-opener,
   write-start,
   packet,
   write-end,
@@ -98,6 +99,11 @@ module _ (image : List ℕ) (bank : Bank) (n tries : ℕ) (st : Startable image 
         whole = λ x. lengths-kept b i x ∙ f .whole x;
       }
 
+  -- ---- who opened the mode, where one is open
+
+  abbrev pub Held : List ℕ → Board → Type 0
+  Held address b = isOpen (b .client .state) ≡ true → b .client .opener ≡ address
+
   -- ---- its state, by the request at hand and how often that has gone out
 
   abbrev pub Phase : Name → ℕ → Board → Type 0
@@ -122,9 +128,10 @@ module _ (image : List ℕ) (bank : Bank) (n tries : ℕ) (st : Startable image 
   abbrev pub SettledBy : Name → ℕ → List ℕ → Type 0
   SettledBy k gone answer = Settling k (leb 2 gone) bank image (packetSector image n (numberOf k)) (responseOf answer)
 
-  pub record Served (k : Name) (gone : ℕ) (o : Outcome) : Type 0 where
+  pub record Served (address : List ℕ) (k : Name) (gone : ℕ) (o : Outcome) : Type 0 where
     pub settles : SettledBy k gone (said o)
     pub then : o .board .client .state ≡ stateAfter k
+    pub held : Held address (o .board)
 
   version-settles : (major minor revision gone : ℕ) → revision < 2 ^ 32
       → SettledBy VersionInfo gone (controlFrame 0x78 (versionBytes major minor revision))
@@ -135,7 +142,18 @@ module _ (image : List ℕ) (bank : Bank) (n tries : ℕ) (st : Startable image 
 
   -- ---- each request that arrives
 
-  module _ (b : Board) (f : Fitting b) (call : LentCall) (l : Lends n call) where
+  module _ (address : List ℕ) (b : Board) (f : Fitting b) (holds : Held address b) (call : LentCall) (comes : SentFrom address n call) where
+    l : Lends n call
+    l = comes .lends
+
+    -- ours, or no mode is open
+    own : fromStranger (b .client) (call .address) ≡ false
+    own = by (isOpen (b .client .state)) refl
+      where
+        by : (t : Bool) → isOpen (b .client .state) ≡ t → fromStranger (b .client) (call .address) ≡ false
+        by true e = from-opener (b .client) (call .address) (comes .sender ∙ sym (holds e))
+        by false e = rw e
+
     good : goodN (b .client .fixed .n) ≡ true
     good = ap goodN (f .sectors) ∙ st .good
 
@@ -152,74 +170,80 @@ module _ (image : List ℕ) (bank : Bank) (n tries : ℕ) (st : Startable image 
     back answer h = said-back call answer h (l .room)
 
     served : (k : Name) (gone : ℕ) (o : Outcome) (answer : List ℕ) → stepMachine b (Datagram call) ≡ o → said o ≡ answer → SettledBy k gone answer
-        → o .board .client .state ≡ stateAfter k → Served k gone (stepMachine b (Datagram call))
-    served k gone o answer e s t w =
+        → o .board .client .state ≡ stateAfter k → Held address (o .board) → Served address k gone (stepMachine b (Datagram call))
+    served k gone o answer e s t w m =
         record {
           settles = subst (λ (x : List ℕ). SettledBy k gone x) (sym (ap said e ∙ s)) t;
           then = ap (λ (x : Outcome). x .board .client .state) e ∙ w;
+          held = subst (λ (x : Outcome). Held address (x .board)) (sym e) m;
         }
 
+    -- the mode goes on
+    goes-on : (s : State) → isOpen s ≡ true → b .client .state ≡ s → b .client .opener ≡ address
+    goes-on s t e = holds (ap isOpen e ∙ t)
+
     serve-mode-start : (gone : ℕ) → call .datagram ≡ requestFrame request.ModeStart → Phase ModeStart gone b
-        → Served ModeStart gone (stepMachine b (Datagram call))
+        → Served address ModeStart gone (stepMachine b (Datagram call))
     unfolding mayCarry addedOf
     serve-mode-start gone e (inl i) =
         served ModeStart gone _ (controlFrame 0x71 (0x06 ∷ []))
         (mode-start b call (in-state state.Idle refl i) i (ap readOf e ∙ request-read request.ModeStart))
         (back (controlFrame 0x71 (0x06 ∷ [])) (control-short 0x71 0x06))
-        (done-own command.ModeStart (leb 2 gone) _ (inl (sym (plain-back command.ModeStart 0x06 refl refl)))) refl
+        (done-own command.ModeStart (leb 2 gone) _ (inl (sym (plain-back command.ModeStart 0x06 refl refl)))) refl (λ _. comes .sender)
     serve-mode-start gone e (inr c) =
         served ModeStart gone _ (controlFrame 0x71 (0x15 ∷ []))
         (mode-start-declined b call (in-state state.Control refl (c .0)) (c .0) (ap readOf e ∙ request-read request.ModeStart))
         (back (controlFrame 0x71 (0x15 ∷ [])) (control-short 0x71 0x15))
-        (done-own command.ModeStart (leb 2 gone) _ (inr (sym (plain-back command.ModeStart 0x15 refl refl), le-leb 2 gone (c .1)))) (c .0)
+        (done-own command.ModeStart (leb 2 gone) _ (inr (sym (plain-back command.ModeStart 0x15 refl refl), le-leb 2 gone (c .1)))) (c .0) holds
 
     serve-version : (gone : ℕ) → call .datagram ≡ requestFrame request.VersionInfo → Phase VersionInfo gone b
-        → Served VersionInfo gone (stepMachine b (Datagram call))
+        → Served address VersionInfo gone (stepMachine b (Datagram call))
     serve-version gone e c =
         let x : Fixed = b .client .fixed in
         served VersionInfo gone _ (controlFrame 0x78 (versionBytes (x .major) (x .minor) (x .revision)))
-        (version b call (in-state state.Control refl c) c (ap readOf e ∙ request-read request.VersionInfo))
+        (version b call (in-state state.Control refl c) own c (ap readOf e ∙ request-read request.VersionInfo))
         (back (controlFrame 0x78 (versionBytes (x .major) (x .minor) (x .revision))) (version-short (x .major) (x .minor) (x .revision)))
-        (version-settles (x .major) (x .minor) (x .revision) gone (f .revision)) c
+        (version-settles (x .major) (x .minor) (x .revision) gone (f .revision)) c holds
 
     serve-bank : (gone : ℕ) → call .datagram ≡ requestFrame request.BankInfo → Phase BankInfo gone b
-        → Served BankInfo gone (stepMachine b (Datagram call))
+        → Served address BankInfo gone (stepMachine b (Datagram call))
     serve-bank gone e c =
         let target : Bank = otherOf (b .client .fixed .running) in
         served BankInfo gone _ (controlFrame 0x72 (0x06 ∷ bankNumber target ∷ []))
-        (bank-told b call (in-state state.Control refl c) c (ap readOf e ∙ request-read request.BankInfo))
+        (bank-told b call (in-state state.Control refl c) own c (ap readOf e ∙ request-read request.BankInfo))
         (back (controlFrame 0x72 (0x06 ∷ bankNumber target ∷ [])) (bank-short target))
-        (settled-bank bank _ (sym (bank-back target) ∙ ap Target (f .target))) c
+        (settled-bank bank _ (sym (bank-back target) ∙ ap Target (f .target))) c holds
 
     serve-write-start : (gone : ℕ) → call .datagram ≡ requestFrame (request.WriteStart bank n) → Phase WriteStart gone b
-        → Served WriteStart gone (stepMachine b (Datagram call))
+        → Served address WriteStart gone (stepMachine b (Datagram call))
     unfolding mayCarry addedOf
     serve-write-start gone e (inl c) =
-        let own : call .datagram ≡ requestFrame (request.WriteStart (otherOf (b .client .fixed .running)) (b .client .fixed .n)) =
+        let asks : call .datagram ≡ requestFrame (request.WriteStart (otherOf (b .client .fixed .running)) (b .client .fixed .n)) =
         e
         ∙ ap (λ (x : Bank). requestFrame (request.WriteStart x n)) (sym (f .target))
         ∙ ap (λ (x : ℕ). requestFrame (request.WriteStart (otherOf (b .client .fixed .running)) x)) (sym (f .sectors)) in
         served WriteStart gone _ (controlFrame 0x70 (0x06 ∷ []))
-        (write-start b call (in-state state.Control refl c) c (ap readOf e ∙ start-read bank n)
-        (subst (pairGood (b .client .fixed)) (sym own) (start-addressed (b .client .fixed) good)))
+        (write-start b call (in-state state.Control refl c) own c (ap readOf e ∙ start-read bank n)
+        (subst (pairGood (b .client .fixed)) (sym asks) (start-addressed (b .client .fixed) good)))
         (back (controlFrame 0x70 (0x06 ∷ [])) (control-short 0x70 0x06))
         (done-own command.WriteStart (leb 2 gone) _ (inl (sym (plain-back command.WriteStart 0x06 refl refl)))) refl
+        (λ _. goes-on state.Control refl c)
     serve-write-start gone e (inr w) =
         served WriteStart gone _ (controlFrame 0x70 (0x15 ∷ []))
         (write-start-declined b call (in-state state.Write refl (w .0)) (w .0) (ap readOf e ∙ start-read bank n))
         (back (controlFrame 0x70 (0x15 ∷ [])) (control-short 0x70 0x15))
-        (done-own command.WriteStart (leb 2 gone) _ (inr (sym (plain-back command.WriteStart 0x15 refl refl), le-leb 2 gone (w .1)))) (w .0)
+        (done-own command.WriteStart (leb 2 gone) _ (inr (sym (plain-back command.WriteStart 0x15 refl refl), le-leb 2 gone (w .1)))) (w .0) holds
 
     -- the packet's sector is stored, or was so already
     serve-packet : (p gone : ℕ) → p < count → call .datagram ≡ frameOf image bank n (Packet p) → Phase (Packet p) gone b
-        → Served (Packet p) gone (stepMachine b (Datagram call))
+        → Served address (Packet p) gone (stepMachine b (Datagram call))
     serve-packet p gone h e w =
         let k : ℕ = packetSector image n p in
         let s : Sent image n k = sent-in image n p h in
         let low = s .low in
         let high = s .high in
         let most = good-high n (st .good) in
-        let padded : paddedOf (dataIn (call .datagram)) ≡ sectorOf image k = padded-are image bank n (st .good) size p h b [] call e in
+        let padded : paddedOf (dataIn (call .datagram)) ≡ sectorOf image k = padded-are image bank n Anyone (st .good) size p h b [] call e in
         let already : Bool = sameOf (sectorOf (lentTarget b call) k) (paddedOf (dataIn (call .datagram))) in
         let result : ℕ = storeResult (blankOf (dataIn (call .datagram))) already in
         let crc : ℕ = crcOf (paddedOf (dataIn (call .datagram))) in
@@ -228,50 +252,55 @@ module _ (image : List ℕ) (bank : Bank) (n tries : ℕ) (st : Startable image 
         ap (λ (l : List ℕ). Written k 0x06 result (crcOf l)) (sym padded)
         ∙ sym (stored-back k result crc (omega arith) (of-lt (paddedOf (dataIn (call .datagram)))) taken) in
         served (Packet p) gone _ (writeFrame k (writtenBytes 0x06 result crc) End)
-        (packet b call (in-state state.Write refl w) k 512 (footerOf count p) w (reads image bank n (st .good) size p h b [] call e)
+        (packet b call (in-state state.Write refl w) k 512 (footerOf count p) own w (reads image bank n Anyone (st .good) size p h b [] call e)
         (ap (λ (x : ℕ). valuesGood x k 512) (f .sectors) ∙ sym (values-words n k 512 low high (omega arith) (omega arith)))
         (ap (λ (m : List ℕ). isWorn (getD m (k - 1) 0)) (l .marks) ∙ ap isWorn (getD-replicate {A = ℕ} n (k - 1) 0 0 (omega arith))))
         (back (writeFrame k (writtenBytes 0x06 result crc) End) (written-short k 0x06 result crc))
         (subst (λ (r : Response). Settling (Packet p) (leb 2 gone) bank image k r) is (settled-packet image k result taken)) w
+        (λ _. goes-on state.Write refl w)
 
     serve-mode-end : (gone : ℕ) → call .datagram ≡ requestFrame request.ModeEnd → Phase ModeEnd gone b
-        → Served ModeEnd gone (stepMachine b (Datagram call))
+        → Served address ModeEnd gone (stepMachine b (Datagram call))
     unfolding mayCarry addedOf
     serve-mode-end gone e (inl c) =
         served ModeEnd gone _ (controlFrame 0x74 (0x06 ∷ []))
-        (mode-end b call (in-state state.Control refl c) c (ap readOf e ∙ request-read request.ModeEnd))
+        (mode-end b call (in-state state.Control refl c) own c (ap readOf e ∙ request-read request.ModeEnd))
         (back (controlFrame 0x74 (0x06 ∷ [])) (control-short 0x74 0x06))
         (done-own command.ModeEnd (leb 2 gone) _ (inl (sym (plain-back command.ModeEnd 0x06 refl refl)))) refl
+        (λ t. absurd (false≢true t))
     serve-mode-end gone e (inr i) =
         served ModeEnd gone _ (controlFrame 0x74 (0x15 ∷ []))
         (mode-end-declined b call (in-state state.Idle refl (i .0)) (i .0) (ap readOf e ∙ request-read request.ModeEnd))
         (back (controlFrame 0x74 (0x15 ∷ [])) (control-short 0x74 0x15))
-        (done-own command.ModeEnd (leb 2 gone) _ (inr (sym (plain-back command.ModeEnd 0x15 refl refl), le-leb 2 gone (i .1)))) (i .0)
+        (done-own command.ModeEnd (leb 2 gone) _ (inr (sym (plain-back command.ModeEnd 0x15 refl refl), le-leb 2 gone (i .1)))) (i .0) holds
 
     -- every packet was heard to be stored, so the session shows the image, which is fit
-    serve-write-end : (gone : ℕ) → call .datagram ≡ requestFrame request.WriteEnd → Phase WriteEnd gone b → (answers : List (List ℕ))
-        → Inv image bank n tries st WriteEnd b answers → Served WriteEnd gone (stepMachine b (Datagram call))
+    serve-write-end : (gone : ℕ) → call .datagram ≡ requestFrame request.WriteEnd → Phase WriteEnd gone b → (start : Board) (is : List Input)
+        (answers : List (List ℕ)) → Known image bank n tries st start WriteEnd is b answers → Served address WriteEnd gone (stepMachine b (Datagram call))
     unfolding mayCarry addedOf
-    serve-write-end gone e w answers v =
-        let ours : Ours image bank n b (v .ghost) = cleans image bank n tries st WriteEnd b answers v refl w in
+    serve-write-end gone e w start is answers v =
+        let ours : Ours image bank n b (v .ghost) =
+        clean-heard image bank n tries st Anyone start (UpdateIn image bank n tries st start) WriteEnd is b answers v (v .past .0) (w, tt) in
         let shown : v .ghost ≡ image =
-        whole-image image bank n size b (v .ghost) ours (all-heard image bank n tries st WriteEnd b answers v w (v .past .1)) in
+        whole-image image bank n Anyone size b (v .ghost) ours
+        (all-heard image bank n tries st Anyone start (UpdateIn image bank n tries st start) WriteEnd is b answers v (w, tt) (v .past .1)) in
         let swept : sweptTarget b call ≡ image =
         lent-shows b call (v .ghost) (λ _. ours .session)
         (record { writing = w; good = good; whole = lent-whole b call (b .client .fixed .n) lends all (otherOf (b .client .fixed .running)) })
         ∙ shown in
         served WriteEnd gone _ (controlFrame 0x75 (0x06 ∷ []))
-        (write-end b call (in-state state.Write refl w) w (ap readOf e ∙ request-read request.WriteEnd)
+        (write-end b call (in-state state.Write refl w) own w (ap readOf e ∙ request-read request.WriteEnd)
         (ap anyWorn (l .marks) ∙ no-mark n) (ap (fitOf (b .client .fixed)) swept ∙ f .sound))
         (back (controlFrame 0x75 (0x06 ∷ [])) (control-short 0x75 0x06))
         (ended-own command.WriteEnd (leb 2 gone) _ (sym (plain-back command.WriteEnd 0x06 refl refl))) refl
+        (λ _. goes-on state.Write refl w)
 
-    pub serve : (k : Name) (gone : ℕ) → numberOf k < count → call .datagram ≡ frameOf image bank n k → Phase k gone b → (answers : List (List ℕ))
-        → Inv image bank n tries st k b answers → Served k gone (stepMachine b (Datagram call))
-    serve ModeStart gone h e p answers v = serve-mode-start gone e p
-    serve VersionInfo gone h e p answers v = serve-version gone e p
-    serve BankInfo gone h e p answers v = serve-bank gone e p
-    serve WriteStart gone h e p answers v = serve-write-start gone e p
-    serve (Packet q) gone h e p answers v = serve-packet q gone h e p
-    serve WriteEnd gone h e p answers v = serve-write-end gone e p answers v
-    serve ModeEnd gone h e p answers v = serve-mode-end gone e p
+    pub serve : (k : Name) (gone : ℕ) → numberOf k < count → call .datagram ≡ frameOf image bank n k → Phase k gone b → (start : Board) (is : List Input)
+        (answers : List (List ℕ)) → Known image bank n tries st start k is b answers → Served address k gone (stepMachine b (Datagram call))
+    serve ModeStart gone h e p start is answers v = serve-mode-start gone e p
+    serve VersionInfo gone h e p start is answers v = serve-version gone e p
+    serve BankInfo gone h e p start is answers v = serve-bank gone e p
+    serve WriteStart gone h e p start is answers v = serve-write-start gone e p
+    serve (Packet q) gone h e p start is answers v = serve-packet q gone h e p
+    serve WriteEnd gone h e p start is answers v = serve-write-end gone e p start is answers v
+    serve ModeEnd gone h e p start is answers v = serve-mode-end gone e p

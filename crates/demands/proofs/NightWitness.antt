@@ -23,7 +23,15 @@ use Rattle.demands.specs.Board.{stepMachine}
 use Rattle.demands.specs.Night.{nightSender, Startable, namesOf}
 use Rattle.demands.specs.NightLoop.{
   Arrival,
+  Arrives,
   Round,
+  EachIn,
+  no-passage,
+  passage-more,
+  no-rounds,
+  each-more,
+  NoOther,
+  NobodyElse,
   RoomyRounds,
   no-round,
   round-more,
@@ -56,6 +64,16 @@ module _ (a : Arrival) (buffer : List ℕ) (h : room ≤ length buffer) where
       (λ _. round-more h (round-more h (losing-roomy names (suc (suc given)))))
       (λ _. round-more h (losing-roomy names (suc given)))
 
+  losing-alone : (names : List Name) (given : ℕ) → NobodyElse (losing a buffer names given)
+  losing-alone [] given = no-rounds
+  losing-alone (name ∷ names) given =
+      split NobodyElse (mayLose name)
+      (λ _. each-more once (each-more once (losing-alone names (suc (suc given)))))
+      (λ _. each-more once (losing-alone names (suc given)))
+    where
+      once : EachIn NoOther (Arrives a ∷ [])
+      once = passage-more tt no-passage
+
   losing-goes : (address : List ℕ) (n : ℕ) → Right address n a → (names : List Name) (given : ℕ)
       → Goes address n 2 names (2 - 1) given (losing a buffer names given)
   losing-goes address n r [] given = home
@@ -67,15 +85,15 @@ module _ (a : Arrival) (buffer : List ℕ) (h : room ≤ length buffer) where
 
 -- ---- this night
 
--- it runs bank 0; both banks are zeros
-unfoldable idle-board : Board
-idle-board =
+-- an idle board of N sectors that runs bank 0; both banks are zeros
+unfoldable pub idle-board : ℕ → Board
+idle-board n =
     record {
-      client = inState Idle (closedClient (fixedOf 2 Zero 1 0 0) Zero);
-      pair = banks (replicate 1024 0) (replicate 1024 0);
+      client = inState Idle (closedClient (fixedOf n Zero 1 0 0) Zero);
+      pair = banks (replicate (bankSize n) 0) (replicate (bankSize n) 0);
     }
 
-idle-waits : Waits idle-board One 2
+idle-waits : Waits (idle-board 2) One 2
 unfolding idle-board
 idle-waits = record { idle = refl; sectors = refl; target = refl; whole = both }
   where
@@ -83,14 +101,15 @@ idle-waits = record { idle = refl; sectors = refl; target = refl; whole = both }
     both Zero = length-replicate {A = ℕ} 1024 0
     both One = length-replicate {A = ℕ} 1024 0
 
-idle-small : idle-board .client .fixed .revision < 2 ^ 32
+pub idle-small : (n : ℕ) → idle-board n .client .fixed .revision < 2 ^ 32
 unfolding idle-board
-idle-small = omega arith
+idle-small n = omega arith
 
-unfoldable coming : Arrival
-coming = record { address = replicate 16 0; marks = replicate 2 0; buffer = replicate 14 0; lent = λ x. 1024 }
+-- what is lent with it is right for N sectors
+unfoldable pub coming : ℕ → List ℕ → Arrival
+coming n address = record { address = address; marks = replicate n 0; buffer = replicate 14 0; lent = λ x. bankSize n }
 
-comes-right : Right (replicate 16 0) 2 coming
+comes-right : Right (replicate 16 0) 2 (coming 2 (replicate 16 0))
 unfolding coming
 comes-right =
     record {
@@ -107,35 +126,39 @@ comes-right =
 starts : Startable image 2 2
 starts = record { good = two-good; whole = image-size; low = omega arith; high = omega arith; some = omega (arith, two-packets) }
 
-buffer-room : room ≤ length (replicate {A = ℕ} room 0)
+pub buffer-room : room ≤ length (replicate {A = ℕ} room 0)
 buffer-room = omega (arith, length-replicate {A = ℕ} room 0)
 
 pub losing-night : LosingNight nightSender stepMachine
 losing-night =
+    let address : List ℕ = replicate 16 0 in
+    let a : Arrival = coming 2 address in
+    let idle : Board = idle-board 2 in
     let names : List Name = namesOf (packetCount image 2) in
     let buffer : List ℕ = replicate room 0 in
-    let rs : List Round = losing coming buffer names 0 in
-    let roomies : RoomyRounds rs = losing-roomy coming buffer buffer-room names 0 in
-    let going : Goes (replicate 16 0) 2 2 names (2 - 1) 0 rs = losing-goes coming buffer buffer-room (replicate 16 0) 2 comes-right names 0 in
-    let end : rounds nightSender stepMachine image (begins nightSender stepMachine image One 2 2 buffer idle-board) rs .told .next ≡ Finished =
-    arrival-met image One 2 2 buffer (replicate 16 0) idle-board rs starts buffer-room idle-waits (image-fit (idle-board .client .fixed)) idle-small going in
+    let rs : List Round = losing a buffer names 0 in
+    let roomies : RoomyRounds rs = losing-roomy a buffer buffer-room names 0 in
+    let going : Goes address 2 2 names (2 - 1) 0 rs = losing-goes a buffer buffer-room address 2 comes-right names 0 in
+    let end : rounds nightSender stepMachine image (begins nightSender stepMachine image One 2 2 buffer idle) rs .told .next ≡ Finished =
+    arrival-met image One 2 2 buffer address idle rs starts buffer-room idle-waits (image-fit (idle .client .fixed)) (idle-small 2) going in
     record {
       image = image;
       bank = One;
       n = 2;
       before = buffer;
-      address = replicate 16 0;
-      board = idle-board;
-      arrival = coming;
+      address = address;
+      board = idle;
+      arrival = a;
       rs = rs;
       losing-rounds = refl;
       startable = starts;
       roomy = buffer-room;
       roomy-rounds = roomies;
+      alone = losing-alone a buffer buffer-room names 0;
       waits = idle-waits;
-      fit = image-fit (idle-board .client .fixed);
-      small = idle-small;
+      fit = image-fit (idle .client .fixed);
+      small = idle-small 2;
       goes = going;
       finished = end;
-      updated = loop-met image One 2 2 buffer idle-board rs starts buffer-room roomies idle-small (ap isIn end);
+      updated = loop-met image One 2 2 buffer idle rs starts buffer-room roomies (losing-alone a buffer buffer-room names 0) (idle-small 2) (ap isIn end);
     }

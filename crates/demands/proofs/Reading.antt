@@ -191,7 +191,8 @@ module _ (b : Board) (call : LentCall) (bytes : (i : ℕ) → byteAt (call .data
   of-control code n =
       every (λ _. parameter-said)
       (every (λ _. parameter-said)
-      (every (λ _. says (controlFrame (responseCode code) (0x15 ∷ [])) (control-short (responseCode code) 0x15) (declined code))
+      (every (λ _. declined-said)
+      (every (λ _. declined-said)
       (every (λ _. parameter-said)
       (never refl
       (every (λ _. says (controlFrame 0x75 (0x1C ∷ [])) (control-short 0x75 0x1C) (write-ended 0x1C (inr (inl refl))))
@@ -209,16 +210,21 @@ module _ (b : Board) (call : LentCall) (bytes : (i : ℕ) → byteAt (call .data
       (every (λ _. says (controlFrame 0x74 (0x06 ∷ [])) (control-short 0x74 0x06) mode-ended)
       (every (λ _. says (controlFrame 0x75 (0x06 ∷ [])) (control-short 0x75 0x06) (write-ended 0x06 (inl refl)))
       (every (λ _. says (controlFrame 0x75 (0x1E ∷ [])) (control-short 0x75 0x1E) (write-ended 0x1E (inr (inr refl))))
-      last)))))))))))))
+      last))))))))))))))
+    where
+      declined-said : Readable (take (length (controlFrame (responseCode code) (0x15 ∷ []))) (frontOf (call .buffer) (controlFrame (responseCode code) (0x15 ∷ []))))
+      declined-said = says (controlFrame (responseCode code) (0x15 ∷ [])) (control-short (responseCode code) 0x15) (declined code)
 
   of-packet : (sector m : ℕ) (footer : Footer) → sector < 65536 → Every Back (afterFrame b call (Write sector m footer))
   of-packet sector m footer s =
       let data-bytes : List ℕ = dataIn (call .datagram) in
       let already : Bool = sameOf (sectorOf (lentTarget b call) sector) (paddedOf data-bytes) in
       let result : ℕ = storeResult (blankOf data-bytes) already in
+      let declined-said = says (writeFrame sector (writtenBytes 0x15 0x15 0) End) (written-short sector 0x15 0x15 0) (packet-declined sector s) in
       never refl
       (never refl
-      (every (λ _. says (writeFrame sector (writtenBytes 0x15 0x15 0) End) (written-short sector 0x15 0x15 0) (packet-declined sector s))
+      (every (λ _. declined-said)
+      (every (λ _. declined-said)
       (every (λ _. parameter-said)
       (every (λ _. says (writeFrame sector (writtenBytes 0x06 0x1C 0) End) (written-short sector 0x06 0x1C 0) (packet-worn sector s))
       (never refl
@@ -226,7 +232,7 @@ module _ (b : Board) (call : LentCall) (bytes : (i : ℕ) → byteAt (call .data
       (λ _.
       says (writeFrame sector (writtenBytes 0x06 result (crcOf (paddedOf data-bytes))) End) (written-short sector 0x06 result (crcOf (paddedOf data-bytes)))
       (packet-stored sector result (crcOf (paddedOf data-bytes)) s (of-lt (paddedOf data-bytes)) (accepted (blankOf data-bytes) already)))
-      (never refl (never refl (never refl (never refl (never refl (never refl (never refl last)))))))))))))
+      (never refl (never refl (never refl (never refl (never refl (never refl (never refl last))))))))))))))
 
   of-read : (r : Read) → readOf (call .datagram) ≡ r → isFault r ≡ false → Every Back (afterFrame b call r)
   of-read Fault e f = absurd (false≢true (sym f))

@@ -1,4 +1,4 @@
--- What one input changes on no board: N, the bank that runs and its bytes, the version, the lengths of the banks.
+-- What one input changes on no board: N, the bank that runs and its bytes, the version, the lengths of the banks. And inputs behind inputs.
 -- Assumes nothing.
 use mathlib.Core.Path.{_≡_, refl, ap, _∙_}
 use mathlib.Core.Bool.{not}
@@ -19,8 +19,12 @@ use Rattle.client.specs.Host.{initiateOf, terminateOf}
 use Rattle.client.specs.Record.{Stays}
 use Rattle.calls.proofs.Beside.{step-stays, step-length}
 use Rattle.calls.specs.Call.{Board}
-use Rattle.demands.specs.Board.{LentCall, Input, Initiate, Terminate, Datagram, after, runningBank, targetBank, lentTarget, called, callOutcome, stepMachine}
+use Rattle.demands.specs.Board.{LentCall, Input, Initiate, Terminate, Datagram, Machine, after, runningBank, targetBank, lentTarget, called, callOutcome, stepMachine}
 use Rattle.demands.proofs.Lending.{lent-in, back-with}
+
+pub after-both : (machine : Machine) (b : Board) (is js : List Input) → after machine b (is ++ js) ≡ after machine (after machine b is) js
+after-both machine b [] js = refl
+after-both machine b (i ∷ is) js = after-both machine (machine b i .board) is js
 
 initiate-stays : (c : Client) → Stays c (initiateOf c .client)
 unfolding initiateOf

@@ -20,18 +20,18 @@ use Rattle.decision.specs.declared.plan.Fixed.{Fixed}
 use Rattle.client.specs.Notice.{noNotice}
 use Rattle.client.specs.Perform.{fitOf}
 use Rattle.client.specs.Host.{fixedOf}
-use Rattle.client.specs.Record.{closedClient, inState, starting, begun}
+use Rattle.client.specs.Record.{nobody, closedClient, inState, starting, begun}
 use Rattle.calls.proofs.Courses.{not-write}
 use Rattle.calls.specs.Call.{Board, board}
 use Rattle.demands.specs.Board.{LentCall, Input, Datagram, Outcome, said, Machine, after, targetBank, sectorsIn, stepMachine}
-use Rattle.demands.specs.Demand1.{changed, sweptTarget}
-use Rattle.demands.specs.Demand2.{Lends, Ready}
+use Rattle.demands.specs.Demand1.{fromStranger, changed, sweptTarget}
+use Rattle.demands.specs.Demand2.{Lends, SentFrom, Ready}
 use Rattle.demands.specs.Demand3.{Meets3}
 use Rattle.demands.specs.Session.{isBegin, endsSession, allBlank}
 use Rattle.demands.specs.ShutOut.{StoresNothing, unstored, storesNothing}
 use Rattle.demands.proofs.Asking.{request-read}
 use Rattle.demands.proofs.Demand2.{heard, no-mark, said-back, control-short, begun-is, begun-said}
-use Rattle.demands.proofs.Rows.{Heard, write-end, write-end-unsound}
+use Rattle.demands.proofs.Rows.{Heard, from-opener, write-end, write-end-unsound}
 
 -- one sector, and zeros in both banks
 unfoldable zeros : Board
@@ -48,6 +48,10 @@ small-lends : (datagram : List ℕ) → Lends 1 (small-call datagram)
 unfolding small-call
 small-lends datagram =
     record { address = length-replicate {A = ℕ} 16 0; marks = refl; room = omega (arith, length-replicate {A = ℕ} 14 0); banks = λ x. refl }
+
+small-comes : (datagram : List ℕ) → SentFrom (zeros .client .opener) 1 (small-call datagram)
+unfolding zeros small-call nobody
+small-comes datagram = record { sender = refl; lends = small-lends datagram }
 
 begins-small : LentCall
 begins-small = small-call (requestFrame (WriteStart One 1))
@@ -70,11 +74,11 @@ in-session = board (begun (starting Zero (zeros .client))) (zeros .pair)
 session-begun : stepMachine zeros (Datagram begins-small)
     ≡ changed zeros begins-small (begun (starting Zero (zeros .client))) noNotice (controlFrame 0x70 (0x06 ∷ []))
 unfolding zeros begins-small small-call
-session-begun = begun-is zeros zeros-ready (small-call (requestFrame (WriteStart One 1))) refl (small-lends (requestFrame (WriteStart One 1)))
+session-begun = begun-is zeros zeros-ready (small-call (requestFrame (WriteStart One 1))) refl (small-comes (requestFrame (WriteStart One 1)))
 
 begun-said-small : said (stepMachine zeros (Datagram begins-small)) ≡ controlFrame 0x70 (0x06 ∷ [])
 unfolding zeros begins-small small-call
-begun-said-small = begun-said zeros zeros-ready (small-call (requestFrame (WriteStart One 1))) refl (small-lends (requestFrame (WriteStart One 1)))
+begun-said-small = begun-said zeros zeros-ready (small-call (requestFrame (WriteStart One 1))) refl (small-comes (requestFrame (WriteStart One 1)))
 
 end-heard : Heard in-session ends-small
 unfolding zeros ends-small small-call
@@ -88,13 +92,16 @@ end-said = by (fitOf (in-session .client .fixed) (sweptTarget in-session ends-sm
     room : 14 ≤ length (ends-small .buffer)
     room = small-lends (requestFrame WriteEnd) .room
 
+    own : fromStranger (in-session .client) (ends-small .address) ≡ false
+    own = from-opener (in-session .client) (ends-small .address) (small-comes (requestFrame WriteEnd) .sender)
+
     by : (t : Bool) → fitOf (in-session .client .fixed) (sweptTarget in-session ends-small) ≡ t
         → endsSession (said (stepMachine in-session (Datagram ends-small))) ≡ true
     by true t =
-        ap (λ (o : Outcome). endsSession (said o)) (write-end in-session ends-small end-heard refl (request-read WriteEnd) (no-mark 1) t)
+        ap (λ (o : Outcome). endsSession (said o)) (write-end in-session ends-small end-heard own refl (request-read WriteEnd) (no-mark 1) t)
         ∙ ap endsSession (said-back ends-small (controlFrame 0x75 (0x06 ∷ [])) (control-short 0x75 0x06) room)
     by false t =
-        ap (λ (o : Outcome). endsSession (said o)) (write-end-unsound in-session ends-small end-heard refl (request-read WriteEnd) (no-mark 1) t)
+        ap (λ (o : Outcome). endsSession (said o)) (write-end-unsound in-session ends-small end-heard own refl (request-read WriteEnd) (no-mark 1) t)
         ∙ ap endsSession (said-back ends-small (controlFrame 0x75 (0x1E ∷ [])) (control-short 0x75 0x1E) room)
 
 session-next : storesNothing zeros (Datagram begins-small) .board ≡ in-session

@@ -24,10 +24,10 @@ use Rattle.sender.specs.Request.{requestFrame}
 use Rattle.exchange.specs.declared.state.State.the-variants.{Control}
 use Rattle.client.specs.Perform.{fitOf}
 use Rattle.client.specs.Host.{fixedOf}
-use Rattle.client.specs.Record.{closedClient, inState}
+use Rattle.client.specs.Record.{nobody, closedClient, inState}
 use Rattle.calls.specs.Call.{Board}
 use Rattle.demands.specs.Board.{LentCall, Input, Datagram, stepMachine}
-use Rattle.demands.specs.Demand2.{Lends, none, more, Ready, Delivery, Delivered}
+use Rattle.demands.specs.Demand2.{Lends, SentFrom, none, more, Ready, Delivery, Delivered}
 use Rattle.demands.proofs.Demand2.{demand2}
 
 -- a table with one body, four bytes in the second sector
@@ -79,6 +79,10 @@ lends datagram =
       banks = λ x. refl;
     }
 
+pub comes : (datagram : List ℕ) → SentFrom (witness-board .client .opener) 2 (calling datagram)
+unfolding witness-board calling nobody
+comes datagram = record { sender = refl; lends = lends datagram }
+
 unfoldable pub order : List ℕ
 order = 1 ∷ 0 ∷ 1 ∷ []
 
@@ -93,19 +97,19 @@ each-sent (suc (suc p)) h = absurd (omega arith)
 
 -- any image of two packets
 pub delivery : (img : List ℕ) → packetCount img 2 ≡ 2
-    → Delivery witness-board img (calling (requestFrame (WriteStart One 2))) order (sending img) (calling (requestFrame WriteEnd))
+    → Delivery (witness-board .client .opener) witness-board img (calling (requestFrame (WriteStart One 2))) order (sending img) (calling (requestFrame WriteEnd))
 unfolding witness-board calling order sending
 delivery img two =
     record {
       start-sent = refl;
-      start-lends = lends (requestFrame (WriteStart One 2));
+      start-comes = comes (requestFrame (WriteStart One 2));
       packets =
-          more {p = 1} (omega (arith, two)) refl (lends (packetFrame img 2 1))
-          (more {p = 0} (omega (arith, two)) refl (lends (packetFrame img 2 0))
-          (more {p = 1} (omega (arith, two)) refl (lends (packetFrame img 2 1)) none));
+          more {p = 1} (omega (arith, two)) refl (comes (packetFrame img 2 1))
+          (more {p = 0} (omega (arith, two)) refl (comes (packetFrame img 2 0))
+          (more {p = 1} (omega (arith, two)) refl (comes (packetFrame img 2 1)) none));
       each = λ p h. each-sent p (omega (arith, two));
       end-sent = refl;
-      end-lends = lends (requestFrame WriteEnd);
+      end-comes = comes (requestFrame WriteEnd);
     }
 
 pub ready : Ready witness-board

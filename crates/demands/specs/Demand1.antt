@@ -1,6 +1,6 @@
 -- Demand 1. Whatever is put to a board, it does what the paper's table says and nothing else. The table is written here row by row: a test and
 -- what comes of it, in the paper's order, so that the first row whose test holds decides (01, 'What comes back when it is no', "Order in the
--- client", and 'The client, step by step'; 02 §3). And whatever list of inputs comes, N, the version, which bank runs and every byte of that bank stay.
+-- client", and 'The client, step by step'; 02 §3 and §5). And whatever list of inputs comes, N, the version, which bank runs and every byte of that bank stay.
 -- Assumes nothing.
 use mathlib.Core.Path.{_≡_}
 use mathlib.Core.Bool.{Bool, true, false, not, _&&_, _||_, cond}
@@ -30,7 +30,7 @@ use Rattle.client.specs.declared.record.Latest.the-variants.{Good, Otherwise}
 use Rattle.exchange.specs.declared.state.State.{State}
 use Rattle.exchange.specs.declared.state.State.the-variants as state
 use Rattle.exchange.specs.Answer.{versionBytes, writtenBytes}
-use Rattle.exchange.specs.State.{isClosed}
+use Rattle.exchange.specs.State.{isClosed, isOpen}
 use Rattle.client.specs.Notice.{noNotice, noticeWith, latestNumber}
 use Rattle.client.specs.Perform.{fitOf, storeResult}
 use Rattle.decision.specs.Plan.{lentGood, isWorn, anyWorn, valuesGood, addressesGood}
@@ -109,6 +109,10 @@ abbrev pub wrongLength : Read → Bool
 wrongLength Fault = false
 wrongLength (Control code n) = not (eqb n (parameterBytes code))
 wrongLength (Write sector m footer) = false
+
+-- "Any other address" than "the address that opened the mode", all 16 bytes of it (02 §5)
+abbrev pub fromStranger : Client → List ℕ → Bool
+fromStranger c address = isOpen (c .state) && not (sameOf address (c .opener))
 
 abbrev pub wrongState : State → Read → Bool
 wrongState s Fault = false
@@ -192,16 +196,17 @@ sweptTarget b call = sweptOf (lentTarget b call) (b .client .fixed .n) (b .clien
 abbrev pub afterFrame : Board → LentCall → Read → List Row
 afterFrame b call r =
     let c : Client = b .client in
-    -- code, parameter length, state, values, worn
+    -- code, parameter length, address, state, values, worn
     row (noRequest r) (answered b call parameterError)
     ∷ row (wrongLength r) (answered b call parameterError)
+    ∷ row (fromStranger c (call .address)) (answered b call (negativeResponse r))
     ∷ row (wrongState (c .state) r) (answered b call (negativeResponse r))
     ∷ row (wrongValues c (call .datagram) r) (answered b call parameterError)
     ∷ row (wornSector (call .marks) r) (packetWorn b call r)
     ∷ row (isCode 0x45 r && anyWorn (call .marks)) (changed b call (ended Otherwise c) noNotice (controlFrame 0x75 (0x1C ∷ [])))
     -- what is left is answered 06, but for an unsound bank
     ∷ row (isPacket r) (packetStored b call r)
-    ∷ row (isCode 0x61 r) (changed b call (opened c) (noticeWith Started 0 (call .address)) (controlFrame 0x71 (0x06 ∷ [])))
+    ∷ row (isCode 0x61 r) (changed b call (opened (call .address) c) (noticeWith Started 0 (call .address)) (controlFrame 0x71 (0x06 ∷ [])))
     ∷ row (isCode 0x62 r) (answered b call (controlFrame 0x72 (0x06 ∷ bankNumber (otherOf (c .fixed .running)) ∷ [])))
     ∷ row (isCode 0x68 r) (answered b call (controlFrame 0x78 (versionBytes (c .fixed .major) (c .fixed .minor) (c .fixed .revision))))
     ∷ row (isCode 0x40 r) (changed b call (begun (starting (c .fixed .running) c)) noNotice (controlFrame 0x70 (0x06 ∷ [])))

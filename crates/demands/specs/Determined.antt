@@ -62,7 +62,7 @@ use Rattle.night.specs.Call.{Silent·Is as NightSilent·Is}
 use Rattle.night.specs.Record.{NextNumber·Is}
 use Rattle.commands.specs.Command.{RequestCode·Is, ResponseCode·Is, ParameterBytes·Is, AddedBytes·Is, Requested·Is, Answered·Is}
 use Rattle.exchange.specs.Answer.{RefusalNumber·Is, Say·Is}
-use Rattle.exchange.specs.State.{IsClosed·Is}
+use Rattle.exchange.specs.State.{IsClosed·Is, IsOpen·Is}
 use Rattle.exchange.specs.Request.{Asked·Is, FitsState·Is, Declined·Is}
 use Rattle.decision.specs.Plan.{Plan·Is}
 use Rattle.client.specs.Body.{Body·Is as NextBody·Is}
@@ -150,6 +150,7 @@ pub record Determined : Type 0 where
   -- what is asked and answered
   pub asked : (datagram : List ℕ) → Once (Asked·Is datagram)
   pub is-closed : (state : State) → Once (IsClosed·Is state)
+  pub is-open : (state : State) → Once (IsOpen·Is state)
   pub fits-state : (state : State) (request : Received) → Once (FitsState·Is state request)
   pub declined : (request : Received) → Once (Declined·Is request)
   pub refusal-number : (why : Refusal) → Once (RefusalNumber·Is why)

@@ -31,7 +31,7 @@ MeetsText m =
     let n : ℕ = b .client .fixed .n in
     let image : List ℕ = textRead text target n before .image in
     textRead text target n before .answer ≡ Accepted → fitOf (b .client .fixed) image ≡ true
-    → (start : LentCall) (ps : List ℕ) (is : List Input) (end : LentCall) → Delivery b image start ps is end
+    → (start : LentCall) (ps : List ℕ) (is : List Input) (end : LentCall) → Delivery (b .client .opener) b image start ps is end
     → (let last : Board = m (after m b (Datagram start ∷ is)) (Datagram end) .board in
     Leaves (startOf target) (sectorSize * n) (lines text) (length (lines text)) (bankIn target (last .pair))))
 

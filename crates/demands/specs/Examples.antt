@@ -31,7 +31,7 @@ use Rattle.exchange.specs.Answer.{writtenBytes}
 use Rattle.exchange.specs.State.{isClosed}
 use Rattle.calls.specs.Call.{Board}
 use Rattle.demands.specs.Board.{LentCall, Datagram, said, stepMachine}
-use Rattle.demands.specs.Demand2.{Lends}
+use Rattle.demands.specs.Demand2.{Lends, SentFrom}
 use Rattle.demands.specs.Session.{isStored}
 
 pub data Example : Type 0 where
@@ -58,9 +58,10 @@ pub record Calls (b : Board) (call : LentCall) : Type 0 where
   pub whole : (x : Bank) → length (bankIn x (b .pair)) ≡ bankSize (b .client .fixed .n)
   pub lends : Lends (b .client .fixed .n) call
 
--- a packet in write state
+-- a packet in write state, from the address that opened the mode
 pub record Brings (b : Board) (call : LentCall) (sector m : ℕ) : Type 0 where
   pub calls : Calls b call
+  pub sender : call .address ≡ b .client .opener
   pub writing : b .client .state ≡ state.Write
   pub footer : Footer
   pub reads : readOf (call .datagram) ≡ Write sector m footer
@@ -89,7 +90,7 @@ Holds (Length m good) =
     (b : Board) (call : LentCall) (sector : ℕ) → 1 ≤ sector → sector ≤ b .client .fixed .n → Brings b call sector m → PacketTaken good b call
 Holds Again =
     (b : Board) (call again : LentCall) (sector m : ℕ) → Brings b call sector m → isStored (said (stepMachine b (Datagram call))) ≡ true
-    → again .datagram ≡ call .datagram → Lends (b .client .fixed .n) again
+    → again .datagram ≡ call .datagram → SentFrom (b .client .opener) (b .client .fixed .n) again
     → said (stepMachine (stepMachine b (Datagram call) .board) (Datagram again))
     ≡ writeFrame sector (writtenBytes 0x06 0x1D (crcOf (paddedOf (dataIn (call .datagram))))) End
 Holds (Reads text answer) =

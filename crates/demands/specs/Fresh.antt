@@ -1,5 +1,5 @@
 -- Demand 2 from the very beginning: a client is made, initiated and put into OTA mode by the sender's request; an image is delivered; the mode is
--- ended by the sender's request, and the host is told 01 (01, 'The client, step by step', "Notice 6034").
+-- ended by the sender's request, and the host is told 01 (01, 'The client, step by step', "Notice 6034"); all requests come from one address.
 -- Assumes nothing.
 use mathlib.Core.Path.{_≡_}
 use mathlib.Core.Bool.{true}
@@ -15,7 +15,7 @@ use Rattle.client.specs.Host.{fixedOf, newOf}
 use Rattle.client.specs.Notice.{noticeBytes}
 use Rattle.calls.specs.Call.{Board, board}
 use Rattle.demands.specs.Board.{LentCall, Input, Initiate, Datagram, said, Machine, after}
-use Rattle.demands.specs.Demand2.{Lends, Fit, Delivery, Delivered}
+use Rattle.demands.specs.Demand2.{Lends, SentFrom, Fit, Delivery, Delivered}
 
 -- a new client between two whole banks
 pub record Fresh (n : ℕ) (pair : Banks) : Type 0 where
@@ -44,6 +44,6 @@ MeetsFresh m =
     (image : List ℕ) → Fit image (fixedOf n running major minor revision)
     → (mode start : LentCall) (ps : List ℕ) (is : List Input) (end over : LentCall)
     → mode .datagram ≡ requestFrame ModeStart → Lends n mode
-    → Delivery (inMode m b mode) image start ps is end
-    → over .datagram ≡ requestFrame ModeEnd → Lends n over
+    → Delivery (mode .address) (inMode m b mode) image start ps is end
+    → over .datagram ≡ requestFrame ModeEnd → SentFrom (mode .address) n over
     → FreshRight m b image mode start ps is end over)

@@ -14,10 +14,12 @@ pub mod Night
 pub mod NightEnds
 pub mod NightLoop
 pub mod NightShutOut
+pub mod NightStrangers
 pub mod Packets
 pub mod Requests
 pub mod Responses
 pub mod Session
 pub mod ShutOut
+pub mod Strangers
 pub mod Texts
 pub mod Written

@@ -1,7 +1,8 @@
--- The night sender and a board, with a channel between (02 §4). In a round some inputs come to the board: commands of its host, and the request at
--- hand, as often as the channel brings it: none is a request that was lost, two is one that was doubled. Each arrival lends what it lends, right
--- or wrong, from whatever address. Then the night sender has its event: silence, or any answer that the board has given in this run, however
--- late. So no request arrives after a later one was sent, no answer of an earlier night is heard, and nobody else sends.
+-- The night sender and a board, with a channel between (02 §4). In a round some inputs come to the board: commands of its host, datagrams of
+-- other gateways, and the request at hand, as often as the channel brings it: none is a request that was lost, two is one that was doubled.
+-- Each arrival lends what it lends, right or wrong, from whatever address. Then the night sender has its event: silence, or any answer that
+-- the board has given to a request of its own in this run, however late. So no request arrives after a later one was sent, and no answer of
+-- an earlier night, or to somebody else, is heard. `MeetsLoop` asks that nobody else sends; `NightStrangers` has what holds where others do.
 -- Assumes nothing.
 use mathlib.Core.Path.{_≡_}
 use mathlib.Core.Bool.{Bool, true, false, cond}
@@ -23,7 +24,7 @@ use Rattle.night.specs.declared.record.Next.the-variants.{BadN, BadLength, BadT
 use Rattle.night.specs.Call.{Event, Heard, Silence}
 use Rattle.demands.specs.Board.{LentCall, Input, Initiate, Terminate, Datagram, Outcome, said, Machine, after, outcomes, sectorsIn}
 use Rattle.demands.specs.Demand1.{Unchanged}
-use Rattle.demands.specs.Demand2.{Lends}
+use Rattle.demands.specs.Demand2.{SentFrom}
 use Rattle.demands.specs.Night.{Told, NightSender, Startable, namesOf}
 
 -- ---- a round
@@ -39,6 +40,8 @@ pub data Passage : Type 0 where
   HostInitiates : Passage
   HostTerminates : Passage
   Arrives : Arrival → Passage
+  -- another gateway's datagram, whatever it is and lends
+  Another : LentCall → Passage
 
 abbrev pub callOf : List ℕ → Arrival → LentCall
 callOf request a = record { datagram = request; address = a .address; marks = a .marks; buffer = a .buffer; lent = a .lent }
@@ -47,6 +50,7 @@ abbrev pub inputOf : List ℕ → Passage → Input
 inputOf request HostInitiates = Initiate
 inputOf request HostTerminates = Terminate
 inputOf request (Arrives a) = Datagram (callOf request a)
+inputOf request (Another call) = Datagram call
 
 abbrev pub inputsOf : List ℕ → List Passage → List Input
 inputsOf request [] = []
@@ -63,17 +67,37 @@ pub record Round : Type 0 where
   -- the request buffer that the night sender is lent
   pub buffer : List ℕ
 
+-- each passage of each round is such
+pub data EachIn (Q : Passage → Type 0) : List Passage → Type 0 where
+  no-passage : EachIn Q []
+  passage-more : {p : Passage} {ps : List Passage} → Q p → EachIn Q ps → EachIn Q (p ∷ ps)
+
+pub data EachPassage (Q : Passage → Type 0) : List Round → Type 0 where
+  no-rounds : EachPassage Q []
+  each-more : {r : Round} {rs : List Round} → EachIn Q (r .passages) → EachPassage Q rs → EachPassage Q (r ∷ rs)
+
+-- nobody else sends
+abbrev pub NoOther : Passage → Type 0
+NoOther HostInitiates = Unit {0}
+NoOther HostTerminates = Unit {0}
+NoOther (Arrives a) = Unit {0}
+NoOther (Another call) = ⊥
+
+abbrev pub NobodyElse : List Round → Type 0
+NobodyElse rs = EachPassage NoOther rs
+
 pub data RoomyRounds : List Round → Type 0 where
   no-round : RoomyRounds []
   round-more : {r : Round} {rs : List Round} → room ≤ length (r .buffer) → RoomyRounds rs → RoomyRounds (r ∷ rs)
 
 -- ---- the loop
 
--- what the night sender was told last, the request that went out last, the board, and all that it has said
+-- what the night sender was told last, the request that went out last, the board, all that was put to it, and all that it has said to the night sender
 pub record Loop (S : Type 0) : Type 0 where
   pub told : Told S
   pub request : List ℕ
   pub board : Board
+  pub inputs : List Input
   pub answers : List (List ℕ)
 
 abbrev pub requestAfter : Next → List ℕ → List ℕ → List ℕ
@@ -86,9 +110,17 @@ requestAfter (Send name size) buffer former = take size buffer
 requestAfter Finished buffer former = former
 requestAfter (GaveUp name why) buffer former = former
 
-abbrev pub saidIn : List Outcome → List (List ℕ)
-saidIn [] = []
-saidIn (o ∷ os) = said o ∷ saidIn os
+-- what of it the night sender may hear: the answer to its own request, and to nobody else's
+abbrev pub saidOn : Passage → Outcome → List (List ℕ)
+saidOn HostInitiates o = []
+saidOn HostTerminates o = []
+saidOn (Arrives a) o = said o ∷ []
+saidOn (Another call) o = []
+
+abbrev pub saidIn : List Passage → List Outcome → List (List ℕ)
+saidIn [] os = []
+saidIn (p ∷ ps) [] = []
+saidIn (p ∷ ps) (o ∷ os) = saidOn p o ++ saidIn ps os
 
 abbrev pub eventBy : List (List ℕ) → Comes → Event
 eventBy answers Nothing = Silence
@@ -98,12 +130,13 @@ module _ {S : Type 0} (m : NightSender S) (machine : Machine) (image : List ℕ)
   abbrev pub round : Loop S → Round → Loop S
   round l r =
       let inputs : List Input = inputsOf (l .request) (r .passages) in
-      let answers : List (List ℕ) = l .answers ++ saidIn (outcomes machine (l .board) inputs) in
+      let answers : List (List ℕ) = l .answers ++ saidIn (r .passages) (outcomes machine (l .board) inputs) in
       let o : Told S = m .event (l .told .record-then) (eventBy answers (r .comes)) image (r .buffer) in
       record {
         told = o;
         request = requestAfter (o .next) (o .buffer) (l .request);
         board = after machine (l .board) inputs;
+        inputs = l .inputs ++ inputs;
         answers = answers;
       }
 
@@ -115,7 +148,7 @@ module _ {S : Type 0} (m : NightSender S) (machine : Machine) (image : List ℕ)
   abbrev pub begins : Bank → ℕ → ℕ → List ℕ → Board → Loop S
   begins bank n tries before b =
       let o : Told S = m .start image bank n tries before in
-      record { told = o; request = requestAfter (o .next) (o .buffer) []; board = b; answers = [] }
+      record { told = o; request = requestAfter (o .next) (o .buffer) []; board = b; inputs = []; answers = [] }
 
 -- ---- 3. the closed loop
 
@@ -148,7 +181,7 @@ pub record Updated (before now : Board) (image : List ℕ) (bank : Bank) (n : �
 abbrev pub MeetsLoop : {S : Type 0} → NightSender S → Machine → Type 0
 MeetsLoop m machine =
     (image : List ℕ) (bank : Bank) (n tries : ℕ) (before : List ℕ) (b : Board) (rs : List Round) → Startable image n tries → room ≤ length before → RoomyRounds rs
-    → b .client .fixed .revision < 2 ^ 32
+    → NobodyElse rs → b .client .fixed .revision < 2 ^ 32
     → isIn (rounds m machine image (begins m machine image bank n tries before b) rs .told .next) ≡ true
     → Updated b (rounds m machine image (begins m machine image bank n tries before b) rs .board) image bank n
 
@@ -172,9 +205,8 @@ arrived (AnswerLost a) given = suc given
 arrived (Through a) given = suc given
 
 -- what an arrival lends is right, and all come from one address
-pub record Right (address : List ℕ) (n : ℕ) (a : Arrival) : Type 0 where
-  pub sender : a .address ≡ address
-  pub lends : Lends n (callOf [] a)
+abbrev pub Right : List ℕ → ℕ → Arrival → Type 0
+Right address n a = SentFrom address n (callOf [] a)
 
 -- a try that fails; the write end's answer is not lost when it first arrives
 abbrev pub mayLose : Name → Bool
@@ -236,6 +268,7 @@ pub record LosingNight {S : Type 0} (m : NightSender S) (machine : Machine) : Ty
   pub startable : Startable image n 2
   pub roomy : room ≤ length before
   pub roomy-rounds : RoomyRounds rs
+  pub alone : NobodyElse rs
   pub waits : Waits board bank n
   pub fit : fitOf (board .client .fixed) image ≡ true
   pub small : board .client .fixed .revision < 2 ^ 32

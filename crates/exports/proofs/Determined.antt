@@ -15,7 +15,7 @@ determined =
       length-number = λ image. once _;
       write-number = λ image before x y u v p q. (p .number-is ∙ sym (q .number-is), p .stands ∙ sym (q .stands));
       packet-number = λ image n number before x y u v p q. (p .number-is ∙ sym (q .number-is), p .stands ∙ sym (q .stands));
-      take-slots = λ n slots bank0 bank1 marks address buffer x y u v s t a b p q. (
+      take-slots = λ n slots bank0 bank1 marks addresses buffer x y u v s t a b p q. (
         p .given ∙ sym (q .given),
         (p .bank-zero ∙ sym (q .bank-zero), (p .bank-one ∙ sym (q .bank-one), p .buffer-left ∙ sym (q .buffer-left))),
       );

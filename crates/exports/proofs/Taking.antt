@@ -6,9 +6,9 @@ use mathlib.Core.List.{List, [], _∷_, _++_, foldl, foldl-append}
 use Prim.Native.Nat.{ℕ, zero, suc, _+_, _-_, _*_, _<_, _≤_}
 use native.Mathlib.Omega.{arith}
 use native.Mathlib.Numerals.{add-one}
-use lib.Dec.{leb}
+use lib.Dec.{eqb, leb}
 use lib.ListN.{length, take, drop}
-use borrow.Author.Tests.{le-leb, leb-true, leb-false}
+use borrow.Author.Tests.{le-leb, leb-true, leb-false, eqb-true}
 use Rattle.buffer.specs.Place.{frontOf}
 use Rattle.buffer.proofs.Bools.{and-left, and-right, and-both, not-so}
 use Rattle.layout.specs.declared.Bank.{Bank}
@@ -22,7 +22,8 @@ use Rattle.client.specs.Step.{Carried, stepOf, Step·Is}
 use Rattle.calls.specs.Call.{Call, Board, board, stepped, boardAfter, afterSteps, cameOfSteps}
 use Rattle.calls.proofs.Again.{steps-more, cames-more, Likewise, step-lent}
 use Rattle.calls.proofs.Beside.{step-said}
-use Rattle.exports.specs.Slots.{slotRoom, slotSize, slotCount, sizeAt, datagramAt, slotsGood, callsOf, fresh, slotsTaken, TakeSlots·Is}
+use Rattle.exports.specs.Slots.{slotRoom, slotSize, slotCount, sizeAt, datagramAt, slotsGood, addressSize, addressAt, allGood}
+use Rattle.exports.specs.Slots.{callsOf, fresh, slotsTaken, TakeSlots·Is}
 use Rattle.exports.specs.Slots.{givenOf, Run, ran, lastGiven, saidNext, runOf}
 
 -- ---- slots looked at
@@ -49,14 +50,34 @@ each-good slots (suc n) k g h = by (leb (suc k) n) refl (each-good slots n k (an
 pub one-bad : (slots : List ℕ) (n k : ℕ) → k < n → slotRoom < sizeAt slots k → slotsGood slots n ≡ false
 one-bad slots n k h b = not-so (slotsGood slots n) (λ g. let s = each-good slots n k g h in omega arith)
 
--- the part of the slots behind a slot's length is its datagram
-pub slot-stepped : (slots : List ℕ) (k size : ℕ) {c : Client} {bank0 bank1 marks address buffer : List ℕ}
+-- the slots, and then the addresses
+module _ (slots addresses : List ℕ) (n : ℕ) where
+  pub slots-bad : slotsGood slots n ≡ false → false ≡ allGood slots addresses n
+  unfolding allGood
+  slots-bad e = rw e
+
+  pub by-addresses : slotsGood slots n ≡ true → eqb (length addresses) (n * addressSize) ≡ allGood slots addresses n
+  unfolding allGood
+  by-addresses e = rw e
+
+  pub slots-all-good : allGood slots addresses n ≡ true → slotsGood slots n ≡ true
+  unfolding allGood
+  slots-all-good g = and-left _ _ g
+
+  pub an-address-each : allGood slots addresses n ≡ true → length addresses ≡ n * addressSize
+  unfolding allGood
+  an-address-each g = eqb-true _ _ (and-right (slotsGood slots n) _ g)
+
+-- the part of the slots behind a slot's length is its datagram, and 16 bytes of the addresses are its address
+pub slot-stepped : (slots addresses : List ℕ) (k size : ℕ) {c : Client} {bank0 bank1 marks buffer : List ℕ}
     {r : Stepped} {bank0′ bank1′ said : List ℕ} → size ≡ sizeAt slots k
-    → Step·Is c bank0 bank1 marks address buffer (take (k * slotSize + 2 + size - (k * slotSize + 2)) (drop (k * slotSize + 2) slots)) r bank0′ bank1′ said
-    → Step·Is c bank0 bank1 marks address buffer (datagramAt slots k) r bank0′ bank1′ said
-slot-stepped slots k size e s =
+    → Step·Is c bank0 bank1 marks (take (k * addressSize + addressSize - k * addressSize) (drop (k * addressSize) addresses)) buffer
+    (take (k * slotSize + 2 + size - (k * slotSize + 2)) (drop (k * slotSize + 2) slots)) r bank0′ bank1′ said
+    → Step·Is c bank0 bank1 marks (addressAt addresses k) buffer (datagramAt slots k) r bank0′ bank1′ said
+slot-stepped slots addresses k size e s =
     let same : k * slotSize + 2 + size - (k * slotSize + 2) ≡ sizeAt slots k = omega arith in
-    rw same at s
+    let whole : k * addressSize + addressSize - k * addressSize ≡ addressSize = omega arith in
+    rw (whole, same) at s
 
 -- ---- one call more
 
@@ -78,9 +99,9 @@ run-more buffer k calls call =
 
 -- ---- one slot more
 
-module _ (slots marks address buffer : List ℕ) (start : Board) where
+module _ (slots marks addresses buffer : List ℕ) (start : Board) where
   abbrev runAt : ℕ → Run
-  runAt k = runOf buffer start (callsOf slots marks address buffer k)
+  runAt k = runOf buffer start (callsOf slots marks addresses buffer k)
 
   pub none-taken : ran 0 start buffer ≡ runAt 0
   unfolding runOf callsOf
@@ -89,12 +110,15 @@ module _ (slots marks address buffer : List ℕ) (start : Board) where
   module _ (k : ℕ) (c : Client) (told : ℕ) (bank0 bank1 lent : List ℕ)
       (e : ran told (board c (banks bank0 bank1)) lent ≡ runAt k) (l : length lent ≡ length buffer)
       (r : Stepped) (bank0′ bank1′ said : List ℕ)
-      (s : Step·Is c bank0 bank1 marks address lent (datagramAt slots k) r bank0′ bank1′ said) where
+      (s : Step·Is c bank0 bank1 marks (addressAt addresses k) lent (datagramAt slots k) r bank0′ bank1′ said) where
     abbrev pair : Banks
     pair = banks bank0 bank1
 
     abbrev x : Bank
     x = c .fixed .running
+
+    abbrev address : List ℕ
+    address = addressAt addresses k
 
     abbrev call : Call
     call = record { datagram = datagramAt slots k; address = address; marks = marks; buffer = buffer }
@@ -127,22 +151,22 @@ module _ (slots marks address buffer : List ℕ) (start : Board) where
     one-taken =
         rw (add-one k)
         (step-is ∙ ap (λ (run : Run). runNext run (stepped (run .kept-at-last) call)) e
-        ∙ sym (run-more buffer start (callsOf slots marks address buffer k) call))
+        ∙ sym (run-more buffer start (callsOf slots marks addresses buffer k) call))
 
 -- ---- the contract
 
-module _ (n : ℕ) (slots bank0 bank1 marks address buffer : List ℕ) where
-  pub slots-refused : slotsGood slots (slotCount slots) ≡ false → TakeSlots·Is n slots bank0 bank1 marks address buffer 2 bank0 bank1 buffer
+module _ (n : ℕ) (slots bank0 bank1 marks addresses buffer : List ℕ) where
+  pub slots-refused : allGood slots addresses (slotCount slots) ≡ false → TakeSlots·Is n slots bank0 bank1 marks addresses buffer 2 bank0 bank1 buffer
   unfolding slotsTaken
   slots-refused e = record { given = rw e; bank-zero = rw e; bank-one = rw e; buffer-left = rw e }
 
   pub slots-taken : (c : Client) (told : ℕ) (bank0′ bank1′ said : List ℕ) (made : Client) (k : ℕ)
-      → slotsGood slots (slotCount slots) ≡ true → made ≡ fresh n → k ≡ slotCount slots
-      → ran told (board c (banks bank0′ bank1′)) said ≡ runAt slots marks address buffer (board made (banks bank0 bank1)) k
-      → TakeSlots·Is n slots bank0 bank1 marks address buffer told bank0′ bank1′ said
+      → allGood slots addresses (slotCount slots) ≡ true → made ≡ fresh n → k ≡ slotCount slots
+      → ran told (board c (banks bank0′ bank1′)) said ≡ runAt slots marks addresses buffer (board made (banks bank0 bank1)) k
+      → TakeSlots·Is n slots bank0 bank1 marks addresses buffer told bank0′ bank1′ said
   unfolding slotsTaken
   slots-taken c told bank0′ bank1′ said made k g new all e =
-      let whole = e ∙ ap₂ (λ (m : Client) (j : ℕ). runAt slots marks address buffer (board m (banks bank0 bank1)) j) new all in
+      let whole = e ∙ ap₂ (λ (m : Client) (j : ℕ). runAt slots marks addresses buffer (board m (banks bank0 bank1)) j) new all in
       record {
         given = rw g (ap (λ (run : Run). run .given) whole);
         bank-zero = rw g (ap (λ (run : Run). run .kept-at-last .pair .bank0) whole);

@@ -17,6 +17,6 @@ pub record Determined : Type 0 where
   pub length-number : (image : List ℕ) → Once (LengthNumber·Is image)
   pub write-number : (image before : List ℕ) → Twice (WriteNumber·Is image before)
   pub packet-number : (image : List ℕ) (n p : ℕ) (before : List ℕ) → Twice (PacketNumber·Is image n p before)
-  pub take-slots : (n : ℕ) (slots bank0 bank1 marks address buffer : List ℕ)
-      → Fourfold (TakeSlots·Is n slots bank0 bank1 marks address buffer)
+  pub take-slots : (n : ℕ) (slots bank0 bank1 marks addresses buffer : List ℕ)
+      → Fourfold (TakeSlots·Is n slots bank0 bank1 marks addresses buffer)
   pub night-slots : (image : List ℕ) (n tries : ℕ) (slots before : List ℕ) → Twice (NightSlots·Is image n tries slots before)

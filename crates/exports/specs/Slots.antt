@@ -1,10 +1,10 @@
--- A new client takes the datagrams of slots, one after another, for a caller in C (01, 'The client, step by step').
+-- A new client takes the datagrams of slots, each from its own address, one after another, for a caller in C (01, 'The client, step by step'; 02 §5).
 -- Assumes nothing.
 use Prim.Native.Nat.{ℕ, zero, suc, _+_, _*_, _/_}
 use mathlib.Core.Path.{_≡_}
 use mathlib.Core.Bool.{Bool, true, _&&_, cond}
 use mathlib.Core.List.{List, [], _∷_, _++_, foldl}
-use lib.Dec.{leb}
+use lib.Dec.{eqb, leb}
 use lib.ListN.{length, take, drop}
 use Rattle.buffer.specs.Number.{numberAt}
 use Rattle.buffer.specs.Place.{frontOf}
@@ -41,12 +41,25 @@ unfoldable pub slotsGood : List ℕ → ℕ → Bool
 slotsGood slots zero = true
 slotsGood slots (suc k) = slotsGood slots k && leb (sizeAt slots k) slotRoom
 
--- the calls of the first k slots, each with these marks, this address and this buffer
+-- ---- addresses: one for each slot, in the same order
+
+abbrev pub addressSize : ℕ
+addressSize = 16
+
+abbrev pub addressAt : List ℕ → ℕ → List ℕ
+addressAt addresses k = take addressSize (drop (k * addressSize) addresses)
+
+-- whether k slots can be taken: none says more than it has room for, and then each has its address and nothing stands behind the last. The slots
+-- come first, which cannot be told: both give 2
+unfoldable pub allGood : List ℕ → List ℕ → ℕ → Bool
+allGood slots addresses k = slotsGood slots k && eqb (length addresses) (k * addressSize)
+
+-- the calls of the first k slots, each with these marks, its own address and this buffer
 unfoldable pub callsOf : List ℕ → List ℕ → List ℕ → List ℕ → ℕ → List Call
-callsOf slots marks address buffer zero = []
-callsOf slots marks address buffer (suc k) =
-    callsOf slots marks address buffer k
-    ++ (record { datagram = datagramAt slots k; address = address; marks = marks; buffer = buffer } ∷ [])
+callsOf slots marks addresses buffer zero = []
+callsOf slots marks addresses buffer (suc k) =
+    callsOf slots marks addresses buffer k
+    ++ (record { datagram = datagramAt slots k; address = addressAt addresses k; marks = marks; buffer = buffer } ∷ [])
 
 -- ---- what is left of calls
 
@@ -89,15 +102,15 @@ fresh n = initiateOf (newOf n Zero 0 0 0 .client) .client
 abbrev pub atFirst : ℕ → List ℕ → List ℕ → Board
 atFirst n bank0 bank1 = board (fresh n) (banks bank0 bank1)
 
--- 2, and nothing changes, where a slot says more than it has room for
+-- 2, and nothing changes, where not all slots can be taken; that is looked at before N, since no client is made then
 unfoldable pub slotsTaken : ℕ → List ℕ → List ℕ → List ℕ → List ℕ → List ℕ → List ℕ → Run
-slotsTaken n slots bank0 bank1 marks address buffer =
-    cond (slotsGood slots (slotCount slots))
-    (runOf buffer (atFirst n bank0 bank1) (callsOf slots marks address buffer (slotCount slots)))
+slotsTaken n slots bank0 bank1 marks addresses buffer =
+    cond (allGood slots addresses (slotCount slots))
+    (runOf buffer (atFirst n bank0 bank1) (callsOf slots marks addresses buffer (slotCount slots)))
     (ran 2 (atFirst n bank0 bank1) buffer)
 
-pub record TakeSlots·Is (n : ℕ) (slots bank0 bank1 marks address buffer : List ℕ) (r : ℕ) (left0 left1 said : List ℕ) : Type 0 where
-  pub given : r ≡ slotsTaken n slots bank0 bank1 marks address buffer .given
-  pub bank-zero : left0 ≡ slotsTaken n slots bank0 bank1 marks address buffer .kept-at-last .pair .bank0
-  pub bank-one : left1 ≡ slotsTaken n slots bank0 bank1 marks address buffer .kept-at-last .pair .bank1
-  pub buffer-left : said ≡ slotsTaken n slots bank0 bank1 marks address buffer .buffer
+pub record TakeSlots·Is (n : ℕ) (slots bank0 bank1 marks addresses buffer : List ℕ) (r : ℕ) (left0 left1 said : List ℕ) : Type 0 where
+  pub given : r ≡ slotsTaken n slots bank0 bank1 marks addresses buffer .given
+  pub bank-zero : left0 ≡ slotsTaken n slots bank0 bank1 marks addresses buffer .kept-at-last .pair .bank0
+  pub bank-one : left1 ≡ slotsTaken n slots bank0 bank1 marks addresses buffer .kept-at-last .pair .bank1
+  pub buffer-left : said ≡ slotsTaken n slots bank0 bank1 marks addresses buffer .buffer

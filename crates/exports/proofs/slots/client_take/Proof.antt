@@ -9,25 +9,25 @@ use borrow.Author.Tests.{not-true, not-false}
 use Rattle.layout.specs.Pair.{banks}
 use Rattle.calls.specs.Call.{board}
 use Rattle.exports.specs.Slots.{callsOf, ran, runOf}
-use Rattle.exports.proofs.Taking.{each-good, none-taken, one-taken, slots-refused, slots-taken}
+use Rattle.exports.proofs.Taking.{each-good, slots-all-good, an-address-each, none-taken, one-taken, slots-refused, slots-taken}
 use Rattle.exports.proofs.slots.client_take.Statement.{statement}
 use Rattle.exports.proofs.slots.client_take.Tie as tie
 
 abbrev Inv-loop : tie.InvT-loop
-Inv-loop n slots bank0₀ bank1₀ marks address buffer₀ count client₀ told₀ k₀ bank0 bank1 buffer client told k =
+Inv-loop n slots bank0₀ bank1₀ marks addresses buffer₀ count client₀ told₀ k₀ bank0 bank1 buffer client told k =
     (k ≤ count) × (length bank0 ≡ length bank0₀) × (length bank1 ≡ length bank1₀) × (length buffer ≡ length buffer₀)
     × (ran told (board client (banks bank0 bank1)) buffer
-    ≡ runOf buffer₀ (board client₀ (banks bank0₀ bank1₀)) (callsOf slots marks address buffer₀ k))
+    ≡ runOf buffer₀ (board client₀ (banks bank0₀ bank1₀)) (callsOf slots marks addresses buffer₀ k))
 
 abbrev μ-loop : tie.MeasureT-loop
-μ-loop n slots bank0₀ bank1₀ marks address buffer₀ count client₀ told₀ k₀ bank0 bank1 buffer client told k =
+μ-loop n slots bank0₀ bank1₀ marks addresses buffer₀ count client₀ told₀ k₀ bank0 bank1 buffer client told k =
     count - k
 
-slots-good-requires : tie.Need-slots-good-requires Inv-loop μ-loop
-slots-good-requires c κs = search needs
+all-good-requires : tie.Need-all-good-requires Inv-loop μ-loop
+all-good-requires c κs = search needs
 
 returns : tie.Need-returns Inv-loop μ-loop
-returns c = slots-refused _ _ _ _ _ _ _ (sym (c .before .slots-good .ensures) ∙ not-true _ (c .if1 .taken))
+returns c = slots-refused _ _ _ _ _ _ _ (sym (c .before .all-good .ensures) ∙ not-true _ (c .if1 .taken))
 
 fresh-requires : tie.Need-fresh-requires Inv-loop μ-loop
 fresh-requires c κs = search needs
@@ -39,8 +39,10 @@ take-slot-requires : tie.Need-take-slot-requires Inv-loop μ-loop
 take-slot-requires c κs =
     let a = (c .before .before .before .before .before .before .before .before .before .before .before .before .before .before .args) in
     let looked = (c .before .before .before .before .before .before) in
-    let good = sym (looked .before .slots-good .ensures) ∙ not-false _ (looked .if1 .left) in
-    (search needs, each-good (a .slots .now) _ (c .before .before .before .before .loop .k) good (search needs))
+    let good = sym (looked .before .all-good .ensures) ∙ not-false _ (looked .if1 .left) in
+    let k = (c .before .before .before .before .loop .k) in
+    let every = an-address-each (a .slots .now) (a .addresses .now) _ good in
+    (search needs, (each-good (a .slots .now) _ k (slots-all-good (a .slots .now) (a .addresses .now) _ good) (search needs), omega arith))
 
 given-requires : tie.Need-given-requires Inv-loop μ-loop
 given-requires c κs = search needs
@@ -83,7 +85,7 @@ same-length-3 c = c .before .loop .inv .3
 returns-2 : tie.Need-returns-2 Inv-loop μ-loop
 returns-2 c =
     let l = (c .before .loop) in
-    let good = sym (c .before .before .before .before .slots-good .ensures) ∙ not-false _ (c .before .before .before .if1 .left) in
+    let good = sym (c .before .before .before .before .all-good .ensures) ∙ not-false _ (c .before .before .before .if1 .left) in
     slots-taken _ _ _ _ _ _ _ (l .client) (l .told) _ _ _ _ (l .k) good (c .before .before .fresh .ensures) (search needs) (l .inv .4)
 
 pub client-take-spec : {M : Type 1} → statement M
@@ -92,7 +94,7 @@ client-take-spec =
     (tie.spec
     Inv-loop
     μ-loop
-    slots-good-requires
+    all-good-requires
     returns
     fresh-requires
     loop-holds

@@ -14,7 +14,7 @@ enum-told : tie.Need-enum-told
 enum-told c = search needs
 
 opened-requires : tie.Need-opened-requires
-opened-requires c κs = search needs
+opened-requires c κs = rw (c .enum-told .given .1) at (c .before .before .before .before .before .pre .1)
 
 responds-requires : tie.Need-responds-requires
 responds-requires c κs = search needs
@@ -41,7 +41,7 @@ enum-known-plan-2 : tie.Need-enum-known-plan-2
 enum-known-plan-2 c = search needs
 
 store-requires : tie.Need-store-requires
-store-requires c κs = let p = rw (c .before .before .plan2 .given .1) at (c .before .before .before .before .before .before .pre) in
+store-requires c κs = let p = rw (c .before .before .plan2 .given .1) at (c .before .before .before .before .before .before .before .pre .0) in
     ((p .first, p .last), p .inside)
 
 enum-told-4 : tie.Need-enum-told-4
