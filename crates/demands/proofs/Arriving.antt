@@ -1,12 +1,14 @@
 -- What comes of a datagram on any board, whatever it lends: it is refused, or the first row behind the frame's whose test holds decides.
 -- Assumes nothing.
 use mathlib.Core.Path.{_≡_, refl, sym, ap, subst, _∙_}
-use mathlib.Core.Bool.{Bool, true, false, cond, false≢true}
+use mathlib.Core.Bool.{Bool, true, false, not, _&&_, cond, false≢true}
 use mathlib.Core.List.{List, [], _∷_}
 use mathlib.Core.Option.{Option, none, some}
-use Prim.Native.Nat.{ℕ, _≤_}
+use Prim.Native.Nat.{ℕ, zero, suc, _≤_}
 use lib.Dec.{eqb}
-use lib.ListN.{length}
+use lib.ListN.{length, drop}
+use borrow.Author.Tests.{not-true}
+use Rattle.buffer.proofs.Bools.{and-left, and-right}
 use Rattle.frame.specs.Frame.{frameError}
 use Rattle.frame.specs.Read.{readOf}
 use Rattle.layout.specs.Layout.{goodN, bankSize}
@@ -28,6 +30,25 @@ pub data First (P : Outcome → Type 0) : List Row → Type 0 where
 
 pub skip : {P : Outcome → Type 0} {r : Row} {rows : List Row} → r .when ≡ false → First P rows → First P (r ∷ rows)
 skip e rest = first (λ t. absurd (false≢true (sym e ∙ t))) (λ _. rest)
+
+-- none of the first k does
+abbrev pub passed : ℕ → List Row → Bool
+passed zero rows = true
+passed (suc k) [] = true
+passed (suc k) (r ∷ rows) = not (r .when) && passed k rows
+
+pub skips : {P : Outcome → Type 0} {rows : List Row} (k : ℕ) → passed k rows ≡ true → First P (drop k rows) → First P rows
+skips {P} {rows} k e rest = by k rows e rest
+  where
+    by : (k : ℕ) (rows : List Row) → passed k rows ≡ true → First P (drop k rows) → First P rows
+    by zero rows e rest = rest
+    by (suc k) [] e rest = last
+    by (suc k) (r ∷ rows) e rest =
+        skip (not-true (r .when) (and-left (not (r .when)) (passed k rows) e)) (by k rows (and-right (not (r .when)) (passed k rows) e) rest)
+
+-- the first of them does
+pub decides : {P : Outcome → Type 0} {r : Row} {rows : List Row} → r .when ≡ true → P (r .comes) → First P (r ∷ rows)
+decides e h = first (λ _. h) (λ t. absurd (false≢true (sym t ∙ e)))
 
 isSome : Option Outcome → Bool
 isSome none = false

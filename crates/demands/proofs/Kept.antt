@@ -39,7 +39,7 @@ use Rattle.demands.specs.Board.{LentCall, Input, Initiate, Terminate, Da
 use Rattle.demands.specs.Demand1.{isFault, wrongLength, fromStranger, acceptedIn, responseCode, parameterError, afterFrame}
 use Rattle.demands.specs.Session.{isResponse}
 use Rattle.demands.specs.Strangers.{OpenFor, Leaves, mode-ended, terminated, Forgotten, MeetsKept}
-use Rattle.demands.proofs.Arriving.{First, last, first, skip, hosted, roomy, came}
+use Rattle.demands.proofs.Arriving.{First, last, first, skip, skips, decides, hosted, roomy, came}
 use Rattle.demands.proofs.Demand2.{said-back, control-short, written-short}
 use Rattle.demands.proofs.Fresh.{ended-bytes}
 use Rattle.demands.proofs.Reading.{bank-short, version-short}
@@ -118,8 +118,7 @@ module _ (address : List ℕ) (b : Board) (open-for : OpenFor address b) where
 
     of-packet : (sector m : ℕ) (footer : Footer) → First (Keeps (Write sector m footer)) (afterFrame b call (Write sector m footer))
     of-packet sector m footer =
-        skip refl
-        (skip refl
+        skips 2 refl
         (first (λ _. inl open-for)
         (λ _.
         first (λ _. inl open-for)
@@ -129,7 +128,7 @@ module _ (address : List ℕ) (b : Board) (open-for : OpenFor address b) where
         first (λ _. inl open-for)
         (λ _.
         skip refl
-        (first (λ _. inl (record { mode = open-for .mode; opener = open-for .opener })) (λ x. absurd (false≢true (sym x))))))))))
+        (decides refl (inl (record { mode = open-for .mode; opener = open-for .opener }))))))))
 
     datagram-keeps : Keeps (readOf (call .datagram)) (stepMachine b (Datagram call))
     datagram-keeps =
@@ -242,8 +241,7 @@ module _ (b : Board) (call : LentCall) (c : ℕ) (Q : Board → Type 0) (error :
 
     of-write : (sector m : ℕ) (footer : Footer) → First Tells (afterFrame b call (Write sector m footer))
     of-write sector m footer =
-        skip refl
-        (skip refl
+        skips 2 refl
         (first (λ _ e. none-said sector 0x15 0x15 0 e)
         (λ _.
         first (λ _ e. none-said sector 0x15 0x15 0 e)
@@ -251,7 +249,7 @@ module _ (b : Board) (call : LentCall) (c : ℕ) (Q : Board → Type 0) (error :
         first (λ _ e. mistaken e)
         (λ _.
         first (λ _ e. none-said sector 0x06 0x1C 0 e)
-        (λ _. skip refl (first (λ _ e. none-said sector 0x06 _ _ e) (λ t. absurd (false≢true (sym t))))))))))
+        (λ _. skip refl (decides refl (λ e. none-said sector 0x06 _ _ e)))))))
       where
         none-said : {A : Type 0} (sector result write crc : ℕ) → isResponse c 0x06 (front (writeFrame sector (writtenBytes result write crc) End)) ≡ true → A
         none-said sector result write crc e =

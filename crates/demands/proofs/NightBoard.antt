@@ -81,7 +81,7 @@ use Rattle.demands.specs.Demand1.{
 use Rattle.demands.specs.Session.{isBegin, isStored, endsSession, allBlank, exchanged, noted}
 use Rattle.night.specs.declared.name.Name.{Name}
 use Rattle.night.specs.declared.name.Name.the-variants.{ModeStart, VersionInfo, BankInfo, WriteStart, Packet, WriteEnd, ModeEnd}
-use Rattle.demands.proofs.Arriving.{First, last, first, skip, hosted, roomy, came}
+use Rattle.demands.proofs.Arriving.{First, last, first, skip, skips, decides, hosted, roomy, came}
 use Rattle.demands.proofs.Asking.{request-read, start-read, pairGood, start-tells}
 use Rattle.demands.proofs.Demand1.{parameter-bytes}
 use Rattle.demands.proofs.Demand2.{said-back, control-short, written-short, padded-whole, begins-blank}
@@ -382,15 +382,10 @@ module _ (image : List ℕ) (bank : Bank) (n : ℕ) (P : List ℕ → Type 0) wh
     mode-start-moves e =
         by-control ModeStart command.ModeStart 0x61 0 (ap readOf e ∙ request-read request.ModeStart) refl refl refl
         (λ h _ _.
-        skip refl
-        (skip refl
-        (skip refl
-        (skip refl
-        (first
-        (λ _.
-        changed-fine ModeStart b g call (roomy b call h) (opened (call .address) (b .client)) (noticeWith Started 0 (call .address)) (controlFrame 0x71 (0x06 ∷ []))
-        (control-short 0x71 0x06) (plain-idle command.ModeStart 0x06 refl refl refl) (not-write state.Control refl) (λ x. absurd (false≢true x)))
-        (λ x. absurd (false≢true (sym x))))))))
+        skips 4 refl
+        (decides refl
+        (changed-fine ModeStart b g call (roomy b call h) (opened (call .address) (b .client)) (noticeWith Started 0 (call .address)) (controlFrame 0x71 (0x06 ∷ []))
+        (control-short 0x71 0x06) (plain-idle command.ModeStart 0x06 refl refl refl) (not-write state.Control refl) (λ x. absurd (false≢true x)))))
 
     -- a version is told in control state
     version-fine : b .client .fixed .revision < 2 ^ 32 → 14 ≤ length (call .buffer) → b .client .state ≡ state.Control
@@ -411,14 +406,7 @@ module _ (image : List ℕ) (bank : Bank) (n : ℕ) (P : List ℕ → Type 0) wh
     version-moves revision e =
         by-control VersionInfo command.VersionInfo 0x68 0 (ap readOf e ∙ request-read request.VersionInfo) refl refl refl
         (λ h _ w.
-        skip refl
-        (skip refl
-        (skip refl
-        (skip refl
-        (skip refl
-        (skip refl
-        (first (λ _. version-fine revision (roomy b call h) (in-control (b .client .state) 0x68 refl refl (not-false _ w)))
-        (λ x. absurd (false≢true (sym x))))))))))
+        skips 6 refl (decides refl (version-fine revision (roomy b call h) (in-control (b .client .state) 0x68 refl refl (not-false _ w)))))
 
     pub bank-moves : call .datagram ≡ requestFrame request.BankInfo → Arrived BankInfo
     unfolding controlFrame framed mayCarry addedOf
@@ -426,33 +414,19 @@ module _ (image : List ℕ) (bank : Bank) (n : ℕ) (P : List ℕ → Type 0) wh
         let target : Bank = otherOf (b .client .fixed .running) in
         by-control BankInfo command.BankInfo 0x62 0 (ap readOf e ∙ request-read request.BankInfo) refl refl refl
         (λ h _ _.
-        skip refl
-        (skip refl
-        (skip refl
-        (skip refl
-        (skip refl
-        (first
-        (λ _.
-        answered-fine BankInfo b g call (roomy b call h) (controlFrame 0x72 (0x06 ∷ bankNumber target ∷ [])) (bank-short target) refl refl
-        (ap idle (sym (bank-back target))))
-        (λ x. absurd (false≢true (sym x)))))))))
+        skips 5 refl
+        (decides refl
+        (answered-fine BankInfo b g call (roomy b call h) (controlFrame 0x72 (0x06 ∷ bankNumber target ∷ [])) (bank-short target) refl refl
+        (ap idle (sym (bank-back target))))))
 
     pub mode-end-moves : call .datagram ≡ requestFrame request.ModeEnd → Arrived ModeEnd
     unfolding controlFrame framed mayCarry addedOf
     mode-end-moves e =
         by-control ModeEnd command.ModeEnd 0x64 0 (ap readOf e ∙ request-read request.ModeEnd) refl refl refl
         (λ h _ _.
-        skip refl
-        (skip refl
-        (skip refl
-        (skip refl
-        (skip refl
-        (skip refl
-        (skip refl
-        (skip refl
-        (first
-        (λ _.
-        changed-fine ModeEnd b g call (roomy b call h) (modeEnded (b .client)) (noticeWith Ended (latestNumber (b .client .latest)) (call .address))
+        skips 8 refl
+        (decides refl
+        (changed-fine ModeEnd b g call (roomy b call h) (modeEnded (b .client)) (noticeWith Ended (latestNumber (b .client .latest)) (call .address))
         (controlFrame 0x74 (0x06 ∷ [])) (control-short 0x74 0x06) (plain-idle command.ModeEnd 0x06 refl refl refl) (not-write state.Idle refl)
         (λ _ d.
         record {
@@ -461,8 +435,7 @@ module _ (image : List ℕ) (bank : Bank) (n : ℕ) (P : List ℕ → Type 0) wh
           is-image = d .is-image;
           starts-next = d .starts-next;
           resting = λ w. not-write state.Idle refl (w .0);
-        }))
-        (λ x. absurd (false≢true (sym x))))))))))))
+        }))))
 
     -- ---- a session begins
 
@@ -503,14 +476,7 @@ module _ (image : List ℕ) (bank : Bank) (n : ℕ) (P : List ℕ → Type 0) wh
         first (λ _. parameter-fine WriteStart b g call (roomy b call h))
         (λ v.
         let told = start-tells (b .client .fixed) bank n good (h .good) (subst (pairGood (b .client .fixed)) e (not-false _ v)) in
-        skip refl
-        (skip refl
-        (skip refl
-        (skip refl
-        (skip refl
-        (skip refl
-        (first (λ _. begun-fine (roomy b call h) (in-control (b .client .state) 0x40 refl refl (not-false _ w)) (told .0) (told .1))
-        (λ x. absurd (false≢true (sym x)))))))))))
+        skips 6 refl (decides refl (begun-fine (roomy b call h) (in-control (b .client .state) 0x40 refl refl (not-false _ w)) (told .0) (told .1)))))
 
   -- ---- a session of ours
 
@@ -636,8 +602,7 @@ module _ (image : List ℕ) (bank : Bank) (n : ℕ) (P : List ℕ → Type 0) wh
           let declined =
           answered-fine (Packet p) b g call room (writeFrame k (writtenBytes 0x15 0x15 0) End) (written-short k 0x15 0x15 0)
           (written-begin k 0x15 0x15 0) (other-stored k 0x15 0x15 0 refl) (declined-idle k small) in
-          skip refl
-          (skip refl
+          skips 2 refl
           (first (λ _. declined)
           (λ _.
           first (λ _. declined)
@@ -648,7 +613,7 @@ module _ (image : List ℕ) (bank : Bank) (n : ℕ) (P : List ℕ → Type 0) wh
           (λ _.
           answered-fine (Packet p) b g call room (writeFrame k (writtenBytes 0x06 0x1C 0) End) (written-short k 0x06 0x1C 0)
           (written-begin k 0x06 0x1C 0) (other-stored k 0x06 0x1C 0 refl) (worn-idle k small))
-          (λ _. skip refl (first (λ _. stored-fine room (in-write (b .client .state) (not-false _ w))) (λ x. absurd (false≢true (sym x)))))))))))
+          (λ _. skip refl (decides refl (stored-fine room (in-write (b .client .state) (not-false _ w))))))))))
 
   -- ---- the write end
 
@@ -702,26 +667,18 @@ module _ (image : List ℕ) (bank : Bank) (n : ℕ) (P : List ℕ → Type 0) wh
         let room = roomy b call h in
         let s = ends-write (b .client .state) (not-false _ v) in
         let w : Writing image bank n P b = (s, subst P (own-mode (b .client) (call .address) o (ap isOpen s)) own) in
-        skip refl
-        (skip refl
+        skips 2 refl
         (first
         (λ _.
         over-fine room w 0x1C _ refl (said-back call (controlFrame 0x75 (0x1C ∷ [])) (control-short 0x75 0x1C) room)
         (plain-idle command.WriteEnd 0x1C refl refl refl))
         (λ _.
-        skip refl
-        (skip refl
-        (skip refl
-        (skip refl
-        (skip refl
-        (skip refl
+        skips 6 refl
         (first (λ _. ended-fine room w)
         (λ _.
-        first
-        (λ _.
-        over-fine room w 0x1E _ refl (said-back call (controlFrame 0x75 (0x1E ∷ [])) (control-short 0x75 0x1E) room)
-        (plain-idle command.WriteEnd 0x1E refl refl refl))
-        (λ x. absurd (false≢true (sym x))))))))))))))
+        decides refl
+        (over-fine room w 0x1E _ refl (said-back call (controlFrame 0x75 (0x1E ∷ [])) (control-short 0x75 0x1E) room)
+        (plain-idle command.WriteEnd 0x1E refl refl refl)))))))
 
   -- ---- the host
 

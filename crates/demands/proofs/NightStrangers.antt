@@ -39,7 +39,7 @@ use Rattle.demands.specs.NightLoop.{
 }
 use Rattle.demands.specs.NightStrangers.{Apart, UntilLeft, to-the-end, still, left, SinceEnd, ended, later, MeetsNightAmong}
 use Rattle.demands.specs.Strangers.{Leaves, mode-ended, terminated}
-use Rattle.demands.proofs.Arriving.{First, last, first, skip, hosted, roomy, came}
+use Rattle.demands.proofs.Arriving.{First, last, first, skip, skips, decides, hosted, roomy, came}
 use Rattle.demands.proofs.Asking.{request-read}
 use Rattle.demands.proofs.Demand2.{said-back, control-short, end-bytes}
 use Rattle.demands.proofs.Fresh.{ended-bytes}
@@ -72,10 +72,9 @@ module _ (b : Board) (control : b .client .state ≡ state.Control) where
     write-end-stays e =
         by-read (λ (o : Outcome). o .board ≡ b) 0x45 (ap readOf e ∙ request-read request.WriteEnd) (λ _. refl)
         (λ _.
-        skip refl
-        (skip refl
+        skips 2 refl
         (first (λ _. refl)
-        (λ _. first (λ _. refl) (λ w. absurd (false≢true (sym w ∙ ap (λ (s : State). not (acceptedIn s 0x45)) control)))))))
+        (λ _. first (λ _. refl) (λ w. absurd (false≢true (sym w ∙ ap (λ (s : State). not (acceptedIn s 0x45)) control))))))
 
     mode-end-leaves : call .datagram ≡ requestFrame request.ModeEnd
         → (stepMachine b (Datagram call) .board ≡ b) ⊎ (said (stepMachine b (Datagram call)) ≡ 0x01 ∷ 0x02 ∷ 0x74 ∷ 0x06 ∷ 0x84 ∷ 0x03 ∷ [])
@@ -83,22 +82,12 @@ module _ (b : Board) (control : b .client .state ≡ state.Control) where
         by-read (λ (o : Outcome). (o .board ≡ b) ⊎ (said o ≡ 0x01 ∷ 0x02 ∷ 0x74 ∷ 0x06 ∷ 0x84 ∷ 0x03 ∷ [])) 0x64 (ap readOf e ∙ request-read request.ModeEnd)
         (λ _. inl refl)
         (λ h.
-        skip refl
-        (skip refl
+        skips 2 refl
         (first (λ _. inl refl)
         (λ _.
         first (λ _. inl refl)
         (λ _.
-        skip refl
-        (skip refl
-        (skip refl
-        (skip refl
-        (skip refl
-        (skip refl
-        (skip refl
-        (skip refl
-        (first (λ _. inr (said-back call (controlFrame 0x74 (0x06 ∷ [])) (control-short 0x74 0x06) (roomy b call h) ∙ ended-bytes))
-        (λ x. absurd (false≢true (sym x))))))))))))))))
+        skips 8 refl (decides refl (inr (said-back call (controlFrame 0x74 (0x06 ∷ [])) (control-short 0x74 0x06) (roomy b call h) ∙ ended-bytes)))))))
 
 -- ---- whatever somebody else sends, no write session of ours comes of it
 
@@ -145,8 +134,7 @@ module _ (address : List ℕ) (b : Board) (call : LentCall) (strange : call .add
 
   of-packet : (sector m : ℕ) (footer : Footer) → First OursThen (afterFrame b call (Write sector m footer))
   of-packet sector m footer =
-      skip refl
-      (skip refl
+      skips 2 refl
       (first (λ _ _. refl)
       (λ f.
       first (λ _ _. refl)
@@ -156,8 +144,7 @@ module _ (address : List ℕ) (b : Board) (call : LentCall) (strange : call .add
       first (λ _ _. refl)
       (λ _.
       skip refl
-      (first (λ _ w. absurd (not-ours f (ap isOpen (in-write (b .client .state) (not-false _ s))) (w .1)))
-      (λ x. absurd (false≢true (sym x))))))))))
+      (decides refl (λ w. absurd (not-ours f (ap isOpen (in-write (b .client .state) (not-false _ s))) (w .1)))))))))
 
   pub no-session-of-ours : OursThen (stepMachine b (Datagram call))
   no-session-of-ours = came b call OursThen (λ _ _. refl) (λ _ _ _. refl) (λ e _. by (readOf (call .datagram)) e)
