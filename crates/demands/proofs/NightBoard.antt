@@ -53,10 +53,11 @@ use Rattle.client.specs.declared.notice.Kind.the-variants.{Started, Ended}
 use Rattle.client.specs.declared.notice.Notice.{Notice}
 use Rattle.client.specs.declared.record.Client.{Client}
 use Rattle.client.specs.Notice.{noNotice, noticeWith, latestNumber}
-use Rattle.client.specs.Record.{starting, initiated, terminated, opened, modeEnded, begun, ended}
-use Rattle.client.specs.declared.record.Latest.the-variants.{Good}
+use Rattle.client.specs.Record.{nobody, noneReceived, starting, inState, lately, openedBy, having, initiated, terminated, opened, modeEnded, begun, ended}
+use Rattle.client.specs.declared.record.Latest.{Latest}
+use Rattle.client.specs.declared.record.Latest.the-variants.{Nothing, Good}
 use Rattle.decision.specs.declared.plan.Fixed.{Fixed}
-use Rattle.calls.proofs.Courses.{accepted, not-write}
+use Rattle.calls.proofs.Courses.{accepted, inWrite, not-write}
 use Rattle.calls.specs.Call.{Board, board}
 use Rattle.demands.specs.Board.{LentCall, Initiate, Terminate, Datagram, Outcome, said, targetBank, sectorsIn, lentTarget, stepMachine}
 use Rattle.demands.specs.Demand1.{
@@ -276,6 +277,12 @@ ends-write state.Control e = absurd (false≢true e)
 ends-write state.Write e = refl
 
 module _ (image : List ℕ) (bank : Bank) (n : ℕ) (P : List ℕ → Type 0) where
+  -- the update is in still where the record changes in these alone, and not to a write session
+  still-done : (b : Board) (s : State) (latest : Latest) (opener : List ℕ) (received : List Bool) → inWrite s ≡ false → Done image bank n P b
+      → Done image bank n P (board (inState s (lately latest (openedBy opener (having received (b .client))))) (b .pair))
+  still-done b s latest opener received e d =
+      record { sectors = d .sectors; target = d .target; is-image = d .is-image; starts-next = d .starts-next; resting = λ w. not-write s e (w .0) }
+
   idle-says : (k : Name) (b : Board) (g : List ℕ) (o : Outcome) (h : List ℕ) (r : Response) → idle r ≡ true → Says image bank n P k b g o h r
   idle-says k b g o h Unreadable e = tt
   idle-says k b g o h (Plain command.ModeStart r) e = tt
@@ -428,14 +435,7 @@ module _ (image : List ℕ) (bank : Bank) (n : ℕ) (P : List ℕ → Type 0) wh
         (decides refl
         (changed-fine ModeEnd b g call (roomy b call h) (modeEnded (b .client)) (noticeWith Ended (latestNumber (b .client .latest)) (call .address))
         (controlFrame 0x74 (0x06 ∷ [])) (control-short 0x74 0x06) (plain-idle command.ModeEnd 0x06 refl refl refl) (not-write state.Idle refl)
-        (λ _ d.
-        record {
-          sectors = d .sectors;
-          target = d .target;
-          is-image = d .is-image;
-          starts-next = d .starts-next;
-          resting = λ w. not-write state.Idle refl (w .0);
-        }))))
+        (λ _ d. still-done b state.Idle Nothing nobody noneReceived refl d))))
 
     -- ---- a session begins
 
@@ -700,8 +700,7 @@ module _ (image : List ℕ) (bank : Bank) (n : ℕ) (P : List ℕ → Type 0) wh
         first
         (λ _.
         done-host (initiated (b .client)) (not-write state.Idle refl)
-        (λ d.
-        record { sectors = d .sectors; target = d .target; is-image = d .is-image; starts-next = d .starts-next; resting = λ w. not-write state.Idle refl (w .0) }))
+        (still-done b state.Idle (b .client .latest) (b .client .opener) (b .client .received) refl))
         (λ _. last))))
 
     pub terminate-moves : Moves image bank n P k b g (stepMachine b Terminate) g
@@ -714,6 +713,5 @@ module _ (image : List ℕ) (bank : Bank) (n : ℕ) (P : List ℕ → Type 0) wh
         first
         (λ _.
         done-host (terminated (b .client)) (not-write state.Closed refl)
-        (λ d.
-        record { sectors = d .sectors; target = d .target; is-image = d .is-image; starts-next = d .starts-next; resting = λ w. not-write state.Closed refl (w .0) }))
+        (still-done b state.Closed Nothing nobody noneReceived refl))
         (λ _. last))))

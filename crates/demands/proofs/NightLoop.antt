@@ -37,7 +37,7 @@ use Rattle.night.specs.Call.{Event, heardIn, nextOf}
 use Rattle.night.specs.Name.{numberOf, frameOf}
 use Rattle.night.specs.Record.{followingOf}
 use Rattle.night.proofs.Judged.{Moved, onward, again, up, moved-by, own-ended, version-settled, Fields, packet-settled}
-use Rattle.demands.specs.Board.{LentCall, Input, Initiate, Terminate, Datagram, Outcome, said, after, outcomes, stepMachine}
+use Rattle.demands.specs.Board.{LentCall, Input, Initiate, Terminate, Datagram, Outcome, said, Machine, after, outcomes, stepMachine}
 use Rattle.demands.specs.Demand1.{Unchanged}
 use Rattle.demands.specs.Session.{noted}
 use Rattle.demands.specs.Night.{Told, NightSender, nightSender, Startable, AnyVersion, version, Stored}
@@ -76,6 +76,7 @@ use Rattle.demands.specs.NightLoop.{
   begins,
   isIn,
   MeetsLoop,
+  Updated,
 }
 use Rattle.demands.proofs.NightBoard.{
   isEarly,
@@ -693,14 +694,27 @@ module _ (image : List ℕ) (bank : Bank) (n tries : ℕ) (st : Startable image 
         let last : Loop Night = rounds nightSender stepMachine image l rs in
         in-done (v .stand) (v .right) (sym (ap (λ (o : Told Night). isIn (o .next)) (v .told)) ∙ e) (last .inputs) (last .board) (last .answers) (v .inv)
 
--- what no input changes is unchanged after all rounds
-unchanged : {S : Type 0} (m : NightSender S) (image : List ℕ) (rs : List Round) (l : Loop S)
-    → Unchanged (l .board) (rounds m stepMachine image l rs .board)
-unchanged m image [] l = record { client = refl; bytes = refl }
-unchanged m image (r ∷ rs) l =
-    let inputs : List Input = inputsOf (l .request) (r .passages) in
-    let rest = unchanged m image rs (round m stepMachine image l r) in
-    record { client = rest .client ∙ run-stays inputs (l .board); bytes = rest .bytes ∙ run-running inputs (l .board) }
+-- the board is what all its inputs made of the first one
+pub board-after : {S : Type 0} (m : NightSender S) (machine : Machine) (image : List ℕ) (b : Board) (rs : List Round) (l : Loop S)
+    → after machine b (l .inputs) ≡ l .board
+    → after machine b (rounds m machine image l rs .inputs) ≡ rounds m machine image l rs .board
+board-after m machine image b [] l e = e
+board-after m machine image b (r ∷ rs) l e =
+    let is : List Input = inputsOf (l .request) (r .passages) in
+    board-after m machine image b rs (round m machine image l r)
+    (after-both machine b (l .inputs) is ∙ ap (λ (x : Board). after machine x is) e)
+
+-- what no input changes is as it was when all began
+pub updated : {image : List ℕ} {bank : Bank} {n : ℕ} {P : List ℕ → Type 0} {start b : Board} (is : List Input) → after stepMachine start is ≡ b
+    → Done image bank n P b → Updated start b image bank n
+updated {start = start} is at d =
+    record {
+      sectors = d .sectors;
+      target = d .target;
+      is-image = d .is-image;
+      starts-next = d .starts-next;
+      kept = subst (Unchanged start) at (record { client = run-stays is start; bytes = run-running is start });
+    }
 
 -- ---- where nobody else sends, every opener's mode counts
 
@@ -730,11 +744,6 @@ module _ (image : List ℕ) (bank : Bank) (n tries : ℕ) (st : Startable image 
 
 pub loop-met : MeetsLoop nightSender stepMachine
 loop-met image bank n tries before b rs st h hs alone revision e =
-    let d = update-in image bank n tries st b before rs h hs alone revision e in
-    record {
-      sectors = d .sectors;
-      target = d .target;
-      is-image = d .is-image;
-      starts-next = d .starts-next;
-      kept = unchanged nightSender image rs (begins nightSender stepMachine image bank n tries before b);
-    }
+    let l : Loop Night = begins nightSender stepMachine image bank n tries before b in
+    updated (rounds nightSender stepMachine image l rs .inputs) (board-after nightSender stepMachine image b rs l refl)
+    (update-in image bank n tries st b before rs h hs alone revision e)

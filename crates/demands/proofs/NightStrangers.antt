@@ -23,7 +23,7 @@ use Rattle.night.specs.declared.name.Name.{Name}
 use Rattle.night.specs.declared.name.Name.the-variants.{ModeStart, VersionInfo, BankInfo, WriteStart, Packet, WriteEnd, ModeEnd}
 use Rattle.night.specs.Name.{frameOf}
 use Rattle.demands.specs.Board.{LentCall, Input, Initiate, Terminate, Datagram, Outcome, said, after, stepMachine}
-use Rattle.demands.specs.Demand1.{Unchanged, isFault, fromStranger, acceptedIn, refused, afterFrame}
+use Rattle.demands.specs.Demand1.{isFault, fromStranger, acceptedIn, refused, afterFrame}
 use Rattle.demands.specs.Night.{Startable, nightSender}
 use Rattle.demands.specs.NightLoop.{
   Passage,
@@ -35,7 +35,6 @@ use Rattle.demands.specs.NightLoop.{
   callOf,
   inputOf,
   NoOther,
-  Updated,
 }
 use Rattle.demands.specs.NightStrangers.{Apart, UntilLeft, to-the-end, still, left, SinceEnd, ended, later, MeetsNightAmong}
 use Rattle.demands.specs.Strangers.{Leaves, mode-ended, terminated}
@@ -44,9 +43,8 @@ use Rattle.demands.proofs.Asking.{request-read}
 use Rattle.demands.proofs.Demand2.{said-back, control-short, end-bytes}
 use Rattle.demands.proofs.Fresh.{ended-bytes}
 use Rattle.demands.proofs.NightBoard.{isEnding, Writing, Done, Ends, in-control, in-write}
-use Rattle.demands.proofs.NightLoop.{at-next, loop-in}
+use Rattle.demands.proofs.NightLoop.{at-next, loop-in, updated}
 use Rattle.demands.proofs.Rows.{Heard, own-mode}
-use Rattle.demands.proofs.Steps.{run-stays, run-running}
 use Rattle.demands.proofs.Strangers.{unheeded-one}
 
 -- ---- what comes of the inputs that may come behind the write end, in control state
@@ -172,16 +170,6 @@ module _ (image : List ℕ) (bank : Bank) (n tries : ℕ) (st : Startable image 
         → ((js : List Input) → Until b js → Since start (is ++ js)) → Watch is b
     over-with : (Writing image bank n Ours b → ⊥) → ((js : List Input) → Since start (is ++ js)) → Watch is b
 
-  updated : (is : List Input) (b : Board) → after stepMachine start is ≡ b → Done image bank n Ours b → Updated start b image bank n
-  updated is b at d =
-      record {
-        sectors = d .sectors;
-        target = d .target;
-        is-image = d .is-image;
-        starts-next = d .starts-next;
-        kept = subst (Unchanged start) at (record { client = run-stays is start; bytes = run-running is start });
-      }
-
   -- the whole run from the rest of it
   since : (is : List Input) (b : Board) {js : List Input} → Since (after stepMachine b is) js → Since b (is ++ js)
   since [] b s = s
@@ -208,13 +196,13 @@ module _ (image : List ℕ) (bank : Bank) (n tries : ℕ) (st : Startable image 
     nothing-changed e =
         in-mode (ap (λ (x : Board). x .client .state) e ∙ c) (ap (λ (x : Board). x .client .opener) e ∙ o) (subst (Done image bank n Ours) (sym e) d)
         (at-next start is b i at)
-        (λ js u. one-more is i js (f (i ∷ js) (still (updated is b at d) u)))
+        (λ js u. one-more is i js (f (i ∷ js) (still (updated is at d) u)))
 
     mode-left : Leaves stepMachine address b i → Done image bank n Ours (stepMachine b i .board)
         → Watch (is ++ (i ∷ [])) (stepMachine b i .board)
     mode-left l e =
         over-with (e .resting)
-        (λ js. one-more is i js (f (i ∷ js) (left (updated is b at d) l (updated (is ++ (i ∷ [])) (stepMachine b i .board) (at-next start is b i at) e))))
+        (λ js. one-more is i js (f (i ∷ js) (left (updated is at d) l (updated (is ++ (i ∷ [])) (at-next start is b i at) e))))
 
   watch-goes : (k : Name) (is : List Input) (b : Board) (asked : List ℕ) (p : Passage) → isEnding k ≡ true → Apart address p → asked ≡ frameOf image bank n k
       → (NoOther p → Done image bank n Ours b → Done image bank n Ours (stepMachine b (inputOf asked p) .board))
@@ -251,7 +239,7 @@ module _ (image : List ℕ) (bank : Bank) (n tries : ℕ) (st : Startable image 
   watch-rests is b (over-with r g) w = r w
 
   watched : (is : List Input) (b : Board) → Watch is b → Since start is
-  watched is b (in-mode c o d at g) = subst (Since start) (append-nil is) (g [] (to-the-end (updated is b at d)))
+  watched is b (in-mode c o d at g) = subst (Since start) (append-nil is) (g [] (to-the-end (updated is at d)))
   watched is b (over-with r g) = subst (Since start) (append-nil is) (g [])
 
 pub night-among-met : MeetsNightAmong nightSender stepMachine

@@ -57,7 +57,6 @@ use Rattle.demands.specs.NightLoop.{
   Arrives,
   Another,
   callOf,
-  inputsOf,
   Nothing,
   Answer,
   Round,
@@ -70,8 +69,6 @@ use Rattle.demands.specs.NightLoop.{
   no-round,
   round-more,
   Loop,
-  round,
-  rounds,
   begins,
   isIn,
   AnswerLost,
@@ -98,45 +95,35 @@ use Rattle.demands.specs.NightStrangers.{
   Undone,
 }
 use Rattle.demands.specs.Strangers.{Leaves, mode-ended, takesAll}
+use Rattle.demands.proofs.NightLoop.{board-after}
 use Rattle.demands.proofs.NightWitness.{idle-board, idle-small, coming, buffer-room}
-use Rattle.demands.proofs.Steps.{after-both}
 
 -- ---- a board on which the update is undone fails
 
--- the board is what all its inputs made of the first one
-board-after : {S : Type 0} (m : NightSender S) (machine : Machine) (image : List ℕ) (b : Board) (rs : List Round) (l : Loop S)
-    → l .board ≡ after machine b (l .inputs)
-    → rounds m machine image l rs .board ≡ after machine b (rounds m machine image l rs .inputs)
-board-after m machine image b [] l e = e
-board-after m machine image b (r ∷ rs) l e =
-    let is : List Input = inputsOf (l .request) (r .passages) in
-    board-after m machine image b rs (round m machine image l r)
-    (ap (λ (x : Board). after machine x is) e ∙ sym (after-both machine b (l .inputs) is))
-
 module _ (machine : Machine) (k : NightAmong) where
   abbrev InThen : Board → Type 0
-  InThen b = InPlace machine (k .address) (k .image) (k .bank) (k .n) (k .board) b
+  InThen b = InPlace machine (k .address) (k .begin .image) (k .begin .bank) (k .begin .n) (k .board) b
 
   until-in : {b : Board} {is : List Input} → NotLeft machine k b is
-      → UntilLeft machine (k .address) (k .image) (k .bank) (k .n) (k .board) b is → InThen (after machine b is)
+      → UntilLeft machine (k .address) (k .begin .image) (k .begin .bank) (k .begin .n) (k .board) b is → InThen (after machine b is)
   until-in never-left (to-the-end x) = x
   until-in (not-left n ns) (still x u) = until-in ns u
   until-in (not-left n ns) (left x l y) = absurd (n l)
 
   since-in : {b : Board} {is : List Input} → NotLeft machine k b is
-      → SinceEnd machine (k .address) (k .image) (k .bank) (k .n) (k .board) b is → InThen (after machine b is)
+      → SinceEnd machine (k .address) (k .begin .image) (k .begin .bank) (k .begin .n) (k .board) b is → InThen (after machine b is)
   since-in (not-left n ns) (ended a e s u) = until-in ns u
   since-in (not-left n ns) (later x) = since-in ns x
 
 pub undone-fails : {S : Type 0} (m : NightSender S) (machine : Machine) → MeetsNightAmong m machine → Undone m machine → ⊥
 undone-fails {S} m machine meets u =
     let k : NightAmong = u .night in
-    let begun : Loop S = begins m machine (k .image) (k .bank) (k .n) (k .tries) (k .before) (k .board) in
+    let begun : Loop S = begins m machine (k .begin .image) (k .begin .bank) (k .begin .n) (k .begin .tries) (k .begin .before) (k .board) in
     let since =
-    meets (k .image) (k .bank) (k .n) (k .tries) (k .before) (k .address) (k .board) (k .rs) (k .startable) (k .roomy) (k .roomy-rounds)
+    meets (k .begin .image) (k .begin .bank) (k .begin .n) (k .begin .tries) (k .begin .before) (k .address) (k .board) (k .rs) (k .begin .starts) (k .begin .roomy) (k .roomy-rounds)
     (k .apart) (k .small) (u .is-in) in
     u .not-next
-    (ap (λ (b : Board). b .client .next) (board-after m machine (k .image) (k .board) (k .rs) begun refl)
+    (sym (ap (λ (b : Board). b .client .next) (board-after m machine (k .begin .image) (k .board) (k .rs) begun refl))
     ∙ since-in machine k (u .in-mode) since .starts-next)
 
 -- ---- the image: a table with one body, four bytes behind it
@@ -191,16 +178,10 @@ going-apart (suc k) given h = each-more (passage-more is-ours no-passage) (going
 abbrev night : (tries : ℕ) → 1 ≤ tries → tries ≤ 9 → (rs : List Round) → RoomyRounds rs → EachPassage (Apart ours) rs → NightAmong
 night tries low high rs roomy apart =
     record {
-      image = image;
-      bank = One;
-      n = 1;
-      tries = tries;
-      before = buffer;
+      begin = record { image = image; bank = One; n = 1; tries = tries; before = buffer; starts = starts tries low high; roomy = buffer-room };
       address = ours;
       board = idle-board 1;
       rs = going 6 0 rs;
-      startable = starts tries low high;
-      roomy = buffer-room;
       roomy-rounds = going-roomy 6 0 roomy;
       apart = going-apart 6 0 apart;
       small = idle-small 1;

@@ -32,6 +32,7 @@ use Rattle.demands.specs.NightLoop.{
   isIn,
   Updated,
 }
+use Rattle.demands.specs.NightShutOut.{Begin}
 use Rattle.demands.specs.Strangers.{Leaves}
 
 -- its requests come from this address, and nobody else's do
@@ -72,16 +73,10 @@ MeetsNightAmong m machine =
 
 -- all that is asked of a night above, but its end
 pub record NightAmong : Type 0 where
-  pub image : List ℕ
-  pub bank : Bank
-  pub n : ℕ
-  pub tries : ℕ
-  pub before : List ℕ
+  pub begin : Begin
   pub address : List ℕ
   pub board : Board
   pub rs : List Round
-  pub startable : Startable image n tries
-  pub roomy : room ≤ length before
   pub roomy-rounds : RoomyRounds rs
   pub apart : EachPassage (Apart address) rs
   pub small : board .client .fixed .revision < 2 ^ 32
@@ -89,13 +84,14 @@ pub record NightAmong : Type 0 where
 -- what comes of it
 abbrev pub lastOf : {S : Type 0} → NightSender S → Machine → NightAmong → Loop S
 lastOf m machine k =
-    rounds m machine (k .image) (begins m machine (k .image) (k .bank) (k .n) (k .tries) (k .before) (k .board)) (k .rs)
+    let x : Begin = k .begin in
+    rounds m machine (x .image) (begins m machine (x .image) (x .bank) (x .n) (x .tries) (x .before) (k .board)) (k .rs)
 
 -- one that finishes, and its bank is not to start next any more
 pub record TakenOver {S : Type 0} (m : NightSender S) (machine : Machine) : Type 0 where
   pub night : NightAmong
   pub finished : lastOf m machine night .told .next ≡ Finished
-  pub not-next : lastOf m machine night .board .client .next ≡ night .bank → ⊥
+  pub not-next : lastOf m machine night .board .client .next ≡ night .begin .bank → ⊥
 
 -- its mode is left by none of the inputs
 pub data NotLeft (machine : Machine) (k : NightAmong) : Board → List Input → Type 0 where
@@ -108,4 +104,4 @@ pub record Undone {S : Type 0} (m : NightSender S) (machine : Machine) : Type 0 
   pub night : NightAmong
   pub is-in : isIn (lastOf m machine night .told .next) ≡ true
   pub in-mode : NotLeft machine night (night .board) (lastOf m machine night .inputs)
-  pub not-next : lastOf m machine night .board .client .next ≡ night .bank → ⊥
+  pub not-next : lastOf m machine night .board .client .next ≡ night .begin .bank → ⊥
