@@ -1,32 +1,27 @@
 // Hex digits: the value of one, and the digit of a value.
-ghost use mathlib.Core.Path.{_≡_};
-ghost use mathlib.Core.Bool.{_&&_, cond};
-ghost use Prim.Native.Nat.{_+_, _-_, _<_};
-ghost use lib.Dec.{leb};
 ghost use Rattle.digits.specs.Digit.{Value·Is, Digit·Is};
 
 // The value of what is no digit.
 pub const NONE: u8 = 16;
 
-// The place of `x` between two others, counted from `value` on; `other` where it is outside. The tests are joined by `&` and both answers
-// are at hand by then, so that the compiler chooses without a branch, which data would make it guess wrong.
-fn within(x: u8, first: u8, last: u8, value: u8, other: u8) -> u8
-    requires { ⌜ last + value < 256 ⌝ }
-    ensures { λ r. ⌜ r ≡ cond (leb first x && leb x last) (x - first + value) other ⌝ }
-{
-    if (first <= x) & (x <= last) {
-        return x - first + value;
-    }
-    other
-}
-
-// The value of a digit of either case, and `NONE` for any other byte.
+// The value of a digit of either case, and `NONE` for any other byte. A letter is counted by the byte before it, without the bit in which the
+// cases differ: the letters are 0x40 to 0x45 then, and nothing is 0x20 to 0x3F, so from 10 on they alone are counted below `NONE`; by the byte
+// itself `@` would be a 9. Both counts are at hand before a test, so that the compiler chooses without a branch, which data would make it guess
+// wrong.
 pub fn value(byte: u8) -> u8
     ensures { λ r. ⌜ Value·Is byte r ⌝ }
 {
-    let lower = within(byte, b'a', b'f', 10, NONE);
-    let upper = within(byte, b'A', b'F', 10, lower);
-    within(byte, b'0', b'9', 0, upper)
+    let number = std::num::wrapping_sub_u8(byte, b'0');
+    let before = std::num::wrapping_sub_u8(byte, 1);
+    let letter = std::num::wrapping_sub_u8(before & 0xdf, 0x40 - 10);
+    let mut least = NONE;
+    if number < 10 {
+        least = number;
+    }
+    if letter < least {
+        least = letter;
+    }
+    least
 }
 
 // The digit of a value, in upper case; of a value that no digit has, that of its last place.

@@ -1,21 +1,43 @@
--- `digits::value` meets its contract: a letter in lower case, one in upper case, or a number.
+-- `digits::value` meets its contract: the lesser of a byte's two counts, or `NONE`.
 -- Assumes nothing.
+use mathlib.Core.Path.{_∙_}
+use mathlib.Core.Logic.{⊎-elim}
+use Prim.Native.Nat.{_≤_}
+use native.Mathlib.Omega.{arith}
 use borrow.Author.Needs.{needs}
-use Rattle.digits.proofs.Digits.{value-is}
+use Rattle.digits.proofs.Digits.{number-is, letter-is, none-is}
 use Rattle.digits.proofs.value.Statement.{statement}
 use Rattle.digits.proofs.value.Tie as tie
 
-within-requires : tie.Need-within-requires
-within-requires c κs = search needs
+wrapping-sub-u8-requires : tie.Need-wrapping-sub-u8-requires
+wrapping-sub-u8-requires c κs = search needs
 
-within-requires-2 : tie.Need-within-requires-2
-within-requires-2 c κs = search needs
+wrapping-sub-u8-requires-2 : tie.Need-wrapping-sub-u8-requires-2
+wrapping-sub-u8-requires-2 c κs = search needs
 
-within-requires-3 : tie.Need-within-requires-3
-within-requires-3 c κs = search needs
+sub-wrapping-sub-u8 : tie.Need-sub-wrapping-sub-u8
+sub-wrapping-sub-u8 c = search needs
+
+wrapping-sub-u8-requires-3 : tie.Need-wrapping-sub-u8-requires-3
+wrapping-sub-u8-requires-3 c κs = search needs
 
 returns : tie.Need-returns
-returns c = value-is _ (c .before .before .within .ensures) (c .before .within2 .ensures) (c .within3 .ensures)
+returns c =
+    let l = c .before .before .wrapping-sub-u83 in
+    let x = c .before .before .before .wrapping-sub-u82 in
+    let least : c .before .if1 .least ≤ 16 = ⊎-elim (λ w. omega (arith, w .0 .taken, w .1)) (λ w. omega (arith, w .1)) (c .before .if1 .came) in
+    letter-is _ _ _ (search needs) (search needs) (x .ensures) (l .ensures) (omega (arith, c .if2 .taken, least))
+
+returns-2 : tie.Need-returns-2
+returns-2 c =
+    let l = c .before .before .wrapping-sub-u83 in
+    let x = c .before .before .before .wrapping-sub-u82 in
+    let n = c .before .before .before .before .wrapping-sub-u8 in
+    ⊎-elim (λ w. w .1 ∙ number-is _ _ (search needs) (n .ensures) (w .0 .taken))
+    (λ w. w .1 ∙ none-is _ _ _ (search needs) (search needs) (x .ensures) (l .ensures) _ (search needs) (n .ensures) (w .0 .left) (omega (arith, w .1, c .if2 .left)))
+    (c .before .if1 .came)
 
 pub value-spec : {M : Type 1} → statement M
-value-spec = tie.close (tie.spec within-requires within-requires-2 within-requires-3 returns)
+value-spec =
+    tie.close
+    (tie.spec wrapping-sub-u8-requires wrapping-sub-u8-requires-2 sub-wrapping-sub-u8 wrapping-sub-u8-requires-3 returns returns-2)
