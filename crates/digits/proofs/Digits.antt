@@ -14,9 +14,12 @@ use Rattle.digits.specs.Digit.{valueOf, digitOf}
 
 -- ---- the ranges
 
--- a number between two others, by the joined test
+-- a number between two others, by the joined test, and one that is not
 in-range : (a b c : ℕ) → (leb a c && leb c b) ≡ true → (a ≤ c) × (c ≤ b)
 in-range a b c e = (leb-true a c (and-left (leb a c) (leb c b) e), leb-true c b (and-right (leb a c) (leb c b) e))
+
+outside : (a b c : ℕ) → ((a ≤ c) × (c ≤ b) → ⊥) → (leb a c && leb c b) ≡ false
+outside a b c h = not-so (leb a c && leb c b) (λ t. h (in-range a b c t))
 
 value-of-number : (c : ℕ) → 0x30 ≤ c → c ≤ 0x39 → valueOf c ≡ c - 0x30
 unfolding valueOf
@@ -46,27 +49,30 @@ module _ (c n : ℕ) (fits : n < 256) (counts : (n + 0x30) % 256 ≡ c) where
   number-is h = sym (value-of-number c (omega arith) (omega arith) ∙ omega arith)
 
   no-number : 10 ≤ n → (leb 0x30 c && leb c 0x39) ≡ false
-  no-number h = not-so (leb 0x30 c && leb c 0x39) (λ t. let i = in-range 0x30 0x39 c t in omega arith)
+  no-number h = outside 0x30 0x39 c (λ i. omega arith)
 
 -- of a byte c: l counts the byte x before it, without its case, from 10 on, as a letter
 module _ (c x l : ℕ) (under : x < 256) (fits : l < 256) (before : (x + 1) % 256 ≡ c) (counts : (l + (0x40 - 10)) % 256 ≡ bitAnd x 0xDF) where
+  counted : (l + (0x40 - 10)) % 256 ≡ x / 64 * 64 + x % 32
+  counted = counts ∙ caseless x under
+
   -- x is 0x40 to 0x5F for an upper-case one, 0x60 to 0x7F for a lower-case one
   pub letter-is : l < 16 → l ≡ valueOf c
   letter-is h =
-      let e = counts ∙ caseless x under in
+      let e = counted in
       ⊎-elim (λ upper. sym (value-of-upper c (omega arith) (omega arith) ∙ omega arith))
       (λ lower. sym (value-of-lower c (omega arith) (omega arith) ∙ omega arith))
       (eq-or-lt-of-le {n = 2} {m = x / 32} (omega arith))
 
   no-upper : 16 ≤ l → (leb 0x41 c && leb c 0x46) ≡ false
-  no-upper h = let e = counts ∙ caseless x under in not-so (leb 0x41 c && leb c 0x46) (λ t. let i = in-range 0x41 0x46 c t in omega arith)
+  no-upper h = outside 0x41 0x46 c (λ i. omega (arith, counted))
 
   no-lower : 16 ≤ l → (leb 0x61 c && leb c 0x66) ≡ false
-  no-lower h = let e = counts ∙ caseless x under in not-so (leb 0x61 c && leb c 0x66) (λ t. let i = in-range 0x61 0x66 c t in omega arith)
+  no-lower h = outside 0x61 0x66 c (λ i. omega (arith, counted))
 
   pub none-is : (n : ℕ) → n < 256 → (n + 0x30) % 256 ≡ c → 10 ≤ n → 16 ≤ l → 16 ≡ valueOf c
   unfolding valueOf
-  none-is n hn e h k = rw (no-number c n hn e h, no-upper k, no-lower k)
+  none-is n f e h k = rw (no-number c n f e h, no-upper k, no-lower k)
 
 -- ---- value and digit
 

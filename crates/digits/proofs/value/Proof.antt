@@ -34,7 +34,9 @@ returns-2 c =
     let x = c .before .before .before .wrapping-sub-u82 in
     let n = c .before .before .before .before .wrapping-sub-u8 in
     ⊎-elim (λ w. w .1 ∙ number-is _ _ (search needs) (n .ensures) (w .0 .taken))
-    (λ w. w .1 ∙ none-is _ _ _ (search needs) (search needs) (x .ensures) (l .ensures) _ (search needs) (n .ensures) (w .0 .left) (omega (arith, w .1, c .if2 .left)))
+    (λ w.
+    let h : 16 ≤ l .result = omega (arith, w .1, c .if2 .left) in
+    w .1 ∙ none-is _ _ _ (search needs) (search needs) (x .ensures) (l .ensures) _ (search needs) (n .ensures) (w .0 .left) h)
     (c .before .if1 .came)
 
 pub value-spec : {M : Type 1} → statement M
