@@ -1,7 +1,7 @@
--- A digit by the range in which it lies, by the counts that the code makes of it, and that value and digit undo each other.
+-- The value of a digit by its range and by the counts that the code makes of it; value and digit undo each other.
 -- Assumes nothing.
 use mathlib.Core.Path.{_≡_, sym, ap, _∙_}
-use mathlib.Core.Bool.{true, false, _&&_, cond}
+use mathlib.Core.Bool.{true, false, _&&_}
 use mathlib.Core.Logic.{_⊎_, ⊎-elim}
 use Prim.Native.Nat.{ℕ, _+_, _-_, _*_, _/_, _%_, _^_, _≤_, _<_}
 use native.Mathlib.Nat.{eq-or-lt-of-le}
@@ -35,7 +35,7 @@ value-of-lower c h k = rw (lt-leb c 0x39 (omega arith), and-false, lt-leb c 0x46
 
 -- ---- the counts, as the code makes them
 
--- without the bit in which the cases differ
+-- with the bit cleared in which the cases differ
 caseless : (x : ℕ) → x < 256 → bitAnd x 0xDF ≡ x / 64 * 64 + x % 32
 caseless x h =
     let parts : x ≡ x / 32 * 2 ^ 5 + x % 32 = omega arith in
@@ -51,12 +51,12 @@ module _ (c n : ℕ) (fits : n < 256) (counts : (n + 0x30) % 256 ≡ c) where
   no-number : 10 ≤ n → (leb 0x30 c && leb c 0x39) ≡ false
   no-number h = outside 0x30 0x39 c (λ i. omega arith)
 
--- of a byte c: l counts the byte x before it, without its case, from 10 on, as a letter
-module _ (c x l : ℕ) (under : x < 256) (fits : l < 256) (before : (x + 1) % 256 ≡ c) (counts : (l + (0x40 - 10)) % 256 ≡ bitAnd x 0xDF) where
+-- of a byte c: x is one less, and l counts x, with the bit cleared, from 10 on, as a letter
+module _ (c x l : ℕ) (under : x < 256) (fits : l < 256) (one-less : (x + 1) % 256 ≡ c) (counts : (l + (0x40 - 10)) % 256 ≡ bitAnd x 0xDF) where
   counted : (l + (0x40 - 10)) % 256 ≡ x / 64 * 64 + x % 32
   counted = counts ∙ caseless x under
 
-  -- x is 0x40 to 0x5F for an upper-case one, 0x60 to 0x7F for a lower-case one
+  -- by whether x is 0x40 to 0x5F, for upper case, or 0x60 to 0x7F
   pub letter-is : l < 16 → l ≡ valueOf c
   letter-is h =
       let e = counted in

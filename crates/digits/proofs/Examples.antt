@@ -1,7 +1,7 @@
--- Every digit in both cases, and what lies beside them, by hand.
+-- The value of every digit in both cases, and of what lies beside them, as it has to be.
 -- Assumes nothing.
 use mathlib.Core.Path.{_≡_, refl}
-use mathlib.Core.List.{List, [], _∷_, map}
+use mathlib.Core.List.{[], _∷_, map}
 use Prim.Native.Nat.{ℕ, _≤_}
 use native.Mathlib.Omega.{arith}
 use borrow.Author.Tests.{lt-leb}
@@ -26,13 +26,14 @@ pub beside : map valueOf (0x2F ∷ 0x3A ∷ 0x40 ∷ 0x47 ∷ 0x60 ∷ 0x67 ∷ 
 unfolding valueOf
 beside = refl
 
--- 0x10 to 0x19, of which the bit in which the cases differ would make numbers
+-- 0x10 to 0x19, which would be numbers with the bit set in which the cases differ
 pub below :
     map valueOf (0x10 ∷ 0x11 ∷ 0x12 ∷ 0x13 ∷ 0x14 ∷ 0x15 ∷ 0x16 ∷ 0x17 ∷ 0x18 ∷ 0x19 ∷ []) ≡
     (16 ∷ 16 ∷ 16 ∷ 16 ∷ 16 ∷ 16 ∷ 16 ∷ 16 ∷ 16 ∷ 16 ∷ [])
 unfolding valueOf
 below = refl
 
+-- no byte from 0x80 on is a digit
 pub above : (c : ℕ) → 0x80 ≤ c → valueOf c ≡ 16
 unfolding valueOf
 above c h =

@@ -4,16 +4,16 @@ ghost use Rattle.digits.specs.Digit.{Value·Is, Digit·Is};
 // The value of what is no digit.
 pub const NONE: u8 = 16;
 
-// The value of a digit of either case, and `NONE` for any other byte. A letter is counted by the byte before it, without the bit in which the
-// cases differ: the letters are 0x40 to 0x45 then, and nothing is 0x20 to 0x3F, so from 10 on they alone are counted below `NONE`; by the byte
-// itself `@` would be a 9. Both counts are at hand before a test, so that the compiler chooses without a branch, which data would make it guess
-// wrong.
+// The value of a digit of either case, and `NONE` for any other byte. Both cases of a letter share one count: 1 is taken from the byte and the bit
+// in which the cases differ is cleared, so that A to F and a to f come to 0x40 to 0x45, counted 10 to 15. What would count 0 to 9, 0x36 to 0x3F,
+// has that bit set, so no byte comes to it; all others count 16 or more, and one comparison is enough. Without the 1 taken away `@` would be 9.
+// Both counts are made before the tests, so that the compiler chooses without a branch, which a processor guesses wrong on random digits.
 pub fn value(byte: u8) -> u8
     ensures { λ r. ⌜ Value·Is byte r ⌝ }
 {
     let number = std::num::wrapping_sub_u8(byte, b'0');
-    let before = std::num::wrapping_sub_u8(byte, 1);
-    let letter = std::num::wrapping_sub_u8(before & 0xdf, 0x40 - 10);
+    let one_less = std::num::wrapping_sub_u8(byte, 1);
+    let letter = std::num::wrapping_sub_u8(one_less & 0xDF, 0x40 - 10);
     let mut least = NONE;
     if number < 10 {
         least = number;

@@ -1,4 +1,4 @@
--- `digits::value` meets its contract: the lesser of a byte's two counts, or `NONE`.
+-- `digits::value` meets its contract: the count of a letter, that of a number, or `NONE`.
 -- Assumes nothing.
 use mathlib.Core.Path.{_∙_}
 use mathlib.Core.Logic.{⊎-elim}
@@ -21,6 +21,7 @@ sub-wrapping-sub-u8 c = search needs
 wrapping-sub-u8-requires-3 : tie.Need-wrapping-sub-u8-requires-3
 wrapping-sub-u8-requires-3 c κs = search needs
 
+-- a letter's count
 returns : tie.Need-returns
 returns c =
     let l = c .before .before .wrapping-sub-u83 in
@@ -28,6 +29,7 @@ returns c =
     let least : c .before .if1 .least ≤ 16 = ⊎-elim (λ w. omega (arith, w .0 .taken, w .1)) (λ w. omega (arith, w .1)) (c .before .if1 .came) in
     letter-is _ _ _ (search needs) (search needs) (x .ensures) (l .ensures) (omega (arith, c .if2 .taken, least))
 
+-- a number's, or `NONE`
 returns-2 : tie.Need-returns-2
 returns-2 c =
     let l = c .before .before .wrapping-sub-u83 in
