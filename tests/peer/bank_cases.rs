@@ -31,31 +31,31 @@ const NO_REQUESTS: [&str; 6] = [
 ];
 
 #[derive(Clone, Copy)]
-struct Stretch {
-    from: usize,
-    size: usize,
+pub struct Stretch {
+    pub from: usize,
+    pub size: usize,
 }
 
 impl Stretch {
-    fn end(self) -> usize {
+    pub fn end(self) -> usize {
         self.from + self.size
     }
 }
 
-fn table_end(count: usize) -> usize {
+pub fn table_end(count: usize) -> usize {
     8 + 12 * count
 }
 
 /// What a bank holds, and the pieces of a line that say so.
 #[derive(Clone)]
-struct Bank {
-    bytes: Vec<u8>,
+pub struct Bank {
+    pub bytes: Vec<u8>,
     pieces: String,
     stretches: Vec<Stretch>,
 }
 
 impl Bank {
-    fn blank(length: usize) -> Bank {
+    pub fn blank(length: usize) -> Bank {
         Bank { bytes: vec![0xFF; length], pieces: String::new(), stretches: Vec::new() }
     }
 
@@ -76,7 +76,7 @@ impl Bank {
 
     /// The table's entries say where the stretches are, whether these lie well or not, and each CRC is right: where a stretch lies badly,
     /// that is the only fault.
-    fn laid_out(length: usize, stretches: &[Stretch]) -> Bank {
+    pub fn laid_out(length: usize, stretches: &[Stretch]) -> Bank {
         let mut bank = Bank::blank(length);
         for stretch in stretches {
             bank.put_ramp(*stretch);
@@ -91,20 +91,20 @@ impl Bank {
         bank
     }
 
-    fn entry(&self, stretch: Stretch) -> [u8; 12] {
+    pub fn entry(&self, stretch: Stretch) -> [u8; 12] {
         let held = self.bytes.get(stretch.from..stretch.end()).unwrap_or_default();
         let numbers = [stretch.from as u32, stretch.size as u32, crc32(held)];
         numbers.map(u32::to_be_bytes).concat().try_into().expect("three numbers")
     }
 
-    fn changed(&self, at: usize, bytes: &[u8]) -> Bank {
+    pub fn changed(&self, at: usize, bytes: &[u8]) -> Bank {
         let mut other = self.clone();
         other.put(at, bytes);
         other
     }
 
     /// With the CRC of the table made right, where the count says that it stands.
-    fn resealed(&self) -> Bank {
+    pub fn resealed(&self) -> Bank {
         let at = 4 + 12 * self.bytes[3] as usize;
         if at + 4 > self.bytes.len() {
             return self.clone();
@@ -113,7 +113,7 @@ impl Bank {
     }
 
     /// What lies before, between and behind the bodies, where there is any.
-    fn gaps(&self) -> Vec<(usize, usize)> {
+    pub fn gaps(&self) -> Vec<(usize, usize)> {
         let starts = self.stretches.iter().map(|s| s.from).chain([self.bytes.len()]);
         let ends = [table_end(self.stretches.len())].into_iter().chain(self.stretches.iter().map(|s| s.end()));
         ends.zip(starts).filter(|(end, start)| end < start).collect()
@@ -121,7 +121,7 @@ impl Bank {
 }
 
 /// One byte each behind the table, one byte each at the bank's end, the bank filled.
-fn touching(length: usize, count: usize) -> Vec<Vec<Stretch>> {
+pub fn touching(length: usize, count: usize) -> Vec<Vec<Stretch>> {
     let (table, room) = (table_end(count), length - table_end(count));
     let filling = |i| {
         let (from, end) = (table + room * i / count, table + room * (i + 1) / count);
@@ -135,7 +135,7 @@ fn touching(length: usize, count: usize) -> Vec<Vec<Stretch>> {
 }
 
 /// A gap before, between any two and behind; and the same with the first right behind the table and the last at the bank's end.
-fn apart(length: usize, count: usize) -> Vec<Vec<Stretch>> {
+pub fn apart(length: usize, count: usize) -> Vec<Vec<Stretch>> {
     let (table, slot) = (table_end(count), (length - table_end(count)) / count);
     let size = (slot / 3).max(1);
     let spread: Vec<Stretch> = (0..count).map(|i| Stretch { from: table + slot * i + size, size }).collect();

@@ -1,11 +1,13 @@
 //! The request lines that the program `vectors` answers, and their answers: docs/REQUESTS.md has the form of both.
-use crate::{bank, crc, frame, hex};
+use crate::{bank, clean, crc, frame, hex};
 
 const LONGEST_LINE: usize = 4_096;
 const LONGEST_RUN: usize = 300_000;
 const LARGEST_BUFFER: usize = 600;
 const LONGEST_BANK: usize = 252_416;
 const LONGEST_SHOWN: usize = 64;
+const LONGEST_RUNS: usize = 64;
+const LONGEST_SECTORS: usize = 512;
 
 pub fn answers(text: &[u8]) -> Vec<String> {
     requests(text).into_iter().map(|line| line.and_then(known).unwrap_or_else(|| "?".to_string())).collect()
@@ -63,6 +65,10 @@ fn known(line: &str) -> Option<String> {
         ["check", length, ref pieces @ ..] => Some(verdict(&held(length, pieces)?)),
         ["body", i, length, ref pieces @ ..] => {
             Some(body_line(bank::body(&held(length, pieces)?, decimal(i, usize::MAX)?)))
+        }
+        ["clean", runs, sectors, length, ref pieces @ ..] => {
+            let (runs, sectors) = clean::lists(decimal(runs, LONGEST_RUNS)?, decimal(sectors, LONGEST_SECTORS)?);
+            Some(clean::lent_line(&clean::lent(&held(length, pieces)?, &runs, &sectors)))
         }
         _ => None,
     }

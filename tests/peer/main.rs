@@ -10,10 +10,14 @@
 //!     peer packets           what the paper's program writes for the text on standard input
 //!     peer update BANK N     what `update` writes for the text on standard input
 //!     peer hexout BANK       what `hexout` writes for the image on standard input
+//!     peer clean FILE OUT    what `clean` does with the bank in FILE: the list on standard output, the cleaned bank in OUT, and its status
 //!     peer night BANK N T FILE.hex
 //!                            what `night` does: requests on standard output, events on standard input, and its status
 //!     peer texts DIRECTORY   the texts that `packets` is tried with, each in a file of its own
 //!     peer images DIRECTORY  the images that `hexout` is tried with, each in a file of its own
+//!     peer clean-banks DIRECTORY
+//!                            the banks that `clean` is tried with, each in a file of its own
+//!     peer checks FILE ..    the request lines that have the banks in these files checked by `vectors`
 //!     peer board-cases       the script that `board` is tried with
 //!     peer board-endings     lines that are none, each of which ends a script
 //!     peer board             what the script on standard input writes, on a board with the peer's own client (docs/BOARD.md)
@@ -39,6 +43,9 @@ mod board_cases;
 mod board_endings;
 mod board_strangers;
 mod cases;
+mod clean;
+mod clean_banks;
+mod clean_cases;
 mod client;
 mod crc;
 mod demands;
@@ -69,6 +76,7 @@ mod response;
 mod response_cases;
 mod script;
 mod selftest;
+mod selftest_clean;
 mod selftest_hexout;
 mod selftest_night;
 mod selftest_sending;
@@ -92,7 +100,7 @@ fn main() {
     let words: Vec<String> = std::env::args().skip(1).collect();
     let done = match words.iter().map(String::as_str).collect::<Vec<_>>()[..] {
         ["selftest"] => selftest::run(),
-        ["cases"] => write_out(&[cases::all(), bank_cases::all()].concat()),
+        ["cases"] => write_out(&[cases::all(), bank_cases::all(), clean_cases::all()].concat()),
         ["vectors"] => read_in().and_then(|text| write_out(&lines::answers(&text))),
         ["board"] => talk(None),
         ["wrong-board", name] => wrong::named(name).and_then(|wrong| talk(Some(wrong))),
@@ -127,6 +135,16 @@ fn main() {
         }),
         ["hexout", number @ ("0" | "1")] => {
             read_in().and_then(|image| write_bytes(&hexout::written(&image, (number == "1") as usize)))
+        }
+        ["clean", file, out] => match clean_file(file, out) {
+            Ok(status) => exit(status),
+            Err(why) => Err(why),
+        },
+        ["clean-banks", directory] => write_files(directory, "bank", &clean_banks::all()),
+        ["checks", ref files @ ..] => {
+            let lines: Result<Vec<String>, String> =
+                files.iter().map(|file| Ok(clean::check_line(&read_file(file)?))).collect();
+            lines.and_then(|lines| write_out(&lines))
         }
         ["texts", directory] => write_files(directory, "hex", &packets_texts::all()),
         ["images", directory] => write_files(directory, "bank", &hexout_images::all()),
@@ -178,6 +196,16 @@ fn write_files(directory: &str, kind: &str, contents: &[Vec<u8>]) -> Result<(), 
         std::fs::write(&file, bytes).map_err(|e| format!("{}: {}", file.display(), e))?;
     }
     Ok(())
+}
+
+/// The status of the program: 0, or 1 where the bank is refused, which leaves OUT alone.
+fn clean_file(file: &str, out: &str) -> Result<i32, String> {
+    let outcome = clean::cleaned(&read_file(file)?);
+    write_out(&clean::listing(&outcome))?;
+    if let Ok(cleaned) = &outcome {
+        std::fs::write(out, &cleaned.bank).map_err(|e| format!("{}: {}", out, e))?;
+    }
+    Ok(outcome.is_err() as i32)
 }
 
 fn talk(wrong: Option<wrong::Wrong>) -> Result<(), String> {

@@ -1,11 +1,12 @@
 //! The peer held to what others have published, so that an agreement with it means something.
-use crate::{bank, board, crc, frame, hex, selftest_hexout, selftest_night, selftest_sending};
+use crate::{bank, board, crc, frame, hex, selftest_clean, selftest_hexout, selftest_night, selftest_sending};
 
 pub fn run() -> Result<(), String> {
     let mut checks = vec![crcs(), continued(), checksums(), frames(), faults(), addresses(), banks()];
     checks.extend([clients(), write_results(), parameter_faults(), strangers(), openers()]);
     checks.extend(selftest_sending::all());
     checks.extend(selftest_hexout::all());
+    checks.extend(selftest_clean::all());
     checks.extend(selftest_night::all());
     let count: usize = checks.iter().map(Vec::len).sum();
     match checks.concat().into_iter().find(|(_, good)| !good) {

@@ -15,6 +15,7 @@ use Rattle.calls.specs.Call.{Board, board}
 use Rattle.demands.specs.Board.{LentCall, Datagram, lentOf, backIn, lentTarget, hostOutcome, callOutcome, stepMachine}
 use Rattle.night.specs.declared.record.Called.{Called}
 use Rattle.night.specs.Call.{bufferBy}
+use Rattle.clean.proofs.Meaning.{contract-is}
 use Rattle.demands.specs.Contracts.{StepAllows, TakeAllows, stepBack, takeBack, toldBack, Contracts}
 use Rattle.demands.specs.Night.{toldBy}
 
@@ -64,6 +65,7 @@ contracts =
       terminate = λ b p. ap (hostOutcome b) (sym (p .is));
       new = λ p. sym (p .is);
       check = λ p. sym (p .verdict);
+      clean = λ p. contract-is p;
       next-body = λ c bank0 bank1 i p. sym p;
       read-text = λ p. λ k. record { answer = sym (p .answer) k; image = sym (p .image) k };
       text-length = λ p. sym (p .answered);

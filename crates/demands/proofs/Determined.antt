@@ -36,11 +36,16 @@ determined =
       end = λ bank n. once _;
       sector-offset = λ k. once _;
       body-count = λ bank. once _;
-      behind-table = λ bank. once _;
       stretch-at = λ bank i. once _;
+      gaps = λ bank. once _;
       contents = λ bank x y p q. p .verdict ∙ sym (q .verdict);
       check = λ bank x y p q. p .verdict ∙ sym (q .verdict);
       body = λ bank i. once _;
+      cleaned-number = λ cleaned. once _;
+      clean = λ bank runs sectors x y u v s t a b p q. (
+        p .answered ∙ sym (q .answered),
+        (p .bank-then ∙ sym (q .bank-then), (p .runs-then ∙ sym (q .runs-then), p .sectors-then ∙ sym (q .sectors-then))),
+      );
       value = λ byte. once _;
       digit = λ value. once _;
       ahead = λ text at. once _;

@@ -11,6 +11,9 @@ use Rattle.layout.specs.Pair.{Banks, banks, bankIn}
 use Rattle.bank.specs.declared.check.Verdict.{Verdict}
 use Rattle.bank.specs.Said.{Check·Is}
 use Rattle.bank.specs.Sound.{verdictOf}
+use Rattle.clean.specs.declared.Cleaned.{Cleaned}
+use Rattle.clean.specs.Clean.{Clean·Is}
+use Rattle.clean.specs.Meaning.{cleaned, cleaner}
 use Rattle.hex.specs.declared.read.Answer.{Answer}
 use Rattle.hex.specs.Read.{textRead}
 use Rattle.hex.specs.Read.{Read·Is as ReadText·Is}
@@ -92,6 +95,8 @@ pub record Contracts : Type 0 where
       → New·Is n running major minor revision r → newOf n running major minor revision ≡ r
   -- banks
   pub check : {bank : List ℕ} {r : Verdict} → Check·Is bank r → verdictOf bank ≡ r
+  pub clean : {bank runs sectors : List ℕ} {r : Cleaned} {bank′ runs′ sectors′ : List ℕ}
+      → Clean·Is bank runs sectors r bank′ runs′ sectors′ → cleaner bank runs sectors ≡ cleaned r bank′ runs′ sectors′
   pub next-body : (c : Client) (bank0 bank1 : List ℕ) (i : ℕ) {r : List ℕ} → NextBody·Is c bank0 bank1 i r → nextBody c bank0 bank1 i ≡ r
   -- hex text
   pub read-text : {text : List ℕ} {bank : Bank} {n : ℕ} {before after : List ℕ} {r : Answer}

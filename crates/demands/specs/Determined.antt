@@ -13,6 +13,7 @@ use Rattle.lines.specs.declared.line.LineReader.{LineReader}
 use Rattle.hex.specs.declared.fault.Kind.{Kind}
 use Rattle.hex.specs.declared.read.Answer.{Answer as ReadAnswer}
 use Rattle.rows.specs.declared.text.Written.{Written}
+use Rattle.clean.specs.declared.Cleaned.{Cleaned}
 use Rattle.sender.specs.declared.made.Made.{Made}
 use Rattle.sender.specs.declared.packet.Tally.{Tally}
 use Rattle.sender.specs.declared.request.Request.{Request}
@@ -44,9 +45,11 @@ use Rattle.flash.specs.declared.sector.Store.{Store}
 use Rattle.flash.specs.Bank.{Store·Is, WriteAt·Is, Sweep·Is}
 use Rattle.layout.specs.Layout.{GoodN·Is, BankSize·Is, Sectors·Is, BankNumber·Is, Other·Is, Start·Is, End·Is, SectorOffset·Is}
 use Rattle.digits.specs.Digit.{Value·Is, Digit·Is}
-use Rattle.bank.specs.Listed.{BodyCount·Is, BehindTable·Is, StretchAt·Is}
+use Rattle.bank.specs.Gaps.{Gaps·Is}
+use Rattle.bank.specs.Listed.{BodyCount·Is, StretchAt·Is}
 use Rattle.bank.specs.Said.{Contents·Is, Check·Is}
 use Rattle.bank.specs.Sound.{Body·Is}
+use Rattle.clean.specs.Clean.{CleanedNumber·Is, Clean·Is}
 use Rattle.lines.specs.Places.{Ahead·Is, Reader·Is, Next·Is}
 use Rattle.hex.specs.Read.{KindNumber·Is, AnswerNumber·Is}
 use Rattle.hex.specs.Read.{Read·Is as ReadText·Is}
@@ -108,11 +111,13 @@ pub record Determined : Type 0 where
   pub end : (bank : Bank) (n : ℕ) → Once (End·Is bank n)
   pub sector-offset : (k : ℕ) → Once (SectorOffset·Is k)
   pub body-count : (bank : List ℕ) → Once (BodyCount·Is bank)
-  pub behind-table : (bank : List ℕ) → Once (BehindTable·Is bank)
   pub stretch-at : (bank : List ℕ) (i : ℕ) → Once (StretchAt·Is bank i)
+  pub gaps : (bank : List ℕ) → Once (Gaps·Is bank)
   pub contents : (bank : List ℕ) → Once (Contents·Is bank)
   pub check : (bank : List ℕ) → Once (Check·Is bank)
   pub body : (bank : List ℕ) (i : ℕ) → Once (Body·Is bank i)
+  pub cleaned-number : (cleaned : Cleaned) → Once (CleanedNumber·Is cleaned)
+  pub clean : (bank runs sectors : List ℕ) → Fourfold (Clean·Is bank runs sectors)
   -- hex text
   pub value : (byte : ℕ) → Once (Value·Is byte)
   pub digit : (value : ℕ) → Once (Digit·Is value)

@@ -8,6 +8,10 @@ pub determined : Determined
 determined =
     record {
       check-number = λ bank. once _;
+      clean-numbers = λ bank runs sectors told x y u v s t a b k l p q. (
+        p .number-is ∙ sym (q .number-is),
+        (p .bank-is ∙ sym (q .bank-is), (p .runs-is ∙ sym (q .runs-is), (p .sectors-is ∙ sym (q .sectors-is), p .told-is ∙ sym (q .told-is)))),
+      );
       read-numbers = λ text n image told x y u v s t p q. (
         p .number-is ∙ sym (q .number-is),
         (p .image-is ∙ sym (q .image-is), p .told-is ∙ sym (q .told-is)),

@@ -3,8 +3,9 @@
 -- Assumes nothing.
 use mathlib.Core.List.{List}
 use Prim.Native.Nat.{ℕ}
-use Rattle.outcomes.specs.Once.{Once, Twice, Thrice, Fourfold}
+use Rattle.outcomes.specs.Once.{Once, Twice, Thrice, Fourfold, Fivefold}
 use Rattle.exports.specs.Check.{CheckNumber·Is}
+use Rattle.exports.specs.Cleaned.{CleanNumbers·Is}
 use Rattle.exports.specs.Text.{ReadNumbers·Is}
 use Rattle.exports.specs.Heard.{NightSlots·Is}
 use Rattle.exports.specs.Packet.{PacketNumber·Is}
@@ -13,6 +14,7 @@ use Rattle.exports.specs.Written.{LengthNumber·Is, WriteNumber·Is}
 
 pub record Determined : Type 0 where
   pub check-number : (bank : List ℕ) → Once (CheckNumber·Is bank)
+  pub clean-numbers : (bank runs sectors told : List ℕ) → Fivefold (CleanNumbers·Is bank runs sectors told)
   pub read-numbers : (text : List ℕ) (n : ℕ) (image told : List ℕ) → Thrice (ReadNumbers·Is text n image told)
   pub length-number : (image : List ℕ) → Once (LengthNumber·Is image)
   pub write-number : (image before : List ℕ) → Twice (WriteNumber·Is image before)

@@ -1,4 +1,5 @@
 pub mod Check
+pub mod Cleaned
 pub mod Determined
 pub mod Heard
 pub mod Packet

@@ -15,3 +15,7 @@ Thrice {A} {B} {C} R = (x y : A) (u v : B) (s t : C) → R x u s → R y v t →
 abbrev pub Fourfold : {A B C D : Type 0} → (A → B → C → D → Type 0) → Type 0
 Fourfold {A} {B} {C} {D} R =
     (x y : A) (u v : B) (s t : C) (p q : D) → R x u s p → R y v t q → (x ≡ y) × ((u ≡ v) × ((s ≡ t) × (p ≡ q)))
+
+abbrev pub Fivefold : {A B C D E : Type 0} → (A → B → C → D → E → Type 0) → Type 0
+Fivefold {A} {B} {C} {D} {E} R =
+    (x y : A) (u v : B) (s t : C) (p q : D) (k l : E) → R x u s p k → R y v t q l → (x ≡ y) × ((u ≡ v) × ((s ≡ t) × ((p ≡ q) × (k ≡ l))))

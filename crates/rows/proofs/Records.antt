@@ -3,12 +3,12 @@
 use mathlib.Core.Path.{_≡_, sym, ap, _∙_}
 use mathlib.Core.List.{List, [], _∷_, _++_}
 use Prim.Native.Nat.{ℕ, suc, _+_, _*_, _/_, _%_, _<_, _≤_}
-use native.Mathlib.Nat.{add-zero}
 use native.Mathlib.Numerals.{add-one}
 use native.Mathlib.Omega.{arith}
 use lib.ListN.{length, getD, set, drop, length-set, length-append, drop-of-length-le}
 use lib.Seq.{sets, length-sets, drop-cons}
 use Rattle.buffer.proofs.Numbers.{length-bytes, bytes-two}
+use Rattle.buffer.proofs.Places.{sets-next}
 use Rattle.buffer.proofs.Totals.{total-append}
 use Rattle.buffer.specs.Number.{bytesOf}
 use Rattle.buffer.specs.Total.{total}
@@ -16,11 +16,6 @@ use Rattle.digits.specs.Spelt.{digitsSpelt}
 use Rattle.digits.proofs.Spelt.{length-digits, digits-append}
 use Rattle.rows.specs.Record.{recordBody, recordChecksum, recordBytes, recordLine, besideData}
 use Rattle.rows.specs.Places.{Spelt}
-
--- A RUN OF STORES and another right behind it
-pub sets-next : (l a b : List ℕ) (i : ℕ) {j : ℕ} → j ≡ i + length a → sets (sets l i a) j b ≡ sets l i (a ++ b)
-sets-next l [] b i e = rw (e, add-zero i)
-sets-next l (x ∷ a) b i e = sets-next (set l i x) a b (suc i) (omega arith)
 
 -- THE SUM of the bytes from j on
 module _ (bytes : List ℕ) (j : ℕ) where

@@ -12,7 +12,7 @@ use lib.Seq.{sets, length-sets}
 use borrow.Author.Tests.{eq-eqb, ne-eqb, eqb-true, eqb-false}
 use Rattle.buffer.proofs.Numbers.{length-bytes, bytes-two}
 use Rattle.buffer.proofs.Parts.{part-out, part-length}
-use Rattle.buffer.proofs.Places.{front-whole}
+use Rattle.buffer.proofs.Places.{front-whole, sets-next}
 use Rattle.buffer.specs.Compare.{blankOf}
 use Rattle.buffer.specs.Number.{bytesOf}
 use Rattle.buffer.specs.Place.{frontOf}
@@ -20,7 +20,7 @@ use Rattle.rows.specs.declared.text.Reached.{Reached}
 use Rattle.rows.specs.Text.{rowSize, rowOf, rowAddress, rowUpper, dataLine, upperLine, toldBefore, upperText, rowText, rowsText}
 use Rattle.rows.specs.Record.{recordLine, besideData}
 use Rattle.rows.specs.Places.{ImageFits, reachedAt}
-use Rattle.rows.proofs.Records.{sets-next, line-length}
+use Rattle.rows.proofs.Records.{line-length}
 
 -- AN UPPER HALF that was told last, and another
 module _ (told upper : ℕ) where

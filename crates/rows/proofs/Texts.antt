@@ -4,13 +4,12 @@ use mathlib.Core.Path.{_≡_, refl, sym, ap, _∙_}
 use mathlib.Core.Bool.{Bool, true, false, cond}
 use mathlib.Core.List.{List, [], _++_}
 use Prim.Native.Nat.{ℕ, _+_, _*_, _/_, _%_, _<_, _≤_}
-use native.Mathlib.Nat.{zero-add}
 use native.Mathlib.Omega.{arith}
 use lib.ListN.{length, length-append}
-use lib.Seq.{sets, sets-eq, length-sets}
+use lib.Seq.{sets, length-sets}
 use borrow.Author.Tests.{le-leb, lt-leb}
 use Rattle.buffer.proofs.Bools.{no-way}
-use Rattle.buffer.proofs.Places.{front-fits}
+use Rattle.buffer.proofs.Places.{sets-next, sets-front}
 use Rattle.buffer.specs.Place.{frontOf}
 use Rattle.layout.specs.declared.Bank.{Bank}
 use Rattle.layout.specs.Layout.{sectorSize, mostSectors, wholeLength, startOf}
@@ -19,7 +18,7 @@ use Rattle.rows.specs.declared.text.Written.the-variants.{BadLength, Tex
 use Rattle.rows.specs.Record.{besideData}
 use Rattle.rows.specs.Text.{allRows, endLine, textOf, lengthOf, writtenOf, lengthSays, writeSays, Length·Is, Write·Is}
 use Rattle.rows.specs.Places.{ImageFits}
-use Rattle.rows.proofs.Records.{sets-next, line-length}
+use Rattle.rows.proofs.Records.{line-length}
 
 -- a bank's length: whole sectors, and not many
 pub whole-most : (n : ℕ) → wholeLength n ≡ true → (n % sectorSize ≡ 0) × (n / sectorSize ≤ mostSectors)
@@ -53,8 +52,7 @@ module _ (image : List ℕ) (bank : Bank) {base : ℕ} (start : base ≡ startOf
 
       pub put-text : {after : List ℕ} → after ≡ sets first at endLine → after ≡ frontOf text (textOf image bank)
       put-text e =
-          e ∙ rw (put, front-fits text (textOf image bank) h, sym (zero-add (length (textOf image bank))))
-          (sets-next text rows endLine 0 (omega arith) ∙ rw (sym text-is) (sets-eq (textOf image bank) text 0 (omega arith)))
+          e ∙ rw put (sets-next text rows endLine 0 (omega arith) ∙ rw (sym text-is) (sets-front text (textOf image bank) h))
 
 module _ (image : List ℕ) (bank : Bank) where
   -- how long it is

@@ -19,6 +19,7 @@ enum Word {
     Sectors,
     Check,
     Body,
+    Clean,
     Other,
 }
 
@@ -34,6 +35,9 @@ fn bank_word(word: &[u8]) -> Word {
     }
     if check::same(word, b"body") {
         return Word::Body;
+    }
+    if check::same(word, b"clean") {
+        return Word::Clean;
     }
     Word::Other
 }
@@ -87,6 +91,7 @@ fn known(line: &[u8]) -> bool {
         Word::Sectors => banks::sectors(fields),
         Word::Check => banks::verdict(fields),
         Word::Body => banks::body(fields),
+        Word::Clean => banks::clean(fields),
         Word::Other => false,
     }
 }

@@ -2,6 +2,7 @@
 ghost use Prim.Native.Nat.{_≤_};
 ghost use lib.ListN.{length};
 ghost use Rattle.io.specs.Counts.{Counts};
+use crate::lists;
 use crate::sums;
 use bank::check::Verdict;
 use layout::Bank;
@@ -136,6 +137,8 @@ fn put_pieces(bank: &mut [u8], pieces: &[u8]) -> bool {
 enum Ask {
     Check,
     Body(usize),
+    // How many numbers each list takes
+    Clean(usize, usize),
 }
 
 fn say_verdict(bank: &[u8]) {
@@ -158,19 +161,20 @@ fn say_body(body: &[u8]) {
     say::end();
 }
 
-fn say_asked(bank: &[u8], ask: Ask) {
+fn said(bank: &mut [u8], ask: Ask) -> bool {
     match ask {
         Ask::Check => say_verdict(bank),
         Ask::Body(i) => say_body(bank::body::body(bank, i)),
+        Ask::Clean(runs, sectors) => return lists::cleaned(bank, runs, sectors),
     }
+    true
 }
 
 fn asked(bank: &mut [u8], pieces: &[u8], ask: Ask) -> bool {
     if !put_pieces(bank, pieces) {
         return false;
     }
-    say_asked(bank, ask);
-    true
+    said(bank, ask)
 }
 
 // The bytes of a new bank are 0xFF.
@@ -205,4 +209,11 @@ pub(crate) fn body(fields: &[u8]) -> bool {
         return false;
     }
     asked_by(text::rest(fields), Ask::Body(i))
+}
+
+pub(crate) fn clean(fields: &[u8]) -> bool {
+    let later = text::rest(fields);
+    let runs = text::decimal(text::first(fields), 6);
+    let sectors = text::decimal(text::first(later), 6);
+    asked_by(text::rest(later), Ask::Clean(runs, sectors))
 }

@@ -3,6 +3,7 @@
 mod answer;
 mod banks;
 mod frames;
+mod lists;
 mod sums;
 
 use script::call;

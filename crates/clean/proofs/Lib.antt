@@ -1,0 +1,13 @@
+pub mod Blanking
+pub mod Cases
+pub mod Examples
+pub mod Gaps
+pub mod Listing
+pub mod Meaning
+pub mod Promises
+pub mod Putting
+pub mod Runs
+pub mod Sectors
+pub mod Unique
+pub mod Walking
+pub mod Wrong
