@@ -28,23 +28,25 @@ pub record AllOutside (b : List ℕ) (from to : ℕ) : Type 0 where
   pub within : to ≤ length b
   pub is-outside : (k : ℕ) → from ≤ k → k < to → outside b k ≡ true
 
--- and of one sector, and short
+-- as many bytes as a piece of a gap has at most
 abbrev pub pieceSize : ℕ
 pieceSize = 128
 
+-- a piece: outside, of one sector, and short
 pub record Piece (b : List ℕ) (from to : ℕ) : Type 0 where
   pub all-outside : AllOutside b from to
   pub one-sector : to ≤ (from / sectorSize + 1) * sectorSize
   pub short : to ≤ from + pieceSize
 
+-- where the piece from `at` on ends, in a gap that ends at `to`
 abbrev pub pieceEnd : ℕ → ℕ → ℕ
 pieceEnd at to = min to ((at / pieceSize + 1) * pieceSize)
 
--- how many runs the first k bytes have, the last perhaps not at its end
+-- how many runs the first k bytes have, the last perhaps one that goes on
 abbrev pub met : (ℕ → Bool) → ℕ → ℕ
 met old k = length (runsAt old k ++ openRun old k)
 
--- whether it is not
+-- whether it may
 abbrev pub goes : (ℕ → Bool) → ℕ → Bool
 goes old k = not (eqb (openAt old k) 0)
 
