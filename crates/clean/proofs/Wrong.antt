@@ -17,26 +17,26 @@ use Rattle.clean.specs.declared.Cleaned.the-variants.{Done}
 use Rattle.clean.specs.Clean.{mostRuns}
 use Rattle.clean.specs.Meaning.{OldByte, Cleaner, IsDone, MeetsCleaner, cleaner}
 use Rattle.clean.specs.Sectors.{numbersAt}
-use Rattle.clean.specs.Wrong.{LeavesOld, ChangesInside, entryDropper, HidesByte, HidesSector, untold, silent, ListsUncleared, allOf, allLister}
+use Rattle.clean.specs.Wrong.{SaysDone, LeavesOld, ChangesInside, entryDropper, HidesByte, HidesSector, untold, silent, ListsUncleared, allOf, allLister}
 use Rattle.clean.proofs.Meaning.{runs-most, sectors-most, room, cleaner-meets}
 
 -- SHUT OUT
 module _ (clean : Cleaner) where
   pub no-leaver : LeavesOld clean → MeetsCleaner clean → ⊥
-  no-leaver w meets = w .is-old .other (sym (w .stays) ∙ meets _ _ _ .done _ _ (w .done) .cleared _ (w .is-old))
+  no-leaver w meets = w .is-old .other (sym (w .stays) ∙ meets _ _ _ .done _ _ (w .at .done) .cleared _ (w .is-old))
 
   pub no-changer : ChangesInside clean → MeetsCleaner clean → ⊥
-  no-changer w meets = w .differs (meets _ _ _ .done _ _ (w .done) .stays _ (λ o. w .inside (o .outside)))
+  no-changer w meets = w .differs (meets _ _ _ .done _ _ (w .at .done) .stays _ (λ o. w .inside (o .outside)))
 
   pub no-hider : HidesByte clean → MeetsCleaner clean → ⊥
-  no-hider w meets = w .hidden (meets _ _ _ .done _ _ (w .done) .are-runs .all-old _ (w .is-old))
+  no-hider w meets = w .hidden (meets _ _ _ .done _ _ (w .at .done) .are-runs .all-old _ (w .is-old))
 
   pub no-sector-hider : HidesSector clean → MeetsCleaner clean → ⊥
   no-sector-hider w meets =
-      w .hidden (rw (w .held .in-it) at (meets _ _ _ .done _ _ (w .done) .are-sectors .all-held _ (w .held .is-old)))
+      w .hidden (rw (w .held .in-it) at (meets _ _ _ .done _ _ (w .at .done) .are-sectors .all-held _ (w .held .is-old)))
 
   pub no-overlister : ListsUncleared clean → MeetsCleaner clean → ⊥
-  no-overlister w meets = w .not-held (meets _ _ _ .done _ _ (w .done) .are-sectors .held _ (w .below))
+  no-overlister w meets = w .not-held (meets _ _ _ .done _ _ (w .at .done) .are-sectors .held _ (w .below))
 
 -- A BANK of two sectors, with a 0 right behind its body and 0xFF behind that
 abbrev blanks : ℕ
@@ -96,16 +96,14 @@ is-done =
     (room bank roomy roomy bank-whole (omega (arith, runs-most bank bank-whole, roomy-length)) (omega (arith, sectors-most bank bank-whole, roomy-length)))
 
 -- ONE OF EACH KIND
+abbrev dropper-done : SaysDone entryDropper
+dropper-done = record { b = bank; runs = roomy; sectors = roomy; n = is-done .runs; m = is-done .sectors; done = is-done .is }
+
 pub leaves-old : LeavesOld entryDropper
 leaves-old =
     record {
-      b = bank;
-      runs = roomy;
-      sectors = roomy;
-      n = is-done .runs;
-      m = is-done .sectors;
+      at = dropper-done;
       k = smallEnd;
-      done = is-done .is;
       is-old = bank-old;
       stays = rw (is-done .is) (dropped-outside bank smallEnd (bank-old .outside));
     }
@@ -115,27 +113,20 @@ unfolding bank
 changes-inside =
     let d = dropped-inside bank (small-inside filler) in
     record {
-      b = bank;
-      runs = roomy;
-      sectors = roomy;
-      n = is-done .runs;
-      m = is-done .sectors;
+      at = dropper-done;
       k = d .index;
-      done = is-done .is;
       inside = d .inside;
       differs = rw (is-done .is) (d .differs);
     }
 
+abbrev silent-done : SaysDone silent
+silent-done = record { b = bank; runs = roomy; sectors = roomy; n = 0; m = 0; done = ap untold (is-done .is) }
+
 pub hides-byte : HidesByte silent
 hides-byte =
     record {
-      b = bank;
-      runs = roomy;
-      sectors = roomy;
-      n = 0;
-      m = 0;
+      at = silent-done;
       k = smallEnd;
-      done = ap untold (is-done .is);
       is-old = bank-old;
       hidden = λ p. omega (arith, p .below);
     }
@@ -143,13 +134,8 @@ hides-byte =
 pub hides-sector : HidesSector silent
 hides-sector =
     record {
-      b = bank;
-      runs = roomy;
-      sectors = roomy;
-      n = 0;
-      m = 0;
+      at = silent-done;
       s = 1;
-      done = ap untold (is-done .is);
       held = record { index = smallEnd; is-old = bank-old; in-it = refl };
       hidden = λ p. omega (arith, p .below);
     }
@@ -163,13 +149,8 @@ lists-uncleared =
     let two : getD (allLister bank roomy roomy .sectors) 1 0 ≡ 2 =
     rw (done, all, front-fits roomy (1 ∷ 2 ∷ []) (omega (arith, roomy-length))) in
     record {
-      b = bank;
-      runs = roomy;
-      sectors = roomy;
-      n = is-done .runs;
-      m = 2;
+      at = record { b = bank; runs = roomy; sectors = roomy; n = is-done .runs; m = 2; done = done };
       place = 1;
-      done = done;
       below = omega arith;
       not-held = λ h. omega (arith, two, bank-else (h .index) (h .is-old), h .in-it);
     }

@@ -19,31 +19,34 @@ use Rattle.clean.specs.Promises.{Differs}
 use Rattle.clean.specs.Runs.{flat}
 use Rattle.clean.specs.Sectors.{numbersAt}
 
+-- a bank and lists for which it says that it is done
+pub record SaysDone (clean : Cleaner) : Type 0 where
+  pub b : List ℕ
+  pub runs : List ℕ
+  pub sectors : List ℕ
+  pub n : ℕ
+  pub m : ℕ
+  pub done : clean b runs sectors .answer ≡ Done n m
+
+-- what it gives there
+abbrev pub given : {clean : Cleaner} → SaysDone clean → Cleaned·Out
+given {clean} at = clean (at .b) (at .runs) (at .sectors)
+
 -- ---- the bank
 
 -- an old byte stays as it was, whatever is done to the table
 pub record LeavesOld (clean : Cleaner) : Type 0 where
-  pub b : List ℕ
-  pub runs : List ℕ
-  pub sectors : List ℕ
-  pub n : ℕ
-  pub m : ℕ
+  pub at : SaysDone clean
   pub k : ℕ
-  pub done : clean b runs sectors .answer ≡ Done n m
-  pub is-old : OldByte b k
-  pub stays : byteAt (clean b runs sectors .bank) k ≡ byteAt b k
+  pub is-old : OldByte (at .b) k
+  pub stays : byteAt (given at .bank) k ≡ byteAt (at .b) k
 
 -- a byte of table or bodies becomes another one
 pub record ChangesInside (clean : Cleaner) : Type 0 where
-  pub b : List ℕ
-  pub runs : List ℕ
-  pub sectors : List ℕ
-  pub n : ℕ
-  pub m : ℕ
+  pub at : SaysDone clean
   pub k : ℕ
-  pub done : clean b runs sectors .answer ≡ Done n m
-  pub inside : Outside b k → ⊥
-  pub differs : Differs b (clean b runs sectors) k
+  pub inside : Outside (at .b) k → ⊥
+  pub differs : Differs (at .b) (given at) k
 
 -- 'erased means unlisted', of both kinds: it takes the last entry off the table, and leaves what lies outside
 abbrev pub bankDropped : Cleaned → List ℕ → List ℕ
@@ -61,27 +64,17 @@ entryDropper b runs sectors =
 
 -- no run that is listed has an old byte
 pub record HidesByte (clean : Cleaner) : Type 0 where
-  pub b : List ℕ
-  pub runs : List ℕ
-  pub sectors : List ℕ
-  pub n : ℕ
-  pub m : ℕ
+  pub at : SaysDone clean
   pub k : ℕ
-  pub done : clean b runs sectors .answer ≡ Done n m
-  pub is-old : OldByte b k
-  pub hidden : InRun (clean b runs sectors .runs) n k → ⊥
+  pub is-old : OldByte (at .b) k
+  pub hidden : InRun (given at .runs) (at .n) k → ⊥
 
 -- sector s held an old byte, and is not listed
 pub record HidesSector (clean : Cleaner) : Type 0 where
-  pub b : List ℕ
-  pub runs : List ℕ
-  pub sectors : List ℕ
-  pub n : ℕ
-  pub m : ℕ
+  pub at : SaysDone clean
   pub s : ℕ
-  pub done : clean b runs sectors .answer ≡ Done n m
-  pub held : HoldsOld b s
-  pub hidden : Listed (clean b runs sectors .sectors) m s → ⊥
+  pub held : HoldsOld (at .b) s
+  pub hidden : Listed (given at .sectors) (at .m) s → ⊥
 
 -- of both kinds: it clears, and lists nothing
 abbrev pub untold : Cleaned → Cleaned
@@ -99,15 +92,10 @@ silent b runs sectors =
 
 -- a number is listed, and of no sector that held an old byte
 pub record ListsUncleared (clean : Cleaner) : Type 0 where
-  pub b : List ℕ
-  pub runs : List ℕ
-  pub sectors : List ℕ
-  pub n : ℕ
-  pub m : ℕ
+  pub at : SaysDone clean
   pub place : ℕ
-  pub done : clean b runs sectors .answer ≡ Done n m
-  pub below : place < m
-  pub not-held : HoldsOld b (getD (clean b runs sectors .sectors) place 0) → ⊥
+  pub below : place < at .m
+  pub not-held : HoldsOld (at .b) (getD (given at .sectors) place 0) → ⊥
 
 -- it lists all sectors of the bank
 abbrev pub allOf : List ℕ → List ℕ
