@@ -5,10 +5,10 @@ use clean::Cleaned;
 use script::say;
 
 // The longest list of runs: 32 of them, two numbers each.
-const MOST_RUNS: usize = 64;
+const LONGEST_RUNS: usize = 64;
 
 // The longest list of sectors; no bank has so many.
-const MOST_SECTORS: usize = 512;
+const LONGEST_SECTORS: usize = 512;
 
 // What a list holds before is another number at each place, and one that no entry is.
 fn fill_runs(list: &mut [u32])
@@ -79,20 +79,20 @@ fn say_cleaned(bank: &mut [u8], runs: &mut [u32], sectors: &mut [u16]) {
 fn lend_sectors(bank: &mut [u8], runs: &mut [u32], sectors: usize)
     requires { ⌜ sectors ≤ 512 ⌝ }
 {
-    let mut list = [0u16; MOST_SECTORS];
+    let mut list = [0u16; LONGEST_SECTORS];
     fill_sectors(&mut list);
     say_cleaned(bank, runs, &mut list[..sectors]);
 }
 
 // Whether there are such lists.
 pub(crate) fn cleaned(bank: &mut [u8], runs: usize, sectors: usize) -> bool {
-    if runs > MOST_RUNS {
+    if runs > LONGEST_RUNS {
         return false;
     }
-    if sectors > MOST_SECTORS {
+    if sectors > LONGEST_SECTORS {
         return false;
     }
-    let mut list = [0u32; MOST_RUNS];
+    let mut list = [0u32; LONGEST_RUNS];
     fill_runs(&mut list);
     lend_sectors(bank, &mut list[..runs], sectors);
     true
