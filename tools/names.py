@@ -17,15 +17,24 @@ USE = re.compile(r"^(?:ghost )?use (\S+?)\.\{([^}]*)\}", re.M)
 # what the proof of a function calls its goals: these follow the code, and not this script
 GOAL = re.compile(r"^(?:abbrev )?(?:pub )?([^\s(){}\[\],;.:]+) : (?:tie|goal)\.", re.M)
 # lemmas that would have their function's name
-LEMMAS = {"table-end", "plan-number", "bit-xor", "first-of", "word-bytes", "all-bytes", "bytes-at", "wrong_answer"}
+LEMMAS = set("""
+    all-bytes all-refused answer-said beside-says bit-xor blank-outside by-stand bytes-at contents-said count-says crc-place first-of
+    from-opener in-bank in-mode in-write lent-good line-bytes mode-ended none-received own-result packet-says place-says plan-number
+    read-control read-write request-made request-says response-says six-in slots-taken step-says table-end take-says text-read upper-at
+    word-bytes wrong_answer
+""".split())
+# fields and constructors that would have the name of a word that they cite
+CITING = {"is-in": "it_is_in", "next-body": "next_body_is", "no-request": "no_request_is"}
 
 
 def spelt(name):
     """A name in today's spelling, or itself."""
+    if name in CITING:
+        return CITING[name]
     if name in LEMMAS:
         return name.replace("-", "_") + "_lem"
-    if name.endswith("·Is"):
-        stem = name[:-3]
+    if name.endswith(("·Is", "-as-Is")):
+        stem = re.sub(r"(·|-as-)Is$", "", name)
         return stem if re.match(r"Is[A-Z]", stem) else "Is" + stem
     if name.endswith("·Out"):
         return name[:-4] + "Out"
@@ -61,6 +70,22 @@ def moved():
             new = new.replace(old, now)
         if path == "crates/demands/specs/Lib.antt":
             new = re.sub(r"^pub mod Contracts$", "pub mod Allowed", new, flags=re.M)
+        if new != text:
+            open(path, "w", encoding="utf-8").write(new)
+
+
+def hex_text():
+    """The toolchain has a library named hex, so the crate `hex` is called `hex_text`. docs/CHANGES.md speaks of its own day and keeps the old name."""
+    subprocess.run(["git", "mv", "crates/hex", "crates/hex_text"], check=True)
+    for path in subprocess.run(["git", "ls-files", "crates.txt", "*.rt", "*.antt", "*.edit", "*.md"], capture_output=True, text=True, check=True).stdout.split():
+        text = new = open(path, encoding="utf-8").read()
+        if path == "crates.txt":
+            new = re.sub(r"^(?!#)(.*)$", lambda m: re.sub(r"\bhex\b", "hex_text", m[0]), new, flags=re.M)
+        elif path.endswith(".md"):
+            if path != "docs/CHANGES.md":
+                new = re.sub(r"(?<![\w/])hex/(?=src|specs|proofs|must-fail)", "hex_text/", new).replace("`hex`", "`hex_text`")
+        else:
+            new = re.sub(r"(?<![\w:])hex(?=::)", "hex_text", new).replace("Rattle.hex.", "Rattle.hex_text.")
         if new != text:
             open(path, "w", encoding="utf-8").write(new)
 
@@ -136,6 +161,12 @@ def main():
             lines.append(code + said)
         out[path] = "\n".join(lines)
         tokens = set(TOKEN.findall(re.sub(r"(--|//).*", "", text)))
+        both = {}
+        for name in used | {t for t in tokens if t not in turned}:
+            both.setdefault(turned.get(name, name), set()).add(name)
+        for new, names in sorted(both.items()):
+            if len(names) > 1 and new not in fields and not path.endswith((".rt", "Proof.antt")):
+                bad.append(f"{path}: {' and '.join(sorted(names))} fall together")
         for name in sorted(used):
             new = turned[name]
             # a field lies in its record, and a definition may be called as the function that it is of
@@ -149,6 +180,7 @@ def main():
         if text != texts[path]:
             open(path, "w", encoding="utf-8").write(text)
     moved()
+    hex_text()
     # the pages say the names in backticks
     for path in subprocess.run(["git", "ls-files", "*.md"], capture_output=True, text=True, check=True).stdout.split():
         text = open(path, encoding="utf-8").read()

@@ -85,12 +85,12 @@ module _ (c : Client) (running : ℕ) (target marks address buffer datagram : Li
   abbrev Says : Carried → Type 0
   Says r = (r.buffer ≡ front_of buffer (answer_bytes r.answer)) × (r.told ≡ told_length (answer_bytes r.answer) (length buffer))
 
-  take_says : Says (take_of c target marks address buffer datagram)
+  take_says_lem : Says (take_of c target marks address buffer datagram)
   unfolding take_of
-  take_says = carried_says (planned c target marks address buffer datagram) (data_in datagram)
+  take_says_lem = carried_says (planned c target marks address buffer datagram) (data_in datagram)
 
   says : Says (beside_of c running target marks address buffer datagram)
-  says = by_cases Says take_says (λ why. carried_says (Keep (Refused why)) [])
+  says = by_cases Says take_says_lem (λ why. carried_says (Keep (Refused why)) [])
 
   pub step_said : (beside_of c running target marks address buffer datagram).buffer
       ≡ front_of buffer (answer_bytes (beside_of c running target marks address buffer datagram).answer)

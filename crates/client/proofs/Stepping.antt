@@ -25,7 +25,7 @@ use Rattle.client.specs.declared.step.Stepped.{Stepped}
 use Rattle.client.specs.Notice.{no_notice}
 use Rattle.client.specs.Perform.{served_of, served, IsServed}
 use Rattle.client.specs.Step.{notice_of, Carried, carried_of, IsCarried, Keeps, planned, take_of, IsTake, beside_of, step_of, IsStep}
-use Rattle.client.proofs.Numbers.{take_says, beside_says}
+use Rattle.client.proofs.Numbers.{take_says_lem, beside_says_lem}
 
 -- do, and then say
 pub carry_is : (c : Client) (plan : Plan) (target address buffer bytes : List ℕ) (notice : Notice) (s : Served) (after answered : List ℕ) (n : ℕ)
@@ -67,7 +67,7 @@ module _ (c : Client) (target marks address buffer datagram : List ℕ) (r : Ste
       record {
         client = t.client;
         answer = t.answer;
-        says = ap answer_number t.answer ∙ take_says c target marks address buffer datagram;
+        says = ap answer_number t.answer ∙ take_says_lem c target marks address buffer datagram;
         told = t.told;
         notice = t.notice;
         target_left = t.target;
@@ -110,7 +110,7 @@ module _ (c : Client) (pair : Banks) (marks address buffer datagram : List ℕ) 
         answer = t.answer;
         says =
             ap answer_number t.answer
-            ∙ beside_says c (length (bank_in c.fixed.running pair)) (bank_in (other_of c.fixed.running) pair) marks address buffer datagram;
+            ∙ beside_says_lem c (length (bank_in c.fixed.running pair)) (bank_in (other_of c.fixed.running) pair) marks address buffer datagram;
         told = t.told;
         notice = t.notice;
         bank_zero = ap₂ (λ (x : Bank) (y : List ℕ). (with_bank (other_of x) y pair).bank0) (sym e) t.target;

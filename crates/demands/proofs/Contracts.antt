@@ -66,7 +66,7 @@ contracts =
       new = λ p. sym p.is;
       check = λ p. sym p.verdict;
       clean = λ p. contract_is p;
-      next_body = λ c bank0 bank1 i p. sym p;
+      next_body_is = λ c bank0 bank1 i p. sym p;
       read_text = λ p. λ k. record { answer = sym p.answer k; image = sym p.image k };
       text_length = λ p. sym p.answered;
       write_text = λ p. λ k. record { answer = sym p.answered k; buffer = sym p.stands k };

@@ -46,7 +46,7 @@ use Rattle.decision.specs.Plan.{is_worn, any_worn, values_good}
 use Rattle.client.specs.Record.{starting, begun, ended}
 use Rattle.calls.proofs.Courses.{accepted, not_write}
 use Rattle.exchange.proofs.Saying.{answer_short}
-use Rattle.decision.proofs.Planning.{lent_good, values-words}
+use Rattle.decision.proofs.Planning.{lent_good_lem, values-words}
 use Rattle.calls.specs.Call.{Board, board}
 use Rattle.demands.specs.Board.{LentCall, Input, Datagram, Outcome, said, after, outcomes, target_bank, sectors_in, lent_of, lent_target, step_machine}
 use Rattle.demands.specs.Session.{ends_session, all_blank, exchanged, noted}
@@ -55,7 +55,7 @@ use Rattle.demands.specs.Demand2.{Lends, SentFrom, Packets, none, more, Ready, F
 use Rattle.demands.proofs.Asking.{request_read, start_read, pair_good, start_addressed}
 use Rattle.demands.proofs.Bytes.{response_begin, written_begin, written_stored}
 use Rattle.demands.proofs.Lending.{lent_in}
-use Rattle.demands.proofs.Rows.{Heard, from_opener, write_start, packet, write_end}
+use Rattle.demands.proofs.Rows.{Heard, from_opener_lem, write_start, packet, write_end}
 use Rattle.demands.proofs.Sessions.{Session, Shows, lent_shows, step_shows, step_closes}
 use Rattle.demands.proofs.Steps.{machine_stays, lengths_kept}
 
@@ -80,7 +80,7 @@ module _ (b : Board) (call : LentCall) (good : good_n b.client.fixed.n ≡ true)
         good = good;
         runs = eq-eqb _ _ (lengths b.client.fixed.running);
         lengths =
-            lent_good n (length (lent_target b call)) (length call.marks) (length call.address) (length call.buffer)
+            lent_good_lem n (length (lent_target b call)) (length call.marks) (length call.address) (length call.buffer)
             (record {
               whole_target = lengths (other_of b.client.fixed.running);
               marked = ap length l.marks ∙ length-replicate {A = ℕ} n 0;
@@ -162,7 +162,7 @@ module _ (b : Board) (r : Ready b) (call : LentCall) (sent : call.datagram ≡ r
   pub begun_is : step_machine b (Datagram call)
       ≡ changed b call (begun (starting b.client.fixed.running b.client)) no_notice (control_frame 0x70 (0x06 ∷ []))
   begun_is =
-      write_start b call (heard b call r.good l.lends r.whole (ap is_closed r.control)) (from_opener b.client call.address l.sender) r.control
+      write_start b call (heard b call r.good l.lends r.whole (ap is_closed r.control)) (from_opener_lem b.client call.address l.sender) r.control
       (ap read_of sent ∙ start_read (other_of b.client.fixed.running) b.client.fixed.n)
       (subst (pair_good b.client.fixed) (sym sent) (start_addressed b.client.fixed r.good))
 
@@ -230,7 +230,7 @@ module _ (address : List ℕ) (fixed : Fixed) (good : good_n fixed.n ≡ true) (
         packet b call
         (heard b call (ap (λ (f : Fixed). good_n f.n) busy.stays ∙ good) (own_lends fixed b call busy.stays l) (own_whole fixed b busy.stays busy.whole)
         (ap is_closed busy.writing))
-        k 512 (footer_of (packet_count image n) p) (from_opener b.client call.address (comes.sender ∙ sym busy.opener)) busy.writing reads (ap (λ (f : Fixed). values_good f.n k 512) busy.stays ∙ values) unworn
+        k 512 (footer_of (packet_count image n) p) (from_opener_lem b.client call.address (comes.sender ∙ sym busy.opener)) busy.writing reads (ap (λ (f : Fixed). values_good f.n k 512) busy.stays ∙ values) unworn
 
     abbrev result : ℕ
     result = store_result (blank_of (data_in call.datagram)) (same_of (sector_of (lent_target b call) k) (padded_of (data_in call.datagram)))
@@ -366,7 +366,7 @@ module _ (address : List ℕ) (fixed : Fixed) (good : good_n fixed.n ≡ true) (
         ≡ stored b call (starting (other_of b.client.fixed.running) (ended Good b.client)) (swept_target b call) (control_frame 0x75 (0x06 ∷ []))
     ended_is =
         write_end b call (heard b call good-own lends own (ap is_closed busy.writing))
-        (from_opener b.client call.address (comes.sender ∙ sym busy.opener)) busy.writing
+        (from_opener_lem b.client call.address (comes.sender ∙ sym busy.opener)) busy.writing
         (ap read_of asks ∙ request_read WriteEnd)
         (ap any_worn comes.lends.marks ∙ no_mark fixed.n)
         (ap (fit_of b.client.fixed) swept-is ∙ ap (λ (f : Fixed). fit_of f image) busy.stays ∙ sound)

@@ -107,7 +107,7 @@ determined =
         },
         (p.bank_zero ∙ sym q.bank_zero, (p.bank_one ∙ sym q.bank_one, p.said ∙ sym q.said)),
       );
-      next_body = λ c bank0 bank1 i. once _;
+      next_body_is = λ c bank0 bank1 i. once _;
       first_field = λ text. once _;
       other_fields = λ text. once _;
       ends_in_blank = λ text. once _;

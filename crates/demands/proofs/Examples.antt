@@ -32,12 +32,12 @@ use Rattle.layout.specs.Pair.{bank_in}
 use Rattle.layout.proofs.Pairs.{bank_there}
 use Rattle.decision.specs.declared.plan.Fixed.{Fixed}
 use Rattle.lines.specs.Line.{lines}
-use Rattle.hex.specs.declared.fault.Kind.TheVariants.{H6}
-use Rattle.hex.specs.declared.read.Answer.TheVariants.{Refused, Accepted}
+use Rattle.hex_text.specs.declared.fault.Kind.TheVariants.{H6}
+use Rattle.hex_text.specs.declared.read.Answer.TheVariants.{Refused, Accepted}
 use Rattle.digits.specs.Digit.{value_of, is_digit}
-use Rattle.hex.specs.Spell.{byte_of, digit_bytes}
-use Rattle.hex.specs.Record.{digits_in, digits_whole, record_of, data_at, typed, found_of}
-use Rattle.hex.specs.Read.{read_lines, text_read}
+use Rattle.hex_text.specs.Spell.{byte_of, digit_bytes}
+use Rattle.hex_text.specs.Record.{digits_in, digits_whole, record_of, data_at, typed, found_of}
+use Rattle.hex_text.specs.Read.{read_lines, text_read}
 use Rattle.exchange.specs.declared.state.State.{State}
 use Rattle.exchange.specs.declared.state.State.TheVariants as state
 use Rattle.exchange.specs.Answer.{written_bytes, answer_bytes}
@@ -56,7 +56,7 @@ use Rattle.demands.specs.Session.{is_stored}
 use Rattle.demands.proofs.Bytes.{written_stored}
 use Rattle.demands.proofs.Lending.{lent_in}
 use Rattle.demands.proofs.Demand2.{lent_whole, heard, said_back, control_short, written_short}
-use Rattle.demands.proofs.Rows.{Heard, from_opener, mode_start, fault, no_request, packet, packet_wrong}
+use Rattle.demands.proofs.Rows.{Heard, from_opener_lem, mode_start, fault, no_request_is, packet, packet_wrong}
 use Rattle.demands.proofs.Steps.{machine_stays, lengths_kept}
 use Rattle.demands.proofs.Fresh.{started_bytes}
 
@@ -127,7 +127,7 @@ parameter_said b call room = said_back call parameter_error (omega arith) room
 example_3_any : (b : Board) (call : LentCall) (m : ℕ) → Calls b call → live b.client.state ≡ true → read_of call.datagram ≡ Control 0x60 m
     → said (step_machine b (Datagram call)) ≡ 0x01 ∷ 0x02 ∷ 0xE0 ∷ 0x05 ∷ 0x19 ∷ 0x03 ∷ []
 example_3_any b call m c s r =
-    ap said (no_request b call (calling b call c (not-true (is_closed b.client.state) s)) 0x60 m r refl)
+    ap said (no_request_is b call (calling b call c (not-true (is_closed b.client.state) s)) 0x60 m r refl)
     ∙ parameter_said b call c.lends.room
 
 example_3 : (b : Board) (call : LentCall) → Calls b call → live b.client.state ≡ true → call.datagram ≡ 0x01 ∷ 0x01 ∷ 0x60 ∷ 0x9F ∷ 0x03 ∷ []
@@ -146,7 +146,7 @@ example_6 b call c s d =
 
 module _ (b : Board) (call : LentCall) (sector m : ℕ) (p : Brings b call sector m) where
   own : from_stranger b.client call.address ≡ false
-  own = from_opener b.client call.address p.sender
+  own = from_opener_lem b.client call.address p.sender
 
   packet_heard : Heard b call
   packet_heard = calling b call p.calls (ap is_closed p.writing)

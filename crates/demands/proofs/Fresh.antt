@@ -27,7 +27,7 @@ use Rattle.demands.specs.Demand2.{Lends, SentFrom, Ready, Fit, Delivery}
 use Rattle.demands.specs.Fresh.{Fresh, in_mode, after_all, FreshRight, MeetsFresh}
 use Rattle.demands.proofs.Asking.{request_read}
 use Rattle.demands.proofs.Demand2.{Whole, heard, said_back, control_short, Over, over, demand2}
-use Rattle.demands.proofs.Rows.{from_opener, initiate, mode_start, mode_end}
+use Rattle.demands.proofs.Rows.{from_opener_lem, initiate, mode_start, mode_end}
 
 pub started_bytes : control_frame 0x71 (0x06 ∷ []) ≡ 0x01 ∷ 0x02 ∷ 0x71 ∷ 0x06 ∷ 0x87 ∷ 0x03 ∷ []
 unfolding control_frame framed checksum_of taken_away
@@ -61,17 +61,17 @@ module _ (n : ℕ) (running : Bank) (major minor revision : ℕ) (pair : Banks) 
     made-step : step_machine (step_machine made Initiate).board (Datagram mode) ≡ step_machine hosted (Datagram mode)
     made-step = ap (λ (o : Outcome). step_machine o.board (Datagram mode)) initiated_is
 
-    in_mode : in_mode step_machine made mode ≡ opened-board
-    in_mode = ap (λ (o : Outcome). o.board) (made-step ∙ mode-is)
+    in_mode_lem : in_mode step_machine made mode ≡ opened-board
+    in_mode_lem = ap (λ (o : Outcome). o.board) (made-step ∙ mode-is)
 
     opened-ready : Ready (in_mode step_machine made mode)
-    opened-ready = subst Ready (sym in_mode) (record { good = fresh.good; control = refl; whole = fresh.whole })
+    opened-ready = subst Ready (sym in_mode_lem) (record { good = fresh.good; control = refl; whole = fresh.whole })
 
     opener-in : (in_mode step_machine made mode).client.opener ≡ mode.address
-    opener-in = ap (λ (b : Board). b.client.opener) in_mode
+    opener-in = ap (λ (b : Board). b.client.opener) in_mode_lem
 
     fixed_in : (in_mode step_machine made mode).client.fixed ≡ fixed_of n running major minor revision
-    fixed_in = ap (λ (b : Board). b.client.fixed) in_mode
+    fixed_in = ap (λ (b : Board). b.client.fixed) in_mode_lem
 
     module _ (image : List ℕ) (fit : Fit image (fixed_of n running major minor revision)) (start : LentCall) (ps : List ℕ) (is : List Input) (end ending : LentCall)
         (from : Delivery mode.address (in_mode step_machine made mode) image start ps is end) (asks : ending.datagram ≡ request_frame ModeEnd)
@@ -100,7 +100,7 @@ module _ (n : ℕ) (running : Bank) (major minor revision : ℕ) (pair : Banks) 
           mode_end last ending
           (heard last ending (ap (λ (f : Fixed). good_n f.n) fixed-last ∙ fresh.good) (subst (λ (f : Fixed). Lends f.n ending) (sym fixed-last) e)
           (subst (λ (f : Fixed). Whole f.n last.pair) (sym done.stays) done.whole) (ap is_closed done.control))
-          (from_opener last.client ending.address (comes.sender ∙ sym (done.opener ∙ opener-in))) done.control (ap read_of asks ∙ request_read ModeEnd)
+          (from_opener_lem last.client ending.address (comes.sender ∙ sym (done.opener ∙ opener-in))) done.control (ap read_of asks ∙ request_read ModeEnd)
 
       pub told : FreshRight step_machine made image mode start ps is end ending
       unfolding bytes_of

@@ -44,7 +44,7 @@ use Rattle.demands.specs.Strangers.{
 }
 use Rattle.demands.proofs.Asking.{request_read}
 use Rattle.demands.proofs.Demand2.{Busy, heard, no_mark, begun_is, begun_busy, stored_is}
-use Rattle.demands.proofs.Rows.{Heard, from_opener, write_end, write_end_unsound}
+use Rattle.demands.proofs.Rows.{Heard, from_opener_lem, write_end, write_end_unsound}
 use Rattle.demands.proofs.Witness.{image, image_size, two_packets, two_good, sectors_are, witness_board, calling, lends, comes, ready}
 
 pub no_heed : (m : Machine) → Heeds m → MeetsStrangers m → ⊥
@@ -127,7 +127,7 @@ heeds_session m datagram e changes =
     }
 
 own_call : (datagram : List ℕ) → from_stranger in_session.client (calling datagram).address ≡ false
-own_call datagram = from_opener in_session.client (calling datagram).address ((comes datagram).sender ∙ sym writing.opener)
+own_call datagram = from_opener_lem in_session.client (calling datagram).address ((comes datagram).sender ∙ sym writing.opener)
 
 end_heard : Heard in_session (calling (request_frame WriteEnd))
 end_heard =

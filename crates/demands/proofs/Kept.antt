@@ -38,7 +38,7 @@ use Rattle.calls.specs.Call.{Board, board}
 use Rattle.demands.specs.Board.{LentCall, Input, Initiate, Terminate, Datagram, Outcome, said, after, lent_target, step_machine}
 use Rattle.demands.specs.Demand1.{is_fault, wrong_length, from_stranger, accepted_in, response_code, parameter_error, after_frame}
 use Rattle.demands.specs.Session.{is_response}
-use Rattle.demands.specs.Strangers.{OpenFor, Leaves, mode_ended, terminated, Forgotten, MeetsKept}
+use Rattle.demands.specs.Strangers.{OpenFor, Leaves, mode_ended_lem, terminated, Forgotten, MeetsKept}
 use Rattle.demands.proofs.Arriving.{First, last, first, skip, skips, decides, hosted, roomy, came}
 use Rattle.demands.proofs.Demand2.{said_back, control_short, written_short}
 use Rattle.demands.proofs.Fresh.{ended_bytes}
@@ -152,7 +152,7 @@ keeps_open address b (Datagram call) o = by (datagram-keeps address b o call)
     by : OpenFor address (step_machine b (Datagram call)).board ⊎ LeftSo address b o call (read_of call.datagram) (said (step_machine b (Datagram call)))
         → OpenFor address (step_machine b (Datagram call)).board ⊎ Leaves step_machine address b (Datagram call)
     by (inl k) = inl k
-    by (inr e) = inr (mode_ended e.0 e.1.0 e.1.1)
+    by (inr e) = inr (mode_ended_lem e.0 e.1.0 e.1.1)
 
 -- ---- what an answer 06 to a mode start, or to a mode end, tells
 
@@ -346,7 +346,7 @@ kept_met =
     }
   where
     left-shut : (address : List ℕ) (b : Board) (i : Input) → OpenFor address b → Leaves step_machine address b i → is_open (step_machine b i).board.client.state ≡ false
-    left-shut address b (Datagram call) o (mode_ended from reads e) =
+    left-shut address b (Datagram call) o (mode_ended_lem from reads e) =
         answer_tells b call 0x74 (λ (x : Board). is_open x.client.state ≡ false) refl refl refl refl refl (λ t. absurd (false≢true t)) (λ _. refl)
         (ap (is_response 0x74 0x06) e)
     left-shut address b Terminate o (terminated e) =

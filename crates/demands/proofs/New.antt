@@ -20,10 +20,10 @@ module _ (b : Board) (g : good_n b.client.fixed.n ≡ false) where
   one_refused Terminate = comes b Terminate _ (rw g)
   one_refused (Datagram call) = comes b (Datagram call) _ (rw g)
 
-  all_refused : (is : List Input) → outcomes step_machine b is ≡ all_refused b is
-  all_refused [] = refl
-  all_refused (i ∷ is) =
-      ap₂ ◌∷◌ (one_refused i) (ap (λ (o : Outcome). outcomes step_machine o.board is) (one_refused i) ∙ all_refused is)
+  all_refused_lem : (is : List Input) → outcomes step_machine b is ≡ all_refused b is
+  all_refused_lem [] = refl
+  all_refused_lem (i ∷ is) =
+      ap₂ ◌∷◌ (one_refused i) (ap (λ (o : Outcome). outcomes step_machine o.board is) (one_refused i) ∙ all_refused_lem is)
 
 no_banks : (n bank0 bank1 : ℕ) → good_n n ≡ false → banks_good n bank0 bank1 ≡ false
 unfolding banks_good
@@ -36,6 +36,6 @@ new_meets =
       made = λ n running major minor revision. refl;
       good = λ n running major minor revision g. rw g;
       bad = λ n running major minor revision g. rw g;
-      later = λ n running major minor revision g pair is. all_refused _ g is;
+      later = λ n running major minor revision g pair is. all_refused_lem _ g is;
       bodies = λ n running major minor revision g bank0 bank1 i. body_meets.wrong _ bank0 bank1 i (no_banks n _ _ g);
     }

@@ -264,11 +264,11 @@ in_control state.Idle code i w e = absurd (false≢true (sym i ∙ e))
 in_control state.Control code i w e = refl
 in_control state.Write code i w e = absurd (false≢true (sym w ∙ e))
 
-pub in_write : (s : State) → takes_packets s ≡ true → s ≡ state.Write
-in_write state.Closed e = absurd (false≢true e)
-in_write state.Idle e = absurd (false≢true e)
-in_write state.Control e = absurd (false≢true e)
-in_write state.Write e = refl
+pub in_write_lem : (s : State) → takes_packets s ≡ true → s ≡ state.Write
+in_write_lem state.Closed e = absurd (false≢true e)
+in_write_lem state.Idle e = absurd (false≢true e)
+in_write_lem state.Control e = absurd (false≢true e)
+in_write_lem state.Write e = refl
 
 ends_write : (s : State) → accepted_in s 0x45 ≡ true → s ≡ state.Write
 ends_write state.Closed e = absurd (false≢true e)
@@ -613,7 +613,7 @@ module _ (image : List ℕ) (bank : Bank) (n : ℕ) (P : List ℕ → Type 0) wh
           (λ _.
           answered-fine (Packet p) b g call room (write_frame k (written_bytes 0x06 0x1C 0) End) (written_short k 0x06 0x1C 0)
           (written_begin k 0x06 0x1C 0) (other_stored k 0x06 0x1C 0 refl) (worn_idle k small))
-          (λ _. skip refl (decides refl (stored-fine room (in_write b.client.state (not-false _ w))))))))))
+          (λ _. skip refl (decides refl (stored-fine room (in_write_lem b.client.state (not-false _ w))))))))))
 
   -- ---- the write end
 

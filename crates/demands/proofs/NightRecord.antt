@@ -9,7 +9,7 @@ use Rattle.night.specs.declared.record.Called.{Called}
 use Rattle.night.specs.declared.record.Night.{Night}
 use Rattle.night.specs.declared.record.Stand.TheVariants.{NotBegun}
 use Rattle.night.specs.Call.{heard_in, start_of, buffer_by}
-use Rattle.night.proofs.Judged.{step_kept, not_again, gives_up, step_says, unbegun_told, start_says, start_kept}
+use Rattle.night.proofs.Judged.{step_kept, not_again, gives_up, step_says_lem, unbegun_told, start_says, start_kept}
 use Rattle.demands.specs.Night.{
   Told,
   NightSender,
@@ -61,7 +61,7 @@ refusals_met =
             told = ap (λ (x : Called). x.next) c;
             keeps = record { same = ap (λ (x : Called). x.night) c; buffer = ap (buffer_by other buffer) c };
           };
-      event_says = λ r event image before. step_says r (heard_in event) image before;
+      event_says = λ r event image before. step_says_lem r (heard_in event) image before;
     }
 
 -- of any night sender whose refusals change nothing

@@ -57,7 +57,7 @@ use Rattle.demands.proofs.NightLoop.{clean-heard, all-heard, Anyone, UpdateIn, K
 use Rattle.demands.proofs.Reading.{bank_short, version_short}
 use Rattle.demands.proofs.Rows.{
   Heard,
-  from_opener,
+  from_opener_lem,
   write_start,
   packet,
   write_end,
@@ -151,7 +151,7 @@ module _ (image : List ℕ) (bank : Bank) (n tries : ℕ) (st : Startable image 
     own = by (is_open b.client.state) refl
       where
         by : (t : Bool) → is_open b.client.state ≡ t → from_stranger b.client call.address ≡ false
-        by true e = from_opener b.client call.address (comes.sender ∙ sym (holds e))
+        by true e = from_opener_lem b.client call.address (comes.sender ∙ sym (holds e))
         by false e = rw e
 
     good : good_n b.client.fixed.n ≡ true

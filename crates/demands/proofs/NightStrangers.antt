@@ -37,12 +37,12 @@ use Rattle.demands.specs.NightLoop.{
   NoOther,
 }
 use Rattle.demands.specs.NightStrangers.{Apart, UntilLeft, to_the_end, still, left, SinceEnd, ended, later, MeetsNightAmong}
-use Rattle.demands.specs.Strangers.{Leaves, mode_ended, terminated}
+use Rattle.demands.specs.Strangers.{Leaves, mode_ended_lem, terminated}
 use Rattle.demands.proofs.Arriving.{First, last, first, skip, skips, decides, hosted, roomy, came}
 use Rattle.demands.proofs.Asking.{request_read}
 use Rattle.demands.proofs.Demand2.{said_back, control_short, end_bytes}
 use Rattle.demands.proofs.Fresh.{ended_bytes}
-use Rattle.demands.proofs.NightBoard.{is_ending, Writing, Done, Ends, in_control, in_write}
+use Rattle.demands.proofs.NightBoard.{is_ending, Writing, Done, Ends, in_control, in_write_lem}
 use Rattle.demands.proofs.NightLoop.{at_next, loop-in, updated}
 use Rattle.demands.proofs.Rows.{Heard, own_mode}
 use Rattle.demands.proofs.Strangers.{unheeded_one}
@@ -142,7 +142,7 @@ module _ (address : List ℕ) (b : Board) (call : LentCall) (strange : call.addr
       first (λ _ _. refl)
       (λ _.
       skip refl
-      (decides refl (λ w. absurd (not_ours f (ap is_open (in_write b.client.state (not-false _ s))) w.1))))))))
+      (decides refl (λ w. absurd (not_ours f (ap is_open (in_write_lem b.client.state (not-false _ s))) w.1))))))))
 
   pub no_session_of_ours : OursThen (step_machine b (Datagram call))
   no_session_of_ours = came b call OursThen (λ _ _. refl) (λ _ _ _. refl) (λ e _. by (read_of call.datagram) e)
@@ -166,7 +166,7 @@ module _ (image : List ℕ) (bank : Bank) (n tries : ℕ) (st : Startable image 
 
   -- the mode is open still, or was left
   data Watch (is : List Input) (b : Board) : Type 0 where
-    in_mode : b.client.state ≡ state.Control → b.client.opener ≡ address → Done image bank n Ours b → after step_machine start is ≡ b
+    in_mode_lem : b.client.state ≡ state.Control → b.client.opener ≡ address → Done image bank n Ours b → after step_machine start is ≡ b
         → ((js : List Input) → Until b js → Since start (is ++ js)) → Watch is b
     over-with : (Writing image bank n Ours b → ⊥) → ((js : List Input) → Since start (is ++ js)) → Watch is b
 
@@ -184,7 +184,7 @@ module _ (image : List ℕ) (bank : Bank) (n tries : ℕ) (st : Startable image 
       → Watch (is ++ (Datagram (call_of asked a) ∷ [])) (step_machine b (Datagram (call_of asked a))).board
   watch_begins is b g asked a q f at x d =
       let i : Input = Datagram (call_of asked a) in
-      in_mode x.control (x.opener ∙ x.writing.1) d (at_next start is b i at)
+      in_mode_lem x.control (x.opener ∙ x.writing.1) d (at_next start is b i at)
       (λ js u.
       one_more is i js
       (since is start
@@ -194,7 +194,7 @@ module _ (image : List ℕ) (bank : Bank) (n tries : ℕ) (st : Startable image 
       (at : after step_machine start is ≡ b) (f : (js : List Input) → Until b js → Since start (is ++ js)) where
     nothing-changed : (step_machine b i).board ≡ b → Watch (is ++ (i ∷ [])) (step_machine b i).board
     nothing-changed e =
-        in_mode (ap (λ (x : Board). x.client.state) e ∙ c) (ap (λ (x : Board). x.client.opener) e ∙ o) (subst (Done image bank n Ours) (sym e) d)
+        in_mode_lem (ap (λ (x : Board). x.client.state) e ∙ c) (ap (λ (x : Board). x.client.opener) e ∙ o) (subst (Done image bank n Ours) (sym e) d)
         (at_next start is b i at)
         (λ js u. one_more is i js (f (i ∷ js) (still (updated is at d) u)))
 
@@ -210,36 +210,36 @@ module _ (image : List ℕ) (bank : Bank) (n tries : ℕ) (st : Startable image 
       → Watch is b → Watch (is ++ (input_of asked p ∷ [])) (step_machine b (input_of asked p)).board
   watch_goes k is b asked p z q f moves back (over-with r g) =
       over-with (λ w. r (back w)) (λ js. one_more is (input_of asked p) js (g (input_of asked p ∷ js)))
-  watch_goes k is b asked HostInitiates z q f moves back (in_mode c o d at g) = nothing-changed is b Initiate c o d at g (initiate_stays b c)
-  watch_goes k is b asked HostTerminates z q f moves back (in_mode c o d at g) = by (terminate_leaves b c)
+  watch_goes k is b asked HostInitiates z q f moves back (in_mode_lem c o d at g) = nothing-changed is b Initiate c o d at g (initiate_stays b c)
+  watch_goes k is b asked HostTerminates z q f moves back (in_mode_lem c o d at g) = by (terminate_leaves b c)
     where
       by : ((step_machine b Terminate).board ≡ b) ⊎ ((step_machine b Terminate).number ≡ 0) → Watch (is ++ (Terminate ∷ [])) (step_machine b Terminate).board
       by (inl e) = nothing-changed is b Terminate c o d at g e
       by (inr e) = mode-left is b Terminate c o d at g (terminated e) (moves tt d)
-  watch_goes ModeStart is b asked (Arrives a) z q f moves back (in_mode c o d at g) = absurd (false≢true z)
-  watch_goes VersionInfo is b asked (Arrives a) z q f moves back (in_mode c o d at g) = absurd (false≢true z)
-  watch_goes BankInfo is b asked (Arrives a) z q f moves back (in_mode c o d at g) = absurd (false≢true z)
-  watch_goes WriteStart is b asked (Arrives a) z q f moves back (in_mode c o d at g) = absurd (false≢true z)
-  watch_goes (Packet p) is b asked (Arrives a) z q f moves back (in_mode c o d at g) = absurd (false≢true z)
-  watch_goes WriteEnd is b asked (Arrives a) z q f moves back (in_mode c o d at g) =
+  watch_goes ModeStart is b asked (Arrives a) z q f moves back (in_mode_lem c o d at g) = absurd (false≢true z)
+  watch_goes VersionInfo is b asked (Arrives a) z q f moves back (in_mode_lem c o d at g) = absurd (false≢true z)
+  watch_goes BankInfo is b asked (Arrives a) z q f moves back (in_mode_lem c o d at g) = absurd (false≢true z)
+  watch_goes WriteStart is b asked (Arrives a) z q f moves back (in_mode_lem c o d at g) = absurd (false≢true z)
+  watch_goes (Packet p) is b asked (Arrives a) z q f moves back (in_mode_lem c o d at g) = absurd (false≢true z)
+  watch_goes WriteEnd is b asked (Arrives a) z q f moves back (in_mode_lem c o d at g) =
       nothing-changed is b (Datagram (call_of asked a)) c o d at g (write-end-stays b c (call_of asked a) f)
-  watch_goes ModeEnd is b asked (Arrives a) z q f moves back (in_mode c o d at g) = by (mode-end-leaves b c (call_of asked a) f)
+  watch_goes ModeEnd is b asked (Arrives a) z q f moves back (in_mode_lem c o d at g) = by (mode-end-leaves b c (call_of asked a) f)
     where
       by : ((step_machine b (Datagram (call_of asked a))).board ≡ b)
           ⊎ (said (step_machine b (Datagram (call_of asked a))) ≡ 0x01 ∷ 0x02 ∷ 0x74 ∷ 0x06 ∷ 0x84 ∷ 0x03 ∷ [])
           → Watch (is ++ (Datagram (call_of asked a) ∷ [])) (step_machine b (Datagram (call_of asked a))).board
       by (inl e) = nothing-changed is b (Datagram (call_of asked a)) c o d at g e
-      by (inr e) = mode-left is b (Datagram (call_of asked a)) c o d at g (mode_ended q (ap read_of f ∙ request_read request.ModeEnd) e) (moves tt d)
-  watch_goes k is b asked (Another call) z q f moves back (in_mode c o d at g) =
+      by (inr e) = mode-left is b (Datagram (call_of asked a)) c o d at g (mode_ended_lem q (ap read_of f ∙ request_read request.ModeEnd) e) (moves tt d)
+  watch_goes k is b asked (Another call) z q f moves back (in_mode_lem c o d at g) =
       nothing-changed is b (Datagram call) c o d at g
       (unheeded_one address b call (record { mode = ap is_open c; opener = o }) q).board
 
   watch_rests : (is : List Input) (b : Board) → Watch is b → Writing image bank n Ours b → ⊥
-  watch_rests is b (in_mode c o d at g) w = d.resting w
+  watch_rests is b (in_mode_lem c o d at g) w = d.resting w
   watch_rests is b (over-with r g) w = r w
 
   watched : (is : List Input) (b : Board) → Watch is b → Since start is
-  watched is b (in_mode c o d at g) = subst (Since start) (append-nil is) (g [] (to_the_end (updated is at d)))
+  watched is b (in_mode_lem c o d at g) = subst (Since start) (append-nil is) (g [] (to_the_end (updated is at d)))
   watched is b (over-with r g) = subst (Since start) (append-nil is) (g [])
 
 pub night_among_met : MeetsNightAmong night_sender step_machine

@@ -159,9 +159,9 @@ begun : Readable (control_frame 0x70 (0x06 ∷ []))
 unfolding may_carry added_of
 begun = plain WriteStart 0x06 refl refl refl
 
-mode_ended : Readable (control_frame 0x74 (0x06 ∷ []))
+mode_ended_lem : Readable (control_frame 0x74 (0x06 ∷ []))
 unfolding may_carry added_of
-mode_ended = plain ModeEnd 0x06 refl refl refl
+mode_ended_lem = plain ModeEnd 0x06 refl refl refl
 
 write_ended : (result : ℕ) → (result ≡ 0x06) ⊎ ((result ≡ 0x1C) ⊎ (result ≡ 0x1E)) → Readable (control_frame 0x75 (result ∷ []))
 unfolding may_carry added_of
@@ -207,7 +207,7 @@ module _ (b : Board) (call : LentCall) (bytes : (i : ℕ) → byte_at call.datag
       says (control_frame 0x78 (version_bytes b.client.fixed.major b.client.fixed.minor b.client.fixed.revision)) (version_short b.client.fixed.major b.client.fixed.minor b.client.fixed.revision)
       (version_readable b.client.fixed.major b.client.fixed.minor b.client.fixed.revision revision))
       (every (λ _. says (control_frame 0x70 (0x06 ∷ [])) (control_short 0x70 0x06) begun)
-      (every (λ _. says (control_frame 0x74 (0x06 ∷ [])) (control_short 0x74 0x06) mode_ended)
+      (every (λ _. says (control_frame 0x74 (0x06 ∷ [])) (control_short 0x74 0x06) mode_ended_lem)
       (every (λ _. says (control_frame 0x75 (0x06 ∷ [])) (control_short 0x75 0x06) (write_ended 0x06 (inl refl)))
       (every (λ _. says (control_frame 0x75 (0x1E ∷ [])) (control_short 0x75 0x1E) (write_ended 0x1E (inr (inr refl))))
       last))))))))))))))

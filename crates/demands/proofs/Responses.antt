@@ -48,7 +48,7 @@ use Rattle.response.specs.Response.{
 }
 use Rattle.response.specs.Said.{response_said, result_in}
 use Rattle.response.proofs.Responses.{adds_none, adds_some}
-use Rattle.response.proofs.Six.{response_says}
+use Rattle.response.proofs.Six.{response_says_lem}
 use Rattle.demands.specs.Responses.{answer_code, spelled, MeetsReader}
 
 -- ---- the bytes of a short list
@@ -222,9 +222,9 @@ module _ (d : List ℕ) (small : Bytes d) where
 pub responses_meet : MeetsReader response_of
 responses_meet =
     record {
-      six = λ d t. response_says d ∙ ap (λ (b : Bool). cond b (number 6) (result (result_in d (read_of d)))) t;
+      six = λ d t. response_says_lem d ∙ ap (λ (b : Bool). cond b (number 6) (result (result_in d (read_of d)))) t;
       else = λ d small f.
           let read : paper_number (response_said (response_of d)) ≡ 0 =
-          ap paper_number (response_says d ∙ ap (λ (b : Bool). cond b (number 6) (result (result_in d (read_of d)))) f) in
+          ap paper_number (response_says_lem d ∙ ap (λ (b : Bool). cond b (number 6) (result (result_in d (read_of d)))) f) in
           record { unnumbered = read; whole = gives d small (read_of d) (told d) read };
     }

@@ -19,10 +19,10 @@ use Rattle.layout.specs.declared.Bank.{Bank}
 use Rattle.layout.specs.Layout.{sector_size, most_sectors, start_of}
 use Rattle.layout.proofs.Layouts.{start_small}
 use Rattle.lines.specs.Line.{lines}
-use Rattle.hex.specs.declared.record.State.{State}
-use Rattle.hex.specs.declared.record.Found.TheVariants.{Data, Upper}
-use Rattle.hex.specs.declared.read.Outcome.TheVariants.{Through}
-use Rattle.hex.specs.Read.{state_after, read_lines, at_start}
+use Rattle.hex_text.specs.declared.record.State.{State}
+use Rattle.hex_text.specs.declared.record.Found.TheVariants.{Data, Upper}
+use Rattle.hex_text.specs.declared.read.Outcome.TheVariants.{Through}
+use Rattle.hex_text.specs.Read.{state_after, read_lines, at_start}
 use Rattle.rows.specs.Text.{row_size, row_of, row_address, row_upper, data_line, upper_line, end_line, told_before, upper_text, row_text, rows_text, text_of}
 use Rattle.rows.proofs.Rows.{upper_same, upper_other, text_blank, text_told, told_next, row_length, told_stays}
 use Rattle.demands.specs.Written.{AreBytes}

@@ -42,8 +42,8 @@ pub comes : (b : Board) (i : Input) (o : Outcome) → first_of (table_of b i) �
 comes b i o e = ap (given o) (sym (table b i) ∙ e)
 
 -- from the address that opened the mode
-pub from_opener : (c : Client) (address : List ℕ) → address ≡ c.opener → from_stranger c address ≡ false
-from_opener c address e = rw (e, same_self c.opener) (and_false (is_open c.state))
+pub from_opener_lem : (c : Client) (address : List ℕ) → address ≡ c.opener → from_stranger c address ≡ false
+from_opener_lem c address e = rw (e, same_self c.opener) (and_false (is_open c.state))
 
 -- and whose the mode is where no stranger asks
 pub own_mode : (c : Client) (address : List ℕ) → from_stranger c address ≡ false → is_open c.state ≡ true → address ≡ c.opener
@@ -141,9 +141,9 @@ module _ (b : Board) (call : LentCall) (h : Heard b call) where
   pub fault : read_of call.datagram ≡ Fault → step_machine b (Datagram call) ≡ answered b call frame_error
   fault r = comes b (Datagram call) _ (rw (h.good, h.runs, h.lengths, h.live, r))
 
-  pub no_request : (code n : ℕ) → read_of call.datagram ≡ Control code n → is_request code ≡ false
+  pub no_request_is : (code n : ℕ) → read_of call.datagram ≡ Control code n → is_request code ≡ false
       → step_machine b (Datagram call) ≡ answered b call parameter_error
-  no_request code n r e = comes b (Datagram call) _ (rw (h.good, h.runs, h.lengths, h.live, r, e))
+  no_request_is code n r e = comes b (Datagram call) _ (rw (h.good, h.runs, h.lengths, h.live, r, e))
 
   pub packet_wrong : (sector m : ℕ) (footer : Footer) → Own → b.client.state ≡ state.Write → read_of call.datagram ≡ Write sector m footer
       → values_good b.client.fixed.n sector m ≡ false

@@ -62,9 +62,9 @@ pub record Session (b : Board) (image : List ℕ) : Type 0 where
 abbrev pub Shows : Board → List ℕ → Type 0
 Shows b image = b.client.state ≡ state.Write → Session b image
 
-none_received : (i : ℕ) → i < most_sectors → get_or none_received i false ≡ false
+none_received_lem : (i : ℕ) → i < most_sectors → get_or none_received i false ≡ false
 unfolding none_received
-none_received i h = get_or-replicate {A = Bool} most_sectors i false false h
+none_received_lem i h = get_or-replicate {A = Bool} most_sectors i false false h
 
 pub length_none : length none_received ≡ most_sectors
 unfolding none_received
@@ -161,7 +161,7 @@ module _ (b : Board) (call : LentCall) where
     keeps (begins a t m h) s =
         let e : now ≡ all_blank n = rw (a, response_begin) in
         make next n none_received (lent_target b call) behind now stays_n m (target_next ∙ ap (λ (l : List ℕ). l ++ behind) t) h.whole h.good length_none
-        (swept_blank (lent_target b call) n none_received h.good h.whole (λ i l. let most = good_high n h.good in none_received i (omega arith)) ∙ sym e)
+        (swept_blank (lent_target b call) n none_received h.good h.whole (λ i l. let most = good_high n h.good in none_received_lem i (omega arith)) ∙ sym e)
     keeps (stores sector write h v a t k) s =
         let bytes : List ℕ = data_in call.datagram in
         let o : Session b image = shows h.writing in

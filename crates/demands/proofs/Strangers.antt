@@ -36,7 +36,7 @@ use Rattle.demands.specs.Strangers.{
   ToldOff,
   refused as refused-so,
   no_frame,
-  no_request,
+  no_request_is,
   declined,
   Unheeded,
   AllStrange,
@@ -117,7 +117,7 @@ module _ (address : List ℕ) (b : Board) (call : LentCall) (open_for : OpenFor 
       error-short = omega (arith, length_error)
 
       mistaken : 14 ≤ length call.buffer → is_fault read ≡ false → (no_request read || wrong_length read) ≡ true → So (answered b call parameter_error)
-      mistaken room f w = told_so room parameter_error (omega arith) (no_request refl f w (is_said room parameter_error (omega arith)))
+      mistaken room f w = told_so room parameter_error (omega arith) (no_request_is refl f w (is_said room parameter_error (omega arith)))
 
       so : {o : Outcome} → step_machine b (Datagram call) ≡ o → So o → So (step_machine b (Datagram call))
       so e s = subst So (sym e) s

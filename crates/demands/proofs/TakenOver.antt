@@ -94,7 +94,7 @@ use Rattle.demands.specs.NightStrangers.{
   not_left,
   Undone,
 }
-use Rattle.demands.specs.Strangers.{Leaves, mode_ended, takes_all}
+use Rattle.demands.specs.Strangers.{Leaves, mode_ended_lem, takes_all}
 use Rattle.demands.proofs.NightLoop.{board_after}
 use Rattle.demands.proofs.NightWitness.{idle_board, idle_small, coming, buffer_room}
 
@@ -121,10 +121,10 @@ undone_fails {S} m machine meets u =
     let begun : Loop S = begins m machine k.begin.image k.begin.bank k.begin.n k.begin.tries k.begin.before k.board in
     let since =
     meets k.begin.image k.begin.bank k.begin.n k.begin.tries k.begin.before k.address k.board k.rs k.begin.starts k.begin.roomy k.roomy_rounds
-    k.apart k.small u.is_in in
+    k.apart k.small u.it_is_in in
     u.not_next
     (sym (ap (λ (b : Board). b.client.next) (board_after m machine k.begin.image k.board k.rs begun refl))
-    ∙ (since_in machine k u.in_mode since).starts_next)
+    ∙ (since_in machine k u.in_mode_lem since).starts_next)
 
 -- ---- the image: a table with one body, four bytes behind it
 
@@ -222,7 +222,7 @@ module _ (machine : Machine) where
 
   no_end : (k : NightAmong) (b : Board) (call : LentCall) → leavesNot b call ≡ true
       → Leaves machine k.address b (Datagram call) → ⊥
-  no_end k b call t (mode_ended a r e) =
+  no_end k b call t (mode_ended_lem a r e) =
       false≢true (sym (not-true _ t) ∙ ap (λ (l : List ℕ). same_of l left_bytes) e ∙ same_self left_bytes)
 
   stays : (k : NightAmong) (b : Board) (is : List Input) → unanswered b is ≡ true → NotLeft machine k b is
@@ -268,8 +268,8 @@ pub takes_all_undone : Undone night_sender takes_all
 takes_all_undone =
     record {
       night = undone_night;
-      is_in = ap (λ (s : Next × Bank). is_in s.0) both_end.1;
-      in_mode = stays takes_all undone_night (idle_board 1) _ both_end.2;
+      it_is_in = ap (λ (s : Next × Bank). is_in s.0) both_end.1;
+      in_mode_lem = stays takes_all undone_night (idle_board 1) _ both_end.2;
       not_next = λ e. not_one (sym (ap (λ (s : Next × Bank). s.1) both_end.1) ∙ e);
     }
 

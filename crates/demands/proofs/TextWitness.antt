@@ -11,11 +11,11 @@ use Rattle.layout.specs.Layout.{sector_size, good_n, start_of}
 use Rattle.layout.specs.Pair.{bank_in}
 use Rattle.lines.specs.Line.{lines}
 use Rattle.digits.specs.Digit.{value_of, is_digit}
-use Rattle.hex.specs.declared.read.Answer.TheVariants.{Accepted}
-use Rattle.hex.specs.Meaning.{Leaves}
-use Rattle.hex.specs.Spell.{byte_of, digit_bytes}
-use Rattle.hex.specs.Record.{digits_in, digits_whole, record_of, in_bank, data_at, typed, found_of}
-use Rattle.hex.specs.Read.{Reading, read_lines, text_read}
+use Rattle.hex_text.specs.declared.read.Answer.TheVariants.{Accepted}
+use Rattle.hex_text.specs.Meaning.{Leaves}
+use Rattle.hex_text.specs.Spell.{byte_of, digit_bytes}
+use Rattle.hex_text.specs.Record.{digits_in, digits_whole, record_of, in_bank, data_at, typed, found_of}
+use Rattle.hex_text.specs.Read.{Reading, read_lines, text_read}
 use Rattle.sender.specs.declared.request.Request.TheVariants.{WriteStart, WriteEnd}
 use Rattle.sender.specs.Packet.{packet_count}
 use Rattle.sender.specs.Request.{request_frame}
@@ -52,10 +52,10 @@ end_line =
 unfoldable pub text : List ℕ
 text = upper_line ++ table_line ++ body_line ++ end_line
 
-text_read : text_read text One 2 (replicate 1024 0) ≡ record { answer = Accepted; image = image }
+text_read_lem : text_read text One 2 (replicate 1024 0) ≡ record { answer = Accepted; image = image }
 unfolding text upper_line table_line body_line end_line image text_read good_n read_lines lines found_of record_of digits_whole digits_in typed data_at
     in_bank digit_bytes byte_of is_digit value_of total
-text_read = refl
+text_read_lem = refl
 
 pub text_witness : Leaves (start_of One) (sector_size * 2) (lines text) (length (lines text))
     (bank_in One
@@ -65,7 +65,7 @@ pub text_witness : Leaves (start_of One) (sector_size * 2) (lines text) (length 
     (Datagram (calling (request_frame WriteEnd)))).board.pair)
 unfolding witness_board
 text_witness =
-    let read : text_read text One 2 (replicate 1024 0) ≡ record { answer = Accepted; image = image } = text_read in
+    let read : text_read text One 2 (replicate 1024 0) ≡ record { answer = Accepted; image = image } = text_read_lem in
     let fit : fit_of (fixed_of 2 Zero 1 0 0) (text_read text One 2 (replicate 1024 0)).image ≡ true =
     ap (λ (r : Reading). fit_of (fixed_of 2 Zero 1 0 0) r.image) read ∙ image_fit (fixed_of 2 Zero 1 0 0) in
     let two : packet_count (text_read text One 2 (replicate 1024 0)).image 2 ≡ 2 =

@@ -13,20 +13,20 @@ use Rattle.layout.specs.declared.Bank.TheVariants.{Zero}
 use Rattle.layout.specs.Layout.{sector_size, good_n, start_of}
 use Rattle.layout.specs.Said.{fault}
 use Rattle.lines.specs.Line.{lines}
-use Rattle.hex.specs.declared.fault.Refusal.{Refusal}
-use Rattle.hex.specs.declared.read.Answer.{Answer}
-use Rattle.hex.specs.declared.read.Answer.TheVariants.{BadN, BadLength, Refused, Accepted}
+use Rattle.hex_text.specs.declared.fault.Refusal.{Refusal}
+use Rattle.hex_text.specs.declared.read.Answer.{Answer}
+use Rattle.hex_text.specs.declared.read.Answer.TheVariants.{BadN, BadLength, Refused, Accepted}
 use Rattle.digits.specs.Digit.{value_of, is_digit}
-use Rattle.hex.specs.Spell.{byte_of, digit_bytes}
-use Rattle.hex.specs.Meaning.{FirstBroken}
-use Rattle.hex.specs.Read.{read_lines, kind_number, answer_said, read_says, text_read}
-use Rattle.hex.specs.Record.{digits_in, digits_whole, record_of, data_at, typed, found_of}
-use Rattle.hex.proofs.Meaning.{answer_said, says_3, says-2, unread, kept-accepted, broken-refused, accepted_kept, refused_broken, read_length}
+use Rattle.hex_text.specs.Spell.{byte_of, digit_bytes}
+use Rattle.hex_text.specs.Meaning.{FirstBroken}
+use Rattle.hex_text.specs.Read.{read_lines, kind_number, answer_said, read_says, text_read}
+use Rattle.hex_text.specs.Record.{digits_in, digits_whole, record_of, data_at, typed, found_of}
+use Rattle.hex_text.proofs.Meaning.{answer_said_lem, says_3, says-2, unread, kept-accepted, broken-refused, accepted_kept, refused_broken, read_length}
 use Rattle.demands.specs.Texts.{TextReader, MeetsHex, InventsLine, InventsByte, retold, line_inventor, byte_inventor}
 
 pub texts_meet : MeetsHex text_read
 texts_meet text bank n image =
-    let said = answer_said text bank n image in
+    let said = answer_said_lem text bank n image in
     record {
       bad_n = λ g. said ∙ says_3 text bank n image g;
       bad_length = λ g w. said ∙ says-2 text bank n image g w;

@@ -31,7 +31,7 @@ use Rattle.demands.specs.Session.{is_begin, ends_session, all_blank}
 use Rattle.demands.specs.ShutOut.{StoresNothing, unstored, stores_nothing}
 use Rattle.demands.proofs.Asking.{request_read}
 use Rattle.demands.proofs.Demand2.{heard, no_mark, said_back, control_short, begun_is, begun_said}
-use Rattle.demands.proofs.Rows.{Heard, from_opener, write_end, write_end_unsound}
+use Rattle.demands.proofs.Rows.{Heard, from_opener_lem, write_end, write_end_unsound}
 
 -- one sector, and zeros in both banks
 unfoldable zeros : Board
@@ -93,7 +93,7 @@ end_said = by (fit_of in_session.client.fixed (swept_target in_session ends_smal
     room = (small_lends (request_frame WriteEnd)).room
 
     own : from_stranger in_session.client ends_small.address ≡ false
-    own = from_opener in_session.client ends_small.address (small_comes (request_frame WriteEnd)).sender
+    own = from_opener_lem in_session.client ends_small.address (small_comes (request_frame WriteEnd)).sender
 
     by : (t : Bool) → fit_of in_session.client.fixed (swept_target in_session ends_small) ≡ t
         → ends_session (said (step_machine in_session (Datagram ends_small))) ≡ true

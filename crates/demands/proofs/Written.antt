@@ -16,10 +16,10 @@ use Rattle.layout.specs.Layout.{sector_size, good_n, whole_length, start_of}
 use Rattle.layout.specs.Said.{value, accepted}
 use Rattle.layout.proofs.Layouts.{whole_good}
 use Rattle.lines.specs.Line.{lines}
-use Rattle.hex.specs.declared.read.Outcome.TheVariants.{Through}
-use Rattle.hex.specs.Meaning.{HasByte, start_at, Leaves}
-use Rattle.hex.specs.Read.{LinesRead, lines_read, read_says, text_read}
-use Rattle.hex.proofs.Meaning.{accepted_kept}
+use Rattle.hex_text.specs.declared.read.Outcome.TheVariants.{Through}
+use Rattle.hex_text.specs.Meaning.{HasByte, start_at, Leaves}
+use Rattle.hex_text.specs.Read.{LinesRead, lines_read, read_says, text_read}
+use Rattle.hex_text.proofs.Meaning.{accepted_kept}
 use Rattle.rows.specs.declared.text.Written.{Written}
 use Rattle.rows.specs.declared.text.Written.TheVariants.{BadLength, Text}
 use Rattle.rows.specs.Text.{text_of, length_of, written_of, buffer_after, written_said}

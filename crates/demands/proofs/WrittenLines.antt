@@ -20,10 +20,10 @@ use Rattle.digits.specs.Spelt.{digits_spelt}
 use Rattle.digits.proofs.Digits.{value_of_digit}
 use Rattle.digits.proofs.Spelt.{length_digits}
 use Rattle.lines.specs.Line.{front, lines}
-use Rattle.hex.specs.declared.record.State.{State}
-use Rattle.hex.specs.declared.record.Found.TheVariants.{Data, Upper, End}
-use Rattle.hex.specs.Spell.{byte_of, digit_bytes, line_bytes}
-use Rattle.hex.specs.Record.{Whole, digits_in, digits_due, digits_whole, record_data, record_of, in_bank, data_at, typed, found_of}
+use Rattle.hex_text.specs.declared.record.State.{State}
+use Rattle.hex_text.specs.declared.record.Found.TheVariants.{Data, Upper, End}
+use Rattle.hex_text.specs.Spell.{byte_of, digit_bytes, line_bytes}
+use Rattle.hex_text.specs.Record.{Whole, digits_in, digits_due, digits_whole, record_data, record_of, in_bank, data_at, typed, found_of}
 use Rattle.rows.specs.Record.{record_checksum, record_bytes, record_line}
 use Rattle.rows.proofs.Records.{head, body_is}
 use Rattle.demands.specs.Written.{AreBytes}

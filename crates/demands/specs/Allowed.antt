@@ -11,9 +11,9 @@ use Rattle.bank.specs.Sound.{verdict_of}
 use Rattle.clean.specs.declared.Cleaned.{Cleaned}
 use Rattle.clean.specs.Clean.{IsClean}
 use Rattle.clean.specs.Meaning.{cleaned, cleaner}
-use Rattle.hex.specs.declared.read.Answer.{Answer}
-use Rattle.hex.specs.Read.{text_read}
-use Rattle.hex.specs.Read.{IsRead as ReadText-as-Is}
+use Rattle.hex_text.specs.declared.read.Answer.{Answer}
+use Rattle.hex_text.specs.Read.{text_read}
+use Rattle.hex_text.specs.Read.{IsRead as IsReadText}
 use Rattle.rows.specs.declared.text.Written.{Written}
 use Rattle.rows.specs.Text.{length_of, IsLength, IsWrite}
 use Rattle.sender.specs.declared.made.Made.{Made}
@@ -28,15 +28,15 @@ use Rattle.response.specs.Said.{IsResponse}
 use Rattle.night.specs.declared.record.Called.{Called}
 use Rattle.night.specs.declared.record.Night.{Night}
 use Rattle.night.specs.Call.{Heard, Silence}
-use Rattle.night.specs.Call.{IsHeard as NightHeard-as-Is}
-use Rattle.night.specs.Call.{IsSilent as NightSilent-as-Is}
-use Rattle.night.specs.Call.{IsStart as NightStart-as-Is}
+use Rattle.night.specs.Call.{IsHeard as IsNightHeard}
+use Rattle.night.specs.Call.{IsSilent as IsNightSilent}
+use Rattle.night.specs.Call.{IsStart as IsNightStart}
 use Rattle.exchange.specs.Answer.{answer_number}
 use Rattle.client.specs.declared.host.Hosted.{Hosted}
 use Rattle.client.specs.declared.record.Client.{Client}
 use Rattle.client.specs.declared.step.Stepped.{Stepped}
 use Rattle.client.specs.Body.{next_body}
-use Rattle.client.specs.Body.{IsBody as NextBody-as-Is}
+use Rattle.client.specs.Body.{IsBody as IsNextBody}
 use Rattle.client.specs.Host.{new_of, IsNew, IsInitiate, IsTerminate}
 use Rattle.client.specs.Step.{Carried, IsTake, IsStep}
 use Rattle.calls.specs.Call.{Board, board}
@@ -94,10 +94,10 @@ pub record Contracts : Type 0 where
   pub check : {bank : List ℕ} {r : Verdict} → IsCheck bank r → verdict_of bank ≡ r
   pub clean : {bank runs sectors : List ℕ} {r : Cleaned} {bank' runs' sectors' : List ℕ}
       → IsClean bank runs sectors r bank' runs' sectors' → cleaner bank runs sectors ≡ cleaned r bank' runs' sectors'
-  pub next_body : (c : Client) (bank0 bank1 : List ℕ) (i : ℕ) {r : List ℕ} → NextBody-as-Is c bank0 bank1 i r → next_body c bank0 bank1 i ≡ r
+  pub next_body_is : (c : Client) (bank0 bank1 : List ℕ) (i : ℕ) {r : List ℕ} → IsNextBody c bank0 bank1 i r → next_body c bank0 bank1 i ≡ r
   -- hex text
   pub read_text : {text : List ℕ} {bank : Bank} {n : ℕ} {before after : List ℕ} {r : Answer}
-      → ReadText-as-Is text bank n before after r → text_read text bank n before ≡ record { answer = r; image = after }
+      → IsReadText text bank n before after r → text_read text bank n before ≡ record { answer = r; image = after }
   pub text_length : {image : List ℕ} {bank : Bank} {r : Written} → IsLength image bank r → length_of image bank ≡ r
   pub write_text : {image : List ℕ} {bank : Bank} {before : List ℕ} {r : Written} {after : List ℕ}
       → IsWrite image bank before r after → text_writer image bank before ≡ wrote r after
@@ -110,10 +110,10 @@ pub record Contracts : Type 0 where
   pub place : {image : List ℕ} {n p : ℕ} {r : Placed} → IsPlace image n p r → placed_of image n p ≡ r
   -- the night sender
   pub night_start : {image : List ℕ} {bank : Bank} {n tries : ℕ} {before : List ℕ} {r : Called} {after : List ℕ}
-      → NightStart-as-Is image bank n tries before r after → night_sender.start image bank n tries before ≡ told_back r after
+      → IsNightStart image bank n tries before r after → night_sender.start image bank n tries before ≡ told_back r after
   pub night_heard : {night : Night} {datagram image before : List ℕ} {r : Called} {after : List ℕ}
-      → NightHeard-as-Is night datagram image before r after → night_sender.event night (Heard datagram) image before ≡ told_back r after
+      → IsNightHeard night datagram image before r after → night_sender.event night (Heard datagram) image before ≡ told_back r after
   pub night_silent : {night : Night} {image before : List ℕ} {r : Called} {after : List ℕ}
-      → NightSilent-as-Is night image before r after → night_sender.event night Silence image before ≡ told_back r after
+      → IsNightSilent night image before r after → night_sender.event night Silence image before ≡ told_back r after
   -- what comes back to either
   pub read_response : {datagram : List ℕ} {r : Response} → IsResponse datagram r → response_of datagram ≡ r

@@ -8,8 +8,8 @@ use Rattle.outcomes.specs.Once.{Once, Twice, Thrice, Fourfold}
 use Rattle.frame.specs.declared.read.Footer.{Footer}
 use Rattle.layout.specs.declared.Bank.{Bank}
 use Rattle.lines.specs.declared.line.LineReader.{LineReader}
-use Rattle.hex.specs.declared.fault.Kind.{Kind}
-use Rattle.hex.specs.declared.read.Answer.{Answer as ReadAnswer}
+use Rattle.hex_text.specs.declared.fault.Kind.{Kind}
+use Rattle.hex_text.specs.declared.read.Answer.{Answer as ReadAnswer}
 use Rattle.rows.specs.declared.text.Written.{Written}
 use Rattle.clean.specs.declared.Cleaned.{Cleaned}
 use Rattle.sender.specs.declared.made.Made.{Made}
@@ -36,7 +36,7 @@ use Rattle.buffer.specs.Place.{IsPlace, IsFront}
 use Rattle.crc.specs.Crc.{IsCrcMore, IsCrc32}
 use Rattle.frame.specs.Checksum.{IsChecksum}
 use Rattle.frame.specs.Frame.{IsFooterByte}
-use Rattle.frame.specs.Read.{IsRead as ReadFrame-as-Is}
+use Rattle.frame.specs.Read.{IsRead as IsReadFrame}
 use Rattle.frame.specs.Read.{IsParameters, IsData}
 use Rattle.frame.specs.Write.{IsPutControl, IsPutWrite, IsPutError}
 use Rattle.flash.specs.declared.sector.Store.{Store}
@@ -49,24 +49,24 @@ use Rattle.bank.specs.Said.{IsContents, IsCheck}
 use Rattle.bank.specs.Sound.{IsBody}
 use Rattle.clean.specs.Clean.{IsCleanedNumber, IsClean}
 use Rattle.lines.specs.Places.{IsAhead, IsReader, IsNext}
-use Rattle.hex.specs.Read.{IsKindNumber, IsAnswerNumber}
-use Rattle.hex.specs.Read.{IsRead as ReadText-as-Is}
+use Rattle.hex_text.specs.Read.{IsKindNumber, IsAnswerNumber}
+use Rattle.hex_text.specs.Read.{IsRead as IsReadText}
 use Rattle.rows.specs.Text.{IsWrittenNumber, IsLength, IsWrite}
 use Rattle.sender.specs.Made.{IsMadeNumber}
 use Rattle.sender.specs.Packet.{IsTallyNumber, IsCount, IsPacket}
-use Rattle.sender.specs.Packet.{IsPlace as PlacePacket-as-Is}
+use Rattle.sender.specs.Packet.{IsPlace as IsPlacePacket}
 use Rattle.sender.specs.Request.{IsCommandOf, IsRequest}
 use Rattle.response.specs.Said.{IsResponseNumber, IsResponse}
-use Rattle.night.specs.Call.{IsStart as NightStart-as-Is}
-use Rattle.night.specs.Call.{IsHeard as NightHeard-as-Is}
-use Rattle.night.specs.Call.{IsSilent as NightSilent-as-Is}
+use Rattle.night.specs.Call.{IsStart as IsNightStart}
+use Rattle.night.specs.Call.{IsHeard as IsNightHeard}
+use Rattle.night.specs.Call.{IsSilent as IsNightSilent}
 use Rattle.night.specs.Record.{IsNextNumber}
 use Rattle.commands.specs.Command.{IsRequestCode, IsResponseCode, IsParameterBytes, IsAddedBytes, IsRequested, IsAnswered}
 use Rattle.exchange.specs.Answer.{IsRefusalNumber, IsSay}
 use Rattle.exchange.specs.State.{IsClosed, IsOpen}
 use Rattle.exchange.specs.Request.{IsAsked, IsFitsState, IsDeclined}
 use Rattle.decision.specs.Plan.{IsPlan}
-use Rattle.client.specs.Body.{IsBody as NextBody-as-Is}
+use Rattle.client.specs.Body.{IsBody as IsNextBody}
 use Rattle.client.specs.Host.{IsTold, IsNew, IsInitiate, IsTerminate}
 use Rattle.client.specs.Notice.{IsNoticeCode}
 use Rattle.client.specs.Step.{IsTake, IsStep}
@@ -88,7 +88,7 @@ pub record Determined : Type 0 where
   pub crc32 : (bytes : List ℕ) → Once (IsCrc32 bytes)
   -- frames
   pub checksum : (bytes : List ℕ) → Once (IsChecksum bytes)
-  pub read_frame : (datagram : List ℕ) → Once (ReadFrame-as-Is datagram)
+  pub read_frame : (datagram : List ℕ) → Once (IsReadFrame datagram)
   pub parameters_in : (datagram : List ℕ) → Once (IsParameters datagram)
   pub data_in : (datagram : List ℕ) → Once (IsData datagram)
   pub footer_byte : (footer : Footer) → Once (IsFooterByte footer)
@@ -127,22 +127,22 @@ pub record Determined : Type 0 where
   pub made_number : (made : Made) → Once (IsMadeNumber made)
   pub tally_number : (tally : Tally) → Once (IsTallyNumber tally)
   pub response_number : (response : Response) → Once (IsResponseNumber response)
-  pub read_text : (text : List ℕ) (bank : Bank) (n : ℕ) (before : List ℕ) → Twice (ReadText-as-Is text bank n before)
+  pub read_text : (text : List ℕ) (bank : Bank) (n : ℕ) (before : List ℕ) → Twice (IsReadText text bank n before)
   pub written_number : (written : Written) → Once (IsWrittenNumber written)
   pub text_length : (image : List ℕ) (bank : Bank) → Once (IsLength image bank)
   pub write_text : (image : List ℕ) (bank : Bank) (before : List ℕ) → Twice (IsWrite image bank before)
   -- the sender
   pub count : (image : List ℕ) (n : ℕ) → Once (IsCount image n)
   pub packet : (image : List ℕ) (n p : ℕ) (before : List ℕ) → Twice (IsPacket image n p before)
-  pub place_of_packet : (image : List ℕ) (n p : ℕ) → Once (PlacePacket-as-Is image n p)
+  pub place_of_packet : (image : List ℕ) (n p : ℕ) → Once (IsPlacePacket image n p)
   pub command_of : (request : Request) → Once (IsCommandOf request)
   pub request : (request : Request) (before : List ℕ) → Twice (IsRequest request before)
   pub read_response : (datagram : List ℕ) → Once (IsResponse datagram)
   -- the night sender
   pub night_number : (next : Next) → Once (IsNextNumber next)
-  pub night_start : (image : List ℕ) (bank : Bank) (n tries : ℕ) (before : List ℕ) → Twice (NightStart-as-Is image bank n tries before)
-  pub night_heard : (night : Night) (datagram image before : List ℕ) → Twice (NightHeard-as-Is night datagram image before)
-  pub night_silent : (night : Night) (image before : List ℕ) → Twice (NightSilent-as-Is night image before)
+  pub night_start : (image : List ℕ) (bank : Bank) (n tries : ℕ) (before : List ℕ) → Twice (IsNightStart image bank n tries before)
+  pub night_heard : (night : Night) (datagram image before : List ℕ) → Twice (IsNightHeard night datagram image before)
+  pub night_silent : (night : Night) (image before : List ℕ) → Twice (IsNightSilent night image before)
   -- the table of the commands
   pub request_code : (command : Command) → Once (IsRequestCode command)
   pub response_code : (command : Command) → Once (IsResponseCode command)
@@ -167,7 +167,7 @@ pub record Determined : Type 0 where
   pub terminate : (c : Client) → Once (IsTerminate c)
   pub take_call : (c : Client) (target marks address buffer datagram : List ℕ) → Thrice (IsTake c target marks address buffer datagram)
   pub step : (c : Client) (bank0 bank1 marks address buffer datagram : List ℕ) → Fourfold (IsStep c bank0 bank1 marks address buffer datagram)
-  pub next_body : (c : Client) (bank0 bank1 : List ℕ) (i : ℕ) → Once (NextBody-as-Is c bank0 bank1 i)
+  pub next_body_is : (c : Client) (bank0 bank1 : List ℕ) (i : ℕ) → Once (IsNextBody c bank0 bank1 i)
   -- lines and fields, for the programs
   pub first_field : (text : List ℕ) → Once (IsFirst text)
   pub other_fields : (text : List ℕ) → Once (IsRest text)

@@ -8,9 +8,9 @@ use Rattle.layout.specs.declared.Bank.{Bank}
 use Rattle.layout.specs.Layout.{sector_size, other_of, start_of}
 use Rattle.layout.specs.Pair.{bank_in}
 use Rattle.lines.specs.Line.{lines}
-use Rattle.hex.specs.declared.read.Answer.TheVariants.{Accepted}
-use Rattle.hex.specs.Meaning.{Leaves}
-use Rattle.hex.specs.Read.{text_read}
+use Rattle.hex_text.specs.declared.read.Answer.TheVariants.{Accepted}
+use Rattle.hex_text.specs.Meaning.{Leaves}
+use Rattle.hex_text.specs.Read.{text_read}
 use Rattle.response.specs.Response.{response_of}
 use Rattle.client.specs.Perform.{fit_of}
 use Rattle.calls.specs.Call.{Board}

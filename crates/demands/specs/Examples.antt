@@ -13,10 +13,10 @@ use Rattle.layout.specs.declared.Bank.{Bank}
 use Rattle.layout.specs.declared.Bank.TheVariants.{One}
 use Rattle.layout.specs.Layout.{sector_size, good_n, bank_size}
 use Rattle.layout.specs.Pair.{bank_in}
-use Rattle.hex.specs.declared.fault.Kind.TheVariants.{H6}
-use Rattle.hex.specs.declared.read.Answer.{Answer}
-use Rattle.hex.specs.declared.read.Answer.TheVariants.{Refused, Accepted}
-use Rattle.hex.specs.Read.{text_read}
+use Rattle.hex_text.specs.declared.fault.Kind.TheVariants.{H6}
+use Rattle.hex_text.specs.declared.read.Answer.{Answer}
+use Rattle.hex_text.specs.declared.read.Answer.TheVariants.{Refused, Accepted}
+use Rattle.hex_text.specs.Read.{text_read}
 use Rattle.sender.specs.declared.request.Request.{Request}
 use Rattle.sender.specs.declared.request.Request.TheVariants.{ModeStart, WriteStart}
 use Rattle.sender.specs.Request.{request_frame}

@@ -98,6 +98,6 @@ pub data NotLeft (machine : Machine) (k : NightAmong) : Board → List Input →
 -- one that finishes or gives up at the mode end, and its bank is not to start next although its mode was not left
 pub record Undone {S : Type 0} (m : NightSender S) (machine : Machine) : Type 0 where
   pub night : NightAmong
-  pub is_in : is_in (last_of m machine night).told.next ≡ true
-  pub in_mode : NotLeft machine night night.board (last_of m machine night).inputs
+  pub it_is_in : is_in (last_of m machine night).told.next ≡ true
+  pub in_mode_lem : NotLeft machine night night.board (last_of m machine night).inputs
   pub not_next : (last_of m machine night).board.client.next ≡ night.begin.bank → ⊥

@@ -34,7 +34,7 @@ Strange address call = call.address ≡ address → ⊥
 pub data ToldOff (r : Read) (number : ℕ) (answer : List ℕ) : Type 0 where
   refused : (number ≡ 2) ⊎ (number ≡ 3) → answer ≡ [] → ToldOff r number answer
   no_frame : number ≡ 0 → is_fault r ≡ true → answer ≡ frame_error → ToldOff r number answer
-  no_request : number ≡ 0 → is_fault r ≡ false → (no_request r || wrong_length r) ≡ true → answer ≡ parameter_error → ToldOff r number answer
+  no_request_is : number ≡ 0 → is_fault r ≡ false → (no_request r || wrong_length r) ≡ true → answer ≡ parameter_error → ToldOff r number answer
   declined : number ≡ 0 → is_fault r ≡ false → (no_request r || wrong_length r) ≡ false → answer ≡ negative_response r → ToldOff r number answer
 
 -- the answer at the buffer's front is all that comes of it
@@ -83,7 +83,7 @@ Meets2Among m =
 
 -- the mode that is open for an address is left: a mode end from there is answered 06, or the host terminates
 pub data Leaves (m : Machine) (address : List ℕ) (b : Board) : Input → Type 0 where
-  mode_ended : {call : LentCall} → call.address ≡ address → read_of call.datagram ≡ Control 0x64 0
+  mode_ended_lem : {call : LentCall} → call.address ≡ address → read_of call.datagram ≡ Control 0x64 0
       → said (m b (Datagram call)) ≡ 0x01 ∷ 0x02 ∷ 0x74 ∷ 0x06 ∷ 0x84 ∷ 0x03 ∷ []
       → Leaves m address b (Datagram call)
   terminated : (m b Terminate).number ≡ 0 → Leaves m address b Terminate

@@ -5,11 +5,11 @@ use Rattle.layout.specs.declared.Bank.{Bank}
 use Rattle.layout.specs.Layout.{sector_size, good_n, start_of}
 use Rattle.layout.specs.Said.{number, fault, accepted}
 use Rattle.lines.specs.Line.{lines}
-use Rattle.hex.specs.declared.fault.Refusal.{Refusal}
-use Rattle.hex.specs.declared.read.Answer.{Answer}
-use Rattle.hex.specs.declared.read.Answer.TheVariants.{BadN, BadLength, Refused, Accepted}
-use Rattle.hex.specs.Meaning.{KeepsAll, FirstBroken, Leaves}
-use Rattle.hex.specs.Read.{Reading, kind_number, answer_said, text_read}
+use Rattle.hex_text.specs.declared.fault.Refusal.{Refusal}
+use Rattle.hex_text.specs.declared.read.Answer.{Answer}
+use Rattle.hex_text.specs.declared.read.Answer.TheVariants.{BadN, BadLength, Refused, Accepted}
+use Rattle.hex_text.specs.Meaning.{KeepsAll, FirstBroken, Leaves}
+use Rattle.hex_text.specs.Read.{Reading, kind_number, answer_said, text_read}
 
 -- text, bank, N, image
 abbrev pub TextReader : Type 0

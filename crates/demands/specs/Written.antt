@@ -9,7 +9,7 @@ use Rattle.layout.specs.declared.Bank.{Bank}
 use Rattle.layout.specs.declared.Bank.TheVariants.{Zero, One}
 use Rattle.layout.specs.Layout.{sector_size, whole_length, start_of}
 use Rattle.layout.specs.Said.{number, value, accepted}
-use Rattle.hex.specs.Read.{Reading, answer_said}
+use Rattle.hex_text.specs.Read.{Reading, answer_said}
 use Rattle.rows.specs.declared.text.Written.{Written}
 use Rattle.rows.specs.declared.text.Written.TheVariants.{Text}
 use Rattle.rows.specs.Text.{row_size, row_of, row_upper, data_line, upper_line, end_line, all_rows, text_of, longest_text, written_of, buffer_after, written_said}

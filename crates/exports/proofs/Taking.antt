@@ -160,12 +160,12 @@ module _ (n : ℕ) (slots bank0 bank1 marks addresses buffer : List ℕ) where
   unfolding slots_taken
   slots_refused e = record { given = rw e; bank_zero = rw e; bank_one = rw e; buffer_left = rw e }
 
-  pub slots_taken : (c : Client) (told : ℕ) (bank0' bank1' said : List ℕ) (made : Client) (k : ℕ)
+  pub slots_taken_lem : (c : Client) (told : ℕ) (bank0' bank1' said : List ℕ) (made : Client) (k : ℕ)
       → all_good slots addresses (slot_count slots) ≡ true → made ≡ fresh n → k ≡ slot_count slots
       → ran told (board c (banks bank0' bank1')) said ≡ run_at slots marks addresses buffer (board made (banks bank0 bank1)) k
       → IsTakeSlots n slots bank0 bank1 marks addresses buffer told bank0' bank1' said
   unfolding slots_taken
-  slots_taken c told bank0' bank1' said made k g new all e =
+  slots_taken_lem c told bank0' bank1' said made k g new all e =
       let whole = e ∙ ap₂ (λ (m : Client) (j : ℕ). run_at slots marks addresses buffer (board m (banks bank0 bank1)) j) new all in
       record {
         given = rw g (ap (λ (run : Run). run.given) whole);

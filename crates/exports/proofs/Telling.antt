@@ -8,8 +8,8 @@ use borrow.Author.Tests.{le-leb, lt-leb}
 use Rattle.buffer.proofs.Places.{front_short, sets_front}
 use Rattle.layout.specs.declared.Bank.TheVariants.{Zero}
 use Rattle.layout.specs.Said.{Said, code, place_said}
-use Rattle.hex.specs.declared.read.Answer.{Answer}
-use Rattle.hex.specs.Read.{answer_said, IsRead}
+use Rattle.hex_text.specs.declared.read.Answer.{Answer}
+use Rattle.hex_text.specs.Read.{answer_said, IsRead}
 use Rattle.clean.specs.declared.Cleaned.{Cleaned}
 use Rattle.clean.specs.Clean.{cleaned_said, IsClean}
 use Rattle.exports.specs.Cleaned.{runs_told, sectors_told, IsCleanNumbers}

@@ -4,7 +4,7 @@ use Rattle.std.specs.Prelude.{ℕ, ◌≡◌, Bool, cond, List, [], ◌∷◌, l
 use Rattle.buffer.specs.Place.{front_of}
 use Rattle.layout.specs.declared.Bank.TheVariants.{Zero}
 use Rattle.layout.specs.Said.{Said, code, place_said}
-use Rattle.hex.specs.Read.{read_says, text_read}
+use Rattle.hex_text.specs.Read.{read_says, text_read}
 
 -- the number, "The first faulty line" and "the byte in the line"
 abbrev pub numbers_of : Said → List ℕ

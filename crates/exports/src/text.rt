@@ -1,10 +1,10 @@
 // The hex reader, for bank 0: what it says as numbers.
 ghost use Rattle.std.specs.Prelude.{◌≡◌};
 ghost use Rattle.layout.specs.Said.{place_said};
-ghost use Rattle.hex.specs.Read.{answer_said};
+ghost use Rattle.hex_text.specs.Read.{answer_said};
 ghost use Rattle.exports.specs.Text.{IsReadNumbers};
 
-use hex::read::Answer;
+use hex_text::read::Answer;
 use layout::Bank;
 
 // Where a text is at fault, both counted from 1; 0 where it is not.
@@ -36,8 +36,8 @@ pub extern "C" fn hex_read(text: &[u8], n: usize, image: &mut [u8], told: &mut [
     if told.len() < 3 {
         return 2;
     }
-    let answer = hex::read::read(text, Bank::Zero, n, image);
-    let number = hex::read::answer_number(answer);
+    let answer = hex_text::read::read(text, Bank::Zero, n, image);
+    let number = hex_text::read::answer_number(answer);
     let place = place_of(answer);
     told[0] = number;
     told[1] = place.line;

@@ -210,10 +210,10 @@ module _ (night : Night) (p : ℕ) (end : Next) (image : List ℕ) (size : ℕ) 
       by (Good sector count) e = sym z
 
 module _ (night : Night) (response : Response) (image before : List ℕ) (r : Called) where
-  by_stand : (after : List ℕ) (stand : Stand) → night.stand ≡ stand → r ≡ by_stand night response image (length before) stand
+  by_stand_lem : (after : List ℕ) (stand : Stand) → night.stand ≡ stand → r ≡ by_stand night response image (length before) stand
       → next_number (by_stand night response image (length before) stand).next ≡ step_says image night (length before) stand
       → after ≡ buffer_by image before (by_stand night response image (length before) stand) → IsStep night response image before r after
-  by_stand after stand e a s b =
+  by_stand_lem after stand e a s b =
       let back : stand ≡ night.stand = sym e in
       record {
         answered = a ∙ ap (by_stand night response image (length before)) back;
@@ -222,21 +222,21 @@ module _ (night : Night) (response : Response) (image before : List ℕ) (r : Ca
       }
 
   pub step_unbegun : night.stand ≡ NotBegun → r ≡ called night next.NotBegun → IsStep night response image before r before
-  step_unbegun e a = by_stand before NotBegun e a refl refl
+  step_unbegun e a = by_stand_lem before NotBegun e a refl refl
 
   pub step_hand : (after : List ℕ) (name : Name) (gone : ℕ) → night.stand ≡ At name gone → IsAtHand night name gone response image before r after
       → IsStep night response image before r after
-  step_hand after name gone e h = by_stand after (At name gone) e h.answered (hand_says night name gone response image (length before)) h.stands
+  step_hand after name gone e h = by_stand_lem after (At name gone) e h.answered (hand_says night name gone response image (length before)) h.stands
 
   pub step_finished : night.stand ≡ Finished → r ≡ over_of night 0 next.Finished image (length before) → IsStep night response image before r before
   step_finished e a =
-      by_stand before Finished e a (over_says night 0 next.Finished image (length before) refl) (over_keeps night 0 next.Finished image (length before) before refl)
+      by_stand_lem before Finished e a (over_says night 0 next.Finished image (length before) refl) (over_keeps night 0 next.Finished image (length before) before refl)
 
   pub step_gave_up : (name : Name) (why : Why) (p : ℕ) → night.stand ≡ GaveUp name why → p ≡ number_of name
       → r ≡ over_of night p (next.GaveUp name why) image (length before)
       → IsStep night response image before r before
   step_gave_up name why p e q a =
-      by_stand before (GaveUp name why) e (a ∙ ap (λ (x : ℕ). over_of night x (next.GaveUp name why) image (length before)) q)
+      by_stand_lem before (GaveUp name why) e (a ∙ ap (λ (x : ℕ). over_of night x (next.GaveUp name why) image (length before)) q)
       (over_says night (number_of name) (next.GaveUp name why) image (length before) refl)
       (over_keeps night (number_of name) (next.GaveUp name why) image (length before) before refl)
 

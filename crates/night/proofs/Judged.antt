@@ -92,8 +92,8 @@ own_reads command (Target bank) result h e = absurd (omega arith)
 own_reads command (Firmware id major minor revision) result h e = absurd (omega arith)
 own_reads command (Written sector response write crc) result h e = absurd (omega arith)
 
-own_result : (command : Command) (response : Response) (result : ℕ) → response ≡ Plain command result → own_result command response ≡ result
-own_result command response result e = rw (e, eq-eqb (response_code command) (response_code command) refl)
+own_result_lem : (command : Command) (response : Response) (result : ℕ) → response ≡ Plain command result → own_result command response ≡ result
+own_result_lem command response result e = rw (e, eq-eqb (response_code command) (response_code command) refl)
 
 module _ (command : Command) (repeated : Bool) (response : Response) where
   -- 06, or 15 to a repeated one where that counts as done
@@ -116,11 +116,11 @@ module _ (command : Command) (repeated : Bool) (response : Response) where
 
   own_accepted : (declined : Verdict) → response ≡ Plain command 0x06 → own_verdict command repeated declined response ≡ Settled
   unfolding own_verdict
-  own_accepted declined e = rw (own_result command response 0x06 e)
+  own_accepted declined e = rw (own_result_lem command response 0x06 e)
 
   own_declined : response ≡ Plain command 0x15 → repeated ≡ true → own_verdict command repeated Settled response ≡ Settled
   unfolding own_verdict
-  own_declined e t = rw (own_result command response 0x15 e, t)
+  own_declined e t = rw (own_result_lem command response 0x15 e, t)
 
   -- for mode start, write start and mode end
   pub own_done : own_verdict command repeated Settled response ≡ Settled
@@ -295,7 +295,7 @@ module _ (command : Command) (repeated : Bool) (response : Response) (why : Why)
 pub stopped_end : (command : Command) (repeated : Bool) (response : Response) → response ≡ Plain command 0x15 → repeated ≡ true
     → own_verdict command repeated (Stops Unknown) response ≡ Stops Unknown
 unfolding own_verdict
-stopped_end command repeated response e t = rw (own_result command response 0x15 e, t)
+stopped_end command repeated response e t = rw (own_result_lem command response 0x15 e, t)
 
 pub version_goes : (response : Response) (why : Why) → version_verdict response ≡ Stops why → ⊥
 version_goes Unreadable why e = no_way cc
@@ -559,8 +559,8 @@ module _ (night : Night) (response : Response) (image : List ℕ) (size : ℕ) (
 -- ---- the refusals, in the paper's numbers
 
 module _ (night : Night) (response : Response) (image before : List ℕ) where
-  pub step_says : next_number (step_of night response image (length before)).next ≡ step_says image night (length before) night.stand
-  step_says = by night.stand refl
+  pub step_says_lem : next_number (step_of night response image (length before)).next ≡ step_says image night (length before) night.stand
+  step_says_lem = by night.stand refl
     where
       by : (stand : Stand) → night.stand ≡ stand
           → next_number (by_stand night response image (length before) stand).next ≡ step_says image night (length before) stand

@@ -16,7 +16,7 @@ use Rattle.sender.specs.Made.{room}
 use Rattle.sender.specs.Made.{buffer_after as made_after}
 use Rattle.sender.specs.Packet.{packet_count, packet_frame, image_good, IsPacket}
 use Rattle.sender.specs.Request.{request_frame, given_good, IsRequest}
-use Rattle.sender.proofs.Making.{request_made}
+use Rattle.sender.proofs.Making.{request_made_lem}
 use Rattle.sender.proofs.Packets.{packet-made}
 use Rattle.night.specs.declared.name.Name.{Name}
 use Rattle.night.specs.declared.name.Name.TheVariants.{Packet}
@@ -37,7 +37,7 @@ module _ (name : Name) (bank : Bank) (n : ℕ) (image before after : List ℕ) (
       → given_good request ≡ true → room ≤ length before
       → IsRequest request before made after → IsMake name bank n image before next after
   request_sent out k request e f g h r =
-      let m = request_made request (length before) g h in
+      let m = request_made_lem request (length before) g h in
       framed (request_frame request) out (r.answered ∙ m) (r.stands ∙ ap (λ (x : Made). made_after x before (request_frame request)) m)
       (ap (frame_of image bank n) e ∙ f)
 

@@ -2,7 +2,7 @@
 ghost use Rattle.std.specs.Prelude.{◌≤◌};
 
 use crate::{refusals, talk};
-use hex::read::Answer;
+use hex_text::read::Answer;
 use layout::{Bank, SECTOR};
 use script::input;
 use script::input::Input;
@@ -12,11 +12,11 @@ const LONGEST_TEXT: usize = 1_048_576;
 const LONGEST_IMAGE: usize = 251_392;
 
 fn read_into(hex_text: &[u8], bank: Bank, n: usize, tries: usize, image: &mut [u8]) {
-    let answer = hex::read::read(hex_text, bank, n, image);
+    let answer = hex_text::read::read(hex_text, bank, n, image);
     match answer {
         Answer::Refused(refusal) => refusals::line(refusal),
         Answer::Accepted => talk::run(image, bank, n, tries),
-        _ => refusals::number(hex::read::answer_number(answer)),
+        _ => refusals::number(hex_text::read::answer_number(answer)),
     }
 }
 

@@ -1,5 +1,5 @@
 // What is said where there is no night.
-use hex::fault::Refusal;
+use hex_text::fault::Refusal;
 use libc::STDERR_FILENO;
 use script::{call, say};
 
@@ -15,7 +15,7 @@ pub(crate) fn number(number: usize) {
 
 pub(crate) fn line(refusal: Refusal) {
     let kind = refusal.kind;
-    let number = hex::fault::kind_number(kind) as usize;
+    let number = hex_text::fault::kind_number(kind) as usize;
     say::refused_place(number, refusal.line, refusal.byte);
     end();
 }

@@ -1,8 +1,8 @@
 // Hex text for bank 0 of 32 sectors, from standard input, as the sector packets that are sent of it: each one's sector and footer, and how
 // many they are.
 use frame::read::{Footer, Read};
-use hex::fault::Refusal;
-use hex::read::Answer;
+use hex_text::fault::Refusal;
+use hex_text::read::Answer;
 use layout::{Bank, SECTOR};
 use script::input::Input;
 use script::{call, input, say};
@@ -71,7 +71,7 @@ fn list(image: &[u8]) {
 
 fn say_refusal(refusal: Refusal) {
     let kind = refusal.kind;
-    let number = hex::fault::kind_number(kind) as usize;
+    let number = hex_text::fault::kind_number(kind) as usize;
     say::refused_place(number, refusal.line, refusal.byte);
     say::end();
     call::refused();
@@ -79,11 +79,11 @@ fn say_refusal(refusal: Refusal) {
 
 fn answer(text: &[u8]) {
     let mut image = [0u8; SECTOR * N];
-    let answer = hex::read::read(text, Bank::Zero, N, &mut image);
+    let answer = hex_text::read::read(text, Bank::Zero, N, &mut image);
     match answer {
         Answer::Refused(refusal) => say_refusal(refusal),
         Answer::Accepted => list(&image),
-        _ => say_refused(hex::read::answer_number(answer)),
+        _ => say_refused(hex_text::read::answer_number(answer)),
     }
 }
 

@@ -21,7 +21,7 @@ use Rattle.response.specs.declared.read.Response.{Response}
 use Rattle.response.specs.declared.read.Response.TheVariants.{Unreadable, Plain, Error, Written}
 use Rattle.response.specs.Response.{may_carry, added_of, accepted_of, own_of, error_of, control_of, repeats_of, crc_fits, write_of, response_in, response_of}
 use Rattle.response.specs.Said.{response_said, IsResponse}
-use Rattle.response.proofs.Six.{response_says}
+use Rattle.response.proofs.Six.{response_says_lem}
 
 -- ---- a command's own response
 
@@ -148,7 +148,7 @@ module _ (sector : ℕ) (bytes : List ℕ) where
 module _ (d : List ℕ) where
   -- what is answered is all: what it says follows
   response_is : (r : Response) → r ≡ response_of d → IsResponse d r
-  response_is r e = record { answered = e; says = ap response_said e ∙ response_says d }
+  response_is r e = record { answered = e; says = ap response_said e ∙ response_says_lem d }
 
   pub control_in : (code n : ℕ) → Control code n ≡ read_of d → control_of code (parameters_in d) ≡ response_of d
   unfolding response_in

@@ -178,24 +178,24 @@ neither_carried r w = by (in_table9 r) (eqb r 0x05) (in_table9 w) (eqb w 0x05)
     by true false true false = refl
     by true false false fives = refl
 
-six_in : (d : List ℕ) (read : Read) → unreadable (response_in d read) ≡ six_in d read
+six_in_lem : (d : List ℕ) (read : Read) → unreadable (response_in d read) ≡ six_in d read
 unfolding response_in six_in write_of
-six_in d Fault = refl
-six_in d (Control code n) =
+six_in_lem d Fault = refl
+six_in_lem d (Control code n) =
     let parameters : List ℕ = parameters_in d in
     let result : ℕ = byte_at parameters 0 in
     control_six parameters code
     ∙ ap (λ (b : Bool). b || not (eqb (length parameters) (added_by (answered_by code) result + 1)) || bank_exceeds d (Control code n))
     (not_carried (not (eqb code error_code) && unknown (answered_by code)) (eqb code error_code) result)
     ∙ sym (or-false _)
-six_in d (Write sector m End) =
+six_in_lem d (Write sector m End) =
     let response : ℕ = byte_at (data_in d) 0 in
     let write : ℕ = byte_at (data_in d) 1 in
     let crc : ℕ = number_at 4 (data_in d) 2 in
     rules (eqb (length (data_in d)) 6) (may_carry false response && may_carry false write) (repeats_of response write)
     (crc_fits response write crc) (Written sector response write crc) refl
     ∙ ap (λ (b : Bool). b || false || false || rules_broken d (Write sector m End)) (neither_carried response write)
-six_in d (Write sector m Continued) =
+six_in_lem d (Write sector m Continued) =
     let response : ℕ = byte_at (data_in d) 0 in
     let write : ℕ = byte_at (data_in d) 1 in
     continued (eqb (length (data_in d)) 6) (may_carry false response && may_carry false write) (repeats_of response write)
@@ -203,7 +203,7 @@ six_in d (Write sector m Continued) =
     ∙ ap (λ (b : Bool). b || false || false || rules_broken d (Write sector m Continued)) (neither_carried response write)
 
 pub six_exactly : (d : List ℕ) → unreadable (response_of d) ≡ six_of d
-six_exactly d = six_in d (read_of d)
+six_exactly d = six_in_lem d (read_of d)
 
 -- ---- what is said
 
@@ -262,5 +262,5 @@ says_in d (Control code n) = control_says (parameters_in d) code
 says_in d (Write sector m End) = write_says sector (data_in d)
 says_in d (Write sector m Continued) = refl
 
-pub response_says : (d : List ℕ) → response_said (response_of d) ≡ response_says d
-response_says d = says_in d (read_of d) ∙ ap (λ (b : Bool). cond b (number 6) (result (result_in d (read_of d)))) (six_exactly d)
+pub response_says_lem : (d : List ℕ) → response_said (response_of d) ≡ response_says d
+response_says_lem d = says_in d (read_of d) ∙ ap (λ (b : Bool). cond b (number 6) (result (result_in d (read_of d)))) (six_exactly d)

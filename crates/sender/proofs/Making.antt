@@ -24,7 +24,7 @@ use Rattle.sender.specs.declared.request.Request.{Request}
 use Rattle.sender.specs.declared.request.Request.TheVariants.{WriteStart}
 use Rattle.sender.specs.Made.{room, made_said, room_for, buffer_after}
 use Rattle.sender.specs.Request.{command_of, asks_for, given_good, request_frame, request_made, IsRequest, IsControl}
-use Rattle.sender.proofs.Refusals.{request_says}
+use Rattle.sender.proofs.Refusals.{request_says_lem}
 
 module _ (size : ℕ) (bytes : List ℕ) where
   no_room : size < room → BadLength ≡ room_for size bytes
@@ -55,14 +55,14 @@ module _ (code : ℕ) (parameters before : List ℕ) where
       }
 
 -- a request whose N is good, where there is room
-pub request_made : (request : Request) (size : ℕ) → given_good request ≡ true → room ≤ size → request_made request size ≡ Frame (length (request_frame request))
+pub request_made_lem : (request : Request) (size : ℕ) → given_good request ≡ true → room ≤ size → request_made request size ≡ Frame (length (request_frame request))
 unfolding request_made room_for
-request_made request size g h = rw (g, le-leb room size h)
+request_made_lem request size g h = rw (g, le-leb room size h)
 
 -- what is answered and what stands is all: what it says follows
 request_is : (request : Request) (before after : List ℕ) (r : Made) → r ≡ request_made request (length before)
     → after ≡ buffer_after (request_made request (length before)) before (request_frame request) → IsRequest request before r after
-request_is request before after r e s = record { answered = e; says = ap made_said e ∙ request_says request (length before); stands = s }
+request_is request before after r e s = record { answered = e; says = ap made_said e ∙ request_says_lem request (length before); stands = s }
 
 pub request_told : {request q : Request} {before after : List ℕ} {r : Made} → request ≡ q → IsRequest q before r after
     → IsRequest request before r after

@@ -45,7 +45,7 @@ use Rattle.sender.specs.Packet.{
   IsPlace,
   IsPacket,
 }
-use Rattle.sender.proofs.Refusals.{packet_says, place_says, count_says}
+use Rattle.sender.proofs.Refusals.{packet_says_lem, place_says_lem, count_says_lem}
 
 -- ---- a sector of an image
 
@@ -183,7 +183,7 @@ module _ (image : List ℕ) (n p : ℕ) (g : good_n n ≡ true) where
 module _ (image : List ℕ) (n : ℕ) where
   -- what is answered is all: what it says follows
   count_is : (r : Tally) → r ≡ tally_of image n → IsCount image n r
-  count_is r e = record { answered = e; says = ap tally_said e ∙ count_says image n }
+  count_is r e = record { answered = e; says = ap tally_said e ∙ count_says_lem image n }
 
   pub tally_bad_n : good_n n ≡ false → IsCount image n NoBank
   unfolding tally_of
@@ -205,7 +205,7 @@ module _ (image : List ℕ) (n p : ℕ) where
   placed_is = refl
 
   place_is : (r : Placed) → r ≡ placed_of image n p → IsPlace image n p r
-  place_is r e = record { answered = e; says = ap placed_said e ∙ place_says image n p }
+  place_is r e = record { answered = e; says = ap placed_said e ∙ place_says_lem image n p }
 
   pub place_bad_n : good_n n ≡ false → IsPlace image n p NoN
   unfolding placed_of
@@ -265,7 +265,7 @@ module _ (image : List ℕ) (n p : ℕ) where
   -- what is answered and what stands is all: what it says follows
   packet_is : (before after : List ℕ) (m : Made) → m ≡ packet_made image n p (length before)
       → after ≡ buffer_after (packet_made image n p (length before)) before (packet_frame image n p) → IsPacket image n p before m after
-  packet_is before after m e s = record { answered = e; says = ap made_said e ∙ packet_says image n p (length before); stands = s }
+  packet_is before after m e s = record { answered = e; says = ap made_said e ∙ packet_says_lem image n p (length before); stands = s }
 
   -- a refusal changes nothing
   pub packet_refused : (before : List ℕ) (m : Made) → m ≡ packet_made image n p (length before)

@@ -26,22 +26,22 @@ by_tests true true false n = refl
 by_tests true false c n = refl
 by_tests false b c n = refl
 
-pub request_says : (request : Request) (size : ℕ) → made_said (request_made request size) ≡ request_says request size
+pub request_says_lem : (request : Request) (size : ℕ) → made_said (request_made request size) ≡ request_says request size
 unfolding request_made room_for
-request_says request size = by_tests (given_good request) (leb room size) true (length (request_frame request))
+request_says_lem request size = by_tests (given_good request) (leb room size) true (length (request_frame request))
 
-pub count_says : (image : List ℕ) (n : ℕ) → tally_said (tally_of image n) ≡ count_says image n
+pub count_says_lem : (image : List ℕ) (n : ℕ) → tally_said (tally_of image n) ≡ count_says image n
 unfolding tally_of sender_says
-count_says image n = by (good_n n) (image_good image n) (packet_count image n)
+count_says_lem image n = by (good_n n) (image_good image n) (packet_count image n)
   where
     by : (a b : Bool) (k : ℕ) → tally_said (cond a (cond b (Packets k) NoImage) NoBank) ≡ sender_says (not a) (not b) false k
     by true true k = refl
     by true false k = refl
     by false b k = refl
 
-pub place_says : (image : List ℕ) (n p : ℕ) → placed_said (placed_of image n p) ≡ place_says image n p
+pub place_says_lem : (image : List ℕ) (n p : ℕ) → placed_said (placed_of image n p) ≡ place_says image n p
 unfolding placed_of sender_says
-place_says image n p = by (good_n n) (image_good image n) (ltb p (packet_count image n)) (packet_sector image n p) (packet_count image n)
+place_says_lem image n p = by (good_n n) (image_good image n) (ltb p (packet_count image n)) (packet_sector image n p) (packet_count image n)
   where
     by : (a b c : Bool) (k m : ℕ) → placed_said (cond a (cond b (cond c (At k m) NoneSuch) NotSoLong) NoN) ≡ sender_says (not a) (not b) (not c) k
     by true true true k m = refl
@@ -50,16 +50,16 @@ place_says image n p = by (good_n n) (image_good image n) (ltb p (packet_count i
     by false b c k m = refl
 
 module _ (image : List ℕ) (n p size : ℕ) where
-  pub packet_says : made_said (packet_made image n p size) ≡ packet_says image n p size
+  pub packet_says_lem : made_said (packet_made image n p size) ≡ packet_says image n p size
   unfolding packet_made
-  packet_says = by_tests (good_n n) (image_good image n && leb room size) (ltb p (packet_count image n)) (length (packet_frame image n p))
+  packet_says_lem = by_tests (good_n n) (image_good image n && leb room size) (ltb p (packet_count image n)) (length (packet_frame image n p))
 
   -- 5 is said only from the count on
   pub five_only : made_said (packet_made image n p size) ≡ number 5 → packet_count image n ≤ p
   unfolding sender_says
   five_only e =
       by (not (good_n n)) (not (image_good image n && leb room size)) (ltb p (packet_count image n)) (length (packet_frame image n p)) refl
-      (sym packet_says ∙ e)
+      (sym packet_says_lem ∙ e)
     where
       by : (a b c : Bool) (k : ℕ) → ltb p (packet_count image n) ≡ c → sender_says a b (not c) k ≡ number 5 → packet_count image n ≤ p
       by true b c k t q = no_way cc
@@ -72,4 +72,4 @@ module _ (image : List ℕ) (n p size : ℕ) where
       → made_said (packet_made image n p size) ≡ number 5
   unfolding sender_says
   five_always g e h q =
-      packet_says ∙ rw (g, eq-eqb (length image) (sector_size * n) e, le-leb room size h, le-ltb p (packet_count image n) q)
+      packet_says_lem ∙ rw (g, eq-eqb (length image) (sector_size * n) e, le-leb room size h, le-ltb p (packet_count image n) q)

@@ -1,8 +1,8 @@
 // The requests on the hex text.
 use crate::held;
 use crate::held::{Answered, Held, LONGEST_IMAGE};
-use hex::fault::Refusal;
-use hex::read::Answer;
+use hex_text::fault::Refusal;
+use hex_text::read::Answer;
 use layout::Bank;
 use script::{say, text};
 
@@ -47,7 +47,7 @@ pub(crate) fn more(hex_text: &mut [u8], held: Held, fields: &[u8]) -> Answered {
 
 fn say_refusal(refusal: Refusal) {
     let kind = refusal.kind;
-    let number = hex::fault::kind_number(kind) as usize;
+    let number = hex_text::fault::kind_number(kind) as usize;
     say::refused_place(number, refusal.line, refusal.byte);
 }
 
@@ -55,7 +55,7 @@ fn say_read(answer: Answer, image: &[u8]) {
     match answer {
         Answer::Refused(refusal) => say_refusal(refusal),
         Answer::Accepted => say::text(b"accepted"),
-        _ => say::refused(hex::read::answer_number(answer)),
+        _ => say::refused(hex_text::read::answer_number(answer)),
     }
     say::text(b" ");
     say::quad(crc::crc32(image));
@@ -64,7 +64,7 @@ fn say_read(answer: Answer, image: &[u8]) {
 
 fn read_into(hex_text: &[u8], bank: Bank, n: usize, image: &mut [u8]) {
     buffer::fill::fill(image, 0xA5);
-    let answer = hex::read::read(hex_text, bank, n, image);
+    let answer = hex_text::read::read(hex_text, bank, n, image);
     say_read(answer, image);
 }
 

@@ -7,7 +7,7 @@ mod refusals;
 ghost use Rattle.std.specs.Prelude.{◌≤◌};
 
 use bank::check::Verdict;
-use hex::read::Answer;
+use hex_text::read::Answer;
 use layout::{Bank, MOST, SECTOR};
 use script::input::Input;
 use script::{call, input, say, text};
@@ -74,11 +74,11 @@ fn judged(image: &[u8], target: Bank, n: usize) {
 }
 
 fn read_into(hex_text: &[u8], target: Bank, n: usize, image: &mut [u8]) {
-    let answer = hex::read::read(hex_text, target, n, image);
+    let answer = hex_text::read::read(hex_text, target, n, image);
     match answer {
         Answer::Refused(refusal) => refusals::line(refusal),
         Answer::Accepted => judged(image, target, n),
-        _ => refusals::number(hex::read::answer_number(answer)),
+        _ => refusals::number(hex_text::read::answer_number(answer)),
     }
 }
 

@@ -9,7 +9,7 @@ use borrow.Author.Tests.{not-true, not-false}
 use Rattle.layout.specs.Pair.{banks}
 use Rattle.calls.specs.Call.{board}
 use Rattle.exports.specs.Slots.{calls_of, ran, run_of}
-use Rattle.exports.proofs.Taking.{each_good, slots_all_good, an_address_each, none_taken, one-taken, slots_refused, slots_taken}
+use Rattle.exports.proofs.Taking.{each_good, slots_all_good, an_address_each, none_taken, one-taken, slots_refused, slots_taken_lem}
 use Rattle.exports.proofs.slots.client_take.Statement.{statement}
 use Rattle.exports.proofs.slots.client_take.Tie as tie
 
@@ -86,7 +86,7 @@ returns-2 : tie.Need-returns-2 invariant-loop decreases-loop
 returns-2 c =
     let l = c.before.loop in
     let good = sym c.before.before.before.before.all-good.ensures ∙ not-false _ c.before.before.before.if1.false in
-    slots_taken _ _ _ _ _ _ _ l.client l.told _ _ _ _ l.k good c.before.before.fresh.ensures (search rules) l.invariant.4
+    slots_taken_lem _ _ _ _ _ _ _ l.client l.told _ _ _ _ l.k good c.before.before.fresh.ensures (search rules) l.invariant.4
 
 pub client-take-spec : {M : Type 1} → statement M
 client-take-spec =

@@ -1,0 +1,34 @@
+// What is wrong with a text.
+ghost use Rattle.hex_text.specs.Read.{IsKindNumber};
+
+// The fault of a line, by the paper's letters.
+#[derive(Drop)]
+pub enum Kind {
+    H1,
+    H2,
+    H3,
+    H4,
+    H5,
+    H6,
+}
+
+pub fn kind_number(kind: Kind) -> u8
+    ensures { IsKindNumber kind result }
+{
+    match kind {
+        Kind::H1 => 1,
+        Kind::H2 => 2,
+        Kind::H3 => 3,
+        Kind::H4 => 4,
+        Kind::H5 => 5,
+        Kind::H6 => 6,
+    }
+}
+
+// The first faulty line, its fault, and the byte in the line at which it stands; line and byte are counted from 1.
+#[derive(Drop)]
+pub struct Refusal {
+    pub kind: Kind,
+    pub line: usize,
+    pub byte: usize,
+}
