@@ -1,4 +1,6 @@
 // A board on the bench, driven by a script on standard input. docs/BOARD.md has the script's form.
+#![tactic(auto)]
+
 mod calls;
 mod command;
 mod send;

@@ -1,1 +1,2 @@
 // Calls one after another: definitions and laws, and no code.
+#![tactic(auto)]

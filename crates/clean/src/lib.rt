@@ -1,4 +1,6 @@
 // A traded-in bank: bytes other than 0xFF outside table and bodies are set to that, and it is told where they were.
+#![tactic(auto)]
+
 mod blank;
 mod count;
 mod list;

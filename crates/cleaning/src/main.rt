@@ -1,4 +1,6 @@
 // A traded-in bank, from standard input, cleaned: its bytes go to where `./run` takes the file OUT, and what was cleared is listed.
+#![tactic(auto)]
+
 use clean::{Cleaned, MOST_RUNS};
 use layout::{MOST, SECTOR};
 use script::input::Input;

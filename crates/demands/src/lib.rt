@@ -1,1 +1,2 @@
 // No code: the user's demands, as theorems over the crates below (specs/ and proofs/).
+#![tactic(auto)]

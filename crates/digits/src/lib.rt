@@ -1,4 +1,6 @@
 // Hex digits: the value of one, and the digit of a value.
+#![tactic(auto)]
+
 ghost use Rattle.digits.specs.Digit.{IsValue, IsDigit};
 
 // The value of what is no digit.

@@ -1,4 +1,6 @@
 // What C calls, a module for each crate below, which export nothing themselves.
+#![tactic(auto)]
+
 pub mod check;
 pub mod checksum;
 pub mod cleaned;

@@ -1,4 +1,6 @@
 // Intel hex text, read into the image of a bank.
+#![tactic(auto)]
+
 pub mod fault;
 mod pair;
 mod place;

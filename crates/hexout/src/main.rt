@@ -1,4 +1,6 @@
 // A bank's bytes, from standard input, as hex text.
+#![tactic(auto)]
+
 use layout::{Bank, MOST, SECTOR};
 use rows::text::{LONGEST, Written};
 use script::input::Input;

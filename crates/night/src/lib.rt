@@ -1,4 +1,6 @@
 // The night sender: an event comes, and the next request goes out. docs/NIGHT.md has the exchange.
+#![tactic(auto)]
+
 pub mod call;
 mod judge;
 mod lent;

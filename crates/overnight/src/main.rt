@@ -1,5 +1,7 @@
 // A night on the bench: requests go out on standard output, and what is heard comes in on standard input, line by line. docs/NIGHT.md leads
 // through it.
+#![tactic(auto)]
+
 mod image;
 mod name;
 mod next;

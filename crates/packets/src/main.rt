@@ -1,5 +1,7 @@
 // Hex text for bank 0 of 32 sectors, from standard input, as the sector packets that are sent of it: each one's sector and footer, and how
 // many they are.
+#![tactic(auto)]
+
 use frame::read::{Footer, Read};
 use hex_text::fault::Refusal;
 use hex_text::read::Answer;

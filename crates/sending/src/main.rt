@@ -1,5 +1,7 @@
 // Answers request lines from standard input, one line each, by what the reader and the writer of hex text, the sender and the reader of responses
 // compute, for any bank and any number of sectors. docs/REQUESTS.md has their form.
+#![tactic(auto)]
+
 mod answer;
 mod frames;
 mod held;

@@ -1,5 +1,7 @@
 // From a hex text to a board: whether its image is a sound bank, which bodies that has and what is sent, as the comments of a script by which
 // `board` carries out the whole update. docs/GUIDE.md leads through it.
+#![tactic(auto)]
+
 mod bodies;
 mod frames;
 mod refusals;

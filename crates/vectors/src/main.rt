@@ -1,5 +1,7 @@
 // Answers request lines from standard input, one line each, by what the crates below compute. The peer in tests/ answers the
 // same lines; docs/REQUESTS.md has their form.
+#![tactic(auto)]
+
 mod answer;
 mod banks;
 mod frames;
