@@ -1,7 +1,7 @@
 // The words that a command begins with, and what each takes.
 use script::say;
 
-#[derive(Drop)]
+#[derive(Clone, Copy)]
 pub enum Setting {
     Bank,
     Fill,
@@ -12,7 +12,7 @@ pub enum Setting {
     Buffer,
 }
 
-#[derive(Drop)]
+#[derive(Clone, Copy)]
 pub enum Call {
     Client,
     Initiate,
@@ -20,7 +20,7 @@ pub enum Call {
     Send,
 }
 
-#[derive(Drop)]
+#[derive(Clone, Copy)]
 pub enum Show {
     Body,
     Record,
@@ -29,7 +29,7 @@ pub enum Show {
     Rest,
 }
 
-#[derive(Drop)]
+#[derive(Clone, Copy)]
 pub enum Word {
     Sets(Setting),
     Calls(Call),

@@ -3,7 +3,7 @@ use crate::word::Word;
 use crate::{state, word};
 use script::{call, say, text};
 
-#[derive(Drop)]
+#[derive(Clone, Copy)]
 pub enum Wrong {
     Nothing,
     // There is no such command.

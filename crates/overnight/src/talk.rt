@@ -7,7 +7,7 @@ use script::{call, line, say, text};
 use sender::made::ROOM;
 
 // The night between two lines, and whether another one is read.
-#[derive(Drop)]
+#[derive(Clone, Copy)]
 pub(crate) struct Going {
     pub(crate) night: Night,
     pub(crate) on: bool,

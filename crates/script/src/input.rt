@@ -5,7 +5,7 @@ ghost use Rattle.script.specs.Input.{Within};
 use crate::call;
 use libc::STDIN_FILENO;
 
-#[derive(Drop)]
+#[derive(Clone, Copy)]
 pub enum Input {
     // It could not be read to its end, and that was told.
     Unread,

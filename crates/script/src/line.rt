@@ -5,7 +5,7 @@ ghost use Rattle.script.specs.Line.{own_length, IsBefore, IsHeld};
 use crate::call;
 use libc::STDIN_FILENO;
 
-#[derive(Drop)]
+#[derive(Clone, Copy)]
 pub enum Found {
     Line,
     // It has more bytes than there is room for, and was passed over.
@@ -15,7 +15,7 @@ pub enum Found {
 }
 
 // What a turn found, the `held` bytes of its line, and the bytes of the chunk that it left unread, from `from` up to `to`.
-#[derive(Drop)]
+#[derive(Clone, Copy)]
 pub struct Turn {
     pub found: Found,
     pub held: usize,

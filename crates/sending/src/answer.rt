@@ -3,7 +3,7 @@ use crate::held::{Answered, Held};
 use crate::{frames, held, images, texts, written};
 use script::{say, text};
 
-#[derive(Drop)]
+#[derive(Clone, Copy)]
 enum Word {
     Text,
     More,

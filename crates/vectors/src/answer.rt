@@ -2,7 +2,7 @@
 use crate::{banks, frames, sums};
 use script::{say, text};
 
-#[derive(Drop)]
+#[derive(Clone, Copy)]
 enum Word {
     Crc,
     More,

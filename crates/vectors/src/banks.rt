@@ -131,7 +131,7 @@ fn put_pieces(bank: &mut [u8], pieces: &[u8]) -> bool {
 }
 
 // What is asked of a bank.
-#[derive(Drop)]
+#[derive(Clone, Copy)]
 enum Ask {
     Check,
     Body(usize),

@@ -54,7 +54,7 @@ pub(crate) fn read(fields: &[u8]) -> bool {
 }
 
 // A frame to be written, but for its parameters or data.
-#[derive(Drop)]
+#[derive(Clone, Copy)]
 enum Kind {
     Control(u8),
     Write(u16, Footer),

@@ -12,7 +12,7 @@ fn say_crc(value: u32) {
 }
 
 // What is asked of bytes that a field spells.
-#[derive(Drop)]
+#[derive(Clone, Copy)]
 enum Ask {
     Crc,
     More(u32),
@@ -67,7 +67,7 @@ pub(crate) fn sum(fields: &[u8]) -> bool {
 }
 
 // The bytes of a long message: all the same, or 0, 1, .. 250 over and over.
-#[derive(Drop)]
+#[derive(Clone, Copy)]
 pub enum Pattern {
     Same(u8),
     Ramp,
