@@ -1,6 +1,6 @@
 -- `digits::digit` meets its contract: a number or a letter.
 -- Assumes nothing.
-use Rattle.std.proofs.Common.{rules, le-ltb, lt-ltb}
+use Rattle.std.proofs.Common.{le-ltb, lt-ltb}
 use Rattle.digits.specs.Digit.{digit_of}
 use Rattle.digits.proofs.digit.Goals as goal
 

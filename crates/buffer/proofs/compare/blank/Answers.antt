@@ -2,10 +2,8 @@
 -- Assumes nothing.
 use mathlib.Core.Path.{◌≡◌, refl, sym, ap, ◌∙◌}
 use mathlib.Core.Bool.{true, false}
-use Prim.Native.Nat.{◌-◌, ◌≤◌}
 use native.Mathlib.Omega.{arith}
-use lib.ListN.{length, take, drop}
-use borrow.Author.Tests.{not-true, not-false}
+use lib.ListN.{take, drop}
 use borrow.Author.Rules.{rules}
 use Rattle.buffer.specs.Compare.{blank_of}
 use Rattle.buffer.proofs.Parts.{part_out, rest_out}
@@ -19,7 +17,7 @@ pub returns-then-not-blank_run : goal.returns-then-not-blank_run
 returns-then-not-blank_run c =
     let l = c.loop-i in
     let e : false ≡ blank_of (take 64 (drop l.i c.args.bytes.now)) = sym
-    (not-true _ c.if-not-blank_run.true-raw) ∙ c.blank_run.ensures ∙ ap blank_of
+    c.if-not-blank_run.true ∙ c.blank_run.ensures ∙ ap blank_of
     (part_out c.args.bytes.now l.i 64) in
     blank_run c.args.bytes.now l.i 64 false e ∙ l.invariant.1
 
@@ -27,7 +25,7 @@ pub loop-i-preserved : goal.loop-i-preserved
 loop-i-preserved c =
     let l = c.loop-i in
     let e : true ≡ blank_of (take 64 (drop l.i c.args.bytes.now)) = sym
-    (not-false _ c.if-not-blank_run.false-raw) ∙ c.blank_run.ensures ∙ ap blank_of
+    c.if-not-blank_run.false ∙ c.blank_run.ensures ∙ ap blank_of
     (part_out c.args.bytes.now l.i 64) in
     (omega arith, blank_run c.args.bytes.now l.i 64 true e ∙ l.invariant.1)
 

@@ -1,12 +1,8 @@
 -- `buffer::compare::blank_run` meets its contract: what was looked at, and what is left, are blank just where the run is.
 -- Assumes nothing.
-use mathlib.Core.Path.{◌≡◌, refl, sym, ◌∙◌}
-use mathlib.Core.Bool.{◌&&◌}
-use Prim.Native.Nat.{◌≤◌, ◌-◌}
+use mathlib.Core.Path.{refl, sym, ◌∙◌}
 use native.Mathlib.Omega.{arith}
-use lib.ListN.{length, drop}
 use borrow.Author.Rules.{rules}
-use Rattle.buffer.specs.Compare.{blank_of}
 use Rattle.buffer.proofs.Comparing.{blank_more, blank_done}
 use Rattle.buffer.proofs.compare.blank_run.Goals as goal
 

@@ -2,10 +2,8 @@
 -- Assumes nothing.
 use mathlib.Core.Path.{◌≡◌, refl, sym, ap₂, ◌∙◌}
 use mathlib.Core.Bool.{true, false}
-use Prim.Native.Nat.{◌-◌, ◌≤◌}
 use native.Mathlib.Omega.{arith}
-use lib.ListN.{length, take, drop}
-use borrow.Author.Tests.{not-true, not-false}
+use lib.ListN.{take, drop}
 use borrow.Author.Rules.{rules}
 use Rattle.buffer.specs.Compare.{same_of}
 use Rattle.buffer.proofs.Parts.{part_out, rest_out}
@@ -22,7 +20,7 @@ pub returns-then-not-same_run : goal.returns-then-not-same_run
 returns-then-not-same_run c =
     let l = c.loop-i in
     let a = c.args in
-    let e : false ≡ same_of (take 64 (drop l.i a.a.now)) (take 64 (drop l.i a.b.now)) = sym (not-true _ c.if-not-same_run.true-raw) ∙
+    let e : false ≡ same_of (take 64 (drop l.i a.a.now)) (take 64 (drop l.i a.b.now)) = sym c.if-not-same_run.true ∙
     c.same_run.ensures ∙ ap₂ same_of (part_out a.a.now l.i 64) (part_out a.b.now l.i 64) in
     same_run a.a.now a.b.now l.i 64 false (omega arith) (omega arith) e ∙ l.invariant.1
 
@@ -30,7 +28,7 @@ pub loop-i-preserved : goal.loop-i-preserved
 loop-i-preserved c =
     let l = c.loop-i in
     let a = c.args in
-    let e : true ≡ same_of (take 64 (drop l.i a.a.now)) (take 64 (drop l.i a.b.now)) = sym (not-false _ c.if-not-same_run.false-raw) ∙
+    let e : true ≡ same_of (take 64 (drop l.i a.a.now)) (take 64 (drop l.i a.b.now)) = sym c.if-not-same_run.false ∙
     c.same_run.ensures ∙ ap₂ same_of (part_out a.a.now l.i 64) (part_out a.b.now l.i 64) in
     (omega arith, same_run a.a.now a.b.now l.i 64 true (omega arith) (omega arith) e ∙ l.invariant.1)
 

@@ -1,15 +1,9 @@
 -- `buffer::compare::same` meets its contract: what is left is the same just where the whole is.
 -- Assumes nothing.
-use mathlib.Core.Path.{◌≡◌, refl, sym, ap₂, ◌∙◌}
-use mathlib.Core.Bool.{true, false}
+use mathlib.Core.Path.{◌≡◌}
 use Prim.Native.Nat.{◌-◌, ◌≤◌}
-use native.Mathlib.Omega.{arith}
-use lib.ListN.{length, take, drop}
-use borrow.Author.Tests.{not-true, not-false}
-use borrow.Author.Rules.{rules}
+use lib.ListN.{length, drop}
 use Rattle.buffer.specs.Compare.{same_of}
-use Rattle.buffer.proofs.Parts.{part_out, rest_out}
-use Rattle.buffer.proofs.Comparing.{same_run, same_lengths}
 use Rattle.buffer.proofs.compare.same.Given as goal
 
 abbrev pub invariant-loop-i : goal.invariant-loop-i

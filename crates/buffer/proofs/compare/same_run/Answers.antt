@@ -1,12 +1,8 @@
 -- `buffer::compare::same_run` meets its contract: what was looked at, and what is left, are the same just where the runs are.
 -- Assumes nothing.
-use mathlib.Core.Path.{◌≡◌, refl, sym, ◌∙◌}
-use mathlib.Core.Bool.{◌&&◌}
-use Prim.Native.Nat.{◌≤◌, ◌-◌}
+use mathlib.Core.Path.{refl, sym, ◌∙◌}
 use native.Mathlib.Omega.{arith}
-use lib.ListN.{length, drop}
 use borrow.Author.Rules.{rules}
-use Rattle.buffer.specs.Compare.{same_of}
 use Rattle.buffer.proofs.Comparing.{same_more, same_done}
 use Rattle.buffer.proofs.compare.same_run.Goals as goal
 

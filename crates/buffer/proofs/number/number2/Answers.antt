@@ -3,7 +3,6 @@
 use mathlib.Core.Path.{sym, ◌∙◌}
 use native.Mathlib.Omega.{arith}
 use Rattle.buffer.proofs.Numbers.{number_outside, number_two}
-use borrow.Author.Rules.{rules}
 use Rattle.buffer.proofs.number.number2.Goals as goal
 
 pub returns-then-bytes-at : goal.returns-then-bytes-at

@@ -4,7 +4,6 @@ use mathlib.Core.Path.{sym, ap₂, ◌∙◌}
 use Prim.Native.Nat.{ℕ, ◌+◌, ◌*◌}
 use native.Mathlib.Omega.{arith}
 use Rattle.buffer.proofs.Numbers.{number_outside, number_four}
-use borrow.Author.Rules.{rules}
 use Rattle.buffer.proofs.number.number4.Goals as goal
 
 pub returns-then-bytes-at : goal.returns-then-bytes-at

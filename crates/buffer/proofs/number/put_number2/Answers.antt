@@ -3,7 +3,6 @@
 use mathlib.Core.Path.{sym, ap, ◌∙◌}
 use Rattle.buffer.specs.Place.{place_of}
 use Rattle.buffer.proofs.Numbers.{bytes_two}
-use borrow.Author.Rules.{rules}
 use Rattle.buffer.proofs.number.put_number2.Goals as goal
 
 pub returns : goal.returns

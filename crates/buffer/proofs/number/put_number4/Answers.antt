@@ -3,7 +3,6 @@
 use mathlib.Core.Path.{sym, ap, ◌∙◌}
 use Rattle.buffer.specs.Place.{place_of}
 use Rattle.buffer.proofs.Numbers.{bytes_four}
-use borrow.Author.Rules.{rules}
 use Rattle.buffer.proofs.number.put_number4.Goals as goal
 
 pub returns : goal.returns

@@ -2,7 +2,6 @@
 -- Assumes nothing.
 use mathlib.Core.Path.{◌∙◌}
 use Rattle.buffer.proofs.Places.{place_front}
-use borrow.Author.Rules.{rules}
 use Rattle.buffer.proofs.place.put_front.Goals as goal
 
 pub returns : goal.returns

@@ -1,7 +1,6 @@
 -- `lines::line::lf_at` meets its contract: by whether the place lies within the text.
 -- Assumes nothing.
 use mathlib.Core.Path.{sym}
-use borrow.Author.Rules.{rules}
 use Rattle.lines.proofs.Lines.{lf_here, lf_past}
 use Rattle.lines.proofs.line.lf_at.Goals as goal
 

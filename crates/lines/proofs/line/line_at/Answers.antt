@@ -1,11 +1,7 @@
 -- `lines::line::line_at` meets its contract: the loop's invariant: the line goes on up to i. It stops at the first end, or with the text.
 -- Assumes nothing.
-use mathlib.Core.Path.{◌≡◌, sym, ◌∙◌}
-use borrow.Author.Rules.{rules}
+use mathlib.Core.Path.{sym, ◌∙◌}
 use native.Mathlib.Omega.{arith}
-use Prim.Native.Nat.{◌≤◌, ◌+◌, ◌-◌}
-use lib.ListN.{length, drop}
-use Rattle.lines.specs.Places.{line_len, line_all}
 use Rattle.lines.proofs.Lines.{line_stops, line_goes, line_past, end_fits}
 use Rattle.lines.proofs.line.line_at.Goals as goal
 

@@ -1,12 +1,9 @@
 -- `lines::line::line_at` meets its contract: the loop's invariant: the line goes on up to i. It stops at the first end, or with the text.
 -- Assumes nothing.
-use mathlib.Core.Path.{◌≡◌, sym, ◌∙◌}
-use borrow.Author.Rules.{rules}
-use native.Mathlib.Omega.{arith}
+use mathlib.Core.Path.{◌≡◌}
 use Prim.Native.Nat.{◌≤◌, ◌+◌, ◌-◌}
 use lib.ListN.{length, drop}
 use Rattle.lines.specs.Places.{line_len, line_all}
-use Rattle.lines.proofs.Lines.{line_stops, line_goes, line_past, end_fits}
 use Rattle.lines.proofs.line.line_at.Given as goal
 
 abbrev pub invariant-loop-i : goal.invariant-loop-i

@@ -2,9 +2,6 @@
 -- Assumes nothing.
 use mathlib.Core.Path.{◌≡◌, refl, sym, ◌∙◌}
 use native.Mathlib.Omega.{arith}
-use mathlib.Core.Bool.{◌&&◌}
-use Prim.Native.Nat.{◌≤◌, ◌+◌}
-use Rattle.lines.specs.Places.{quiet_at}
 use Rattle.lines.proofs.Lines.{quiet_one, quiet_none}
 use Rattle.lines.proofs.line.quiet.Goals as goal
 

@@ -1,11 +1,9 @@
 -- `lines::line::quiet` meets its contract: the loop's invariant: whether all are quiet is what is known of those passed and of those left.
 -- Assumes nothing.
-use mathlib.Core.Path.{◌≡◌, refl, sym, ◌∙◌}
-use native.Mathlib.Omega.{arith}
+use mathlib.Core.Path.{◌≡◌}
 use mathlib.Core.Bool.{◌&&◌}
 use Prim.Native.Nat.{◌≤◌, ◌+◌}
 use Rattle.lines.specs.Places.{quiet_at}
-use Rattle.lines.proofs.Lines.{quiet_one, quiet_none}
 use Rattle.lines.proofs.line.quiet.Given as goal
 
 abbrev pub invariant-loop-left : goal.invariant-loop-left

@@ -1,10 +1,7 @@
 -- `lines::line::skip` meets its contract: the loop's invariant: the line goes on up to i.
 -- Assumes nothing.
-use mathlib.Core.Path.{◌≡◌, refl, sym, ◌∙◌}
+use mathlib.Core.Path.{refl, sym, ◌∙◌}
 use native.Mathlib.Omega.{arith}
-use Prim.Native.Nat.{◌≤◌, ◌+◌, ◌-◌}
-use lib.ListN.{length, drop}
-use Rattle.lines.specs.Places.{line_len, line_all}
 use Rattle.lines.proofs.Lines.{quiet_goes}
 use Rattle.lines.proofs.line.skip.Goals as goal
 

@@ -1,11 +1,9 @@
 -- `lines::line::skip` meets its contract: the loop's invariant: the line goes on up to i.
 -- Assumes nothing.
-use mathlib.Core.Path.{◌≡◌, refl, sym, ◌∙◌}
-use native.Mathlib.Omega.{arith}
+use mathlib.Core.Path.{◌≡◌}
 use Prim.Native.Nat.{◌≤◌, ◌+◌, ◌-◌}
 use lib.ListN.{length, drop}
 use Rattle.lines.specs.Places.{line_len, line_all}
-use Rattle.lines.proofs.Lines.{quiet_goes}
 use Rattle.lines.proofs.line.skip.Given as goal
 
 abbrev pub invariant-loop-i : goal.invariant-loop-i
