@@ -21,20 +21,20 @@ returns-then-not-has_room c =
     let b = c.args.bank.now in
     let m = c.mark-n.ensures in
     clean-full b c.args.runs.now c.args.sectors.now c.requires.0 c.requires.1 m.value
-    (c.count-m.ensures ∙ ap length (sectors_are b c.requires.0 m.marks_at_2)) c.has_room.ensures (not-true _ c.if-not-has_room.true-raw)
+    (c.count-m.ensures ∙ ap length (sectors_are b c.requires.0 m.marks_at_2)) c.has_room.ensures c.if-not-has_room.true
 
 pub list-requires : goal.list-requires
 list-requires c =
     let b = c.args.bank.now in
     let m = c.mark-n.ensures in
-    let counted = c.count-m.ensures ∙ ap length (sectors_are b c.requires.0 m.marks_at_2) in record { good_bank = (good_bank b c.find-gaps.result c.find-gaps.ensures c.requires.0 c.requires.1, m.marks_at_2); bank_in_bounds = runs_fit b c.args.runs.now c.args.sectors.now c.requires.0 c.requires.1 m.value counted c.has_room.ensures (not-false _ c.if-not-has_room.false-raw) }
+    let counted = c.count-m.ensures ∙ ap length (sectors_are b c.requires.0 m.marks_at_2) in record { good_bank = (good_bank b c.find-gaps.result c.find-gaps.ensures c.requires.0 c.requires.1, m.marks_at_2); bank_in_bounds = runs_fit b c.args.runs.now c.args.sectors.now c.requires.0 c.requires.1 m.value counted c.has_room.ensures c.if-not-has_room.false }
 
 pub list-requires-2 : goal.list-requires-2
 list-requires-2 c =
     let b = c.args.bank.now in
     let m = c.mark-n.ensures in
     let are = sectors_are b c.requires.0 m.marks_at_2 in
-    let fit = sectors-fit b c.args.runs.now c.args.sectors.now c.requires.0 c.requires.1 m.value (c.count-m.ensures ∙ ap length are) c.has_room.ensures (not-false _ c.if-not-has_room.false-raw) in
+    let fit = sectors-fit b c.args.runs.now c.args.sectors.now c.requires.0 c.requires.1 m.value (c.count-m.ensures ∙ ap length are) c.has_room.ensures c.if-not-has_room.false in
     (sectors_room b c.requires.0 m.marks_at_2, sectors_small b c.requires.0 m.marks_at_2, rw are fit)
 
 pub blank-requires : goal.blank-requires
@@ -42,12 +42,12 @@ blank-requires c =
     let b = c.args.bank.now in
     let m = c.mark-n.ensures in
     let counted = c.count-m.ensures ∙ ap length (sectors_are b c.requires.0 m.marks_at_2) in
-    listed-runs b c.args.runs.now c.args.sectors.now c.requires.0 c.requires.1 m.value counted c.has_room.ensures (not-false _ c.if-not-has_room.false-raw) c.list.ensures
+    listed-runs b c.args.runs.now c.args.sectors.now c.requires.0 c.requires.1 m.value counted c.has_room.ensures c.if-not-has_room.false c.list.ensures
 
 pub returns : goal.returns
 returns c =
     let b = c.args.bank.now in
     let m = c.mark-n.ensures in
     let are = sectors_are b c.requires.0 m.marks_at_2 in
-    clean-done b c.args.runs.now c.args.sectors.now c.requires.0 c.requires.1 m.value (c.count-m.ensures ∙ ap length are) c.has_room.ensures (not-false _ c.if-not-has_room.false-raw)
+    clean-done b c.args.runs.now c.args.sectors.now c.requires.0 c.requires.1 m.value (c.count-m.ensures ∙ ap length are) c.has_room.ensures c.if-not-has_room.false
     c.blank.ensures c.list.ensures (c.list-2.ensures ∙ rw are)

@@ -28,7 +28,7 @@ entry_good-requires c = omega (arith, c.entry_at-entry.ensures.offset_small, c.e
 pub returns-then-not-entry_good : goal.returns-then-not-entry_good
 returns-then-not-entry_good c =
         let count = c.requires.count in
-    let bad = sym c.entry_good.ensures ∙ not-true _ c.if-not-entry_good.true-raw in
+    let bad = sym c.entry_good.ensures ∙ c.if-not-entry_good.true in
     sym (c.loop-i.invariant.1 ∙ good-not _ _ _ _ _ c.entry_at-entry.ensures.is (omega arith) bad)
 
 pub overflow_add-at : goal.overflow_add-at
@@ -39,7 +39,7 @@ overflow_add-at c =
 pub loop-i-preserved : goal.loop-i-preserved
 loop-i-preserved c =
         let count = c.requires.count in
-    let good = sym c.entry_good.ensures ∙ not-false _ c.if-not-entry_good.false-raw in
+    let good = sym c.entry_good.ensures ∙ c.if-not-entry_good.false in
     let next = good-next _ _ _ _ _ c.entry_at-entry.ensures.is (omega arith) good in
     (good_within _ _ _ _ good, c.loop-i.invariant.1 ∙ next)
 

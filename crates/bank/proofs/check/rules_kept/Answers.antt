@@ -16,7 +16,7 @@ table_good-requires c = has_table _ _ c.listed-n.ensures c.if-n-eq0.false
 pub returns-then-not-table_good : goal.returns-then-not-table_good
 returns-then-not-table_good c =
     let t = has_table _ _ c.listed-n.ensures c.if-n-eq0.false in
-    rules-table _ _ _ t (sym c.table_good.ensures ∙ not-true _ c.if-not-table_good.true-raw)
+    rules-table _ _ _ t (sym c.table_good.ensures ∙ c.if-not-table_good.true)
 
 pub listed_good-requires : goal.listed_good-requires
 listed_good-requires c = has_table _ _ c.listed-n.ensures c.if-n-eq0.false
@@ -24,4 +24,4 @@ listed_good-requires c = has_table _ _ c.listed-n.ensures c.if-n-eq0.false
 pub returns : goal.returns
 returns c =
     let t = has_table _ _ c.listed-n.ensures c.if-n-eq0.false in
-    c.listed_good.ensures ∙ rules-listed _ _ _ t (sym c.table_good.ensures ∙ not-false _ c.if-not-table_good.false-raw)
+    c.listed_good.ensures ∙ rules-listed _ _ _ t (sym c.table_good.ensures ∙ c.if-not-table_good.false)

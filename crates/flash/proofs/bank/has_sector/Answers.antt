@@ -11,12 +11,12 @@ use Rattle.flash.proofs.bank.has_sector.Goals as goal
 pub returns-then-not-good_n : goal.returns-then-not-good_n
 returns-then-not-good_n c =
     let a = c.args in
-    has_bad a.bytes a.k (sym c.good_n.ensures ∙ not-true _ c.if-not-good_n.true-raw)
+    has_bad a.bytes a.k (sym c.good_n.ensures ∙ c.if-not-good_n.true)
 
 pub overflow_mul-result : goal.overflow_mul-result
-overflow_mul-result c = omega (arith, good_high c.args.k (sym c.good_n.ensures ∙ not-false _ c.if-not-good_n.false-raw))
+overflow_mul-result c = omega (arith, good_high c.args.k (sym c.good_n.ensures ∙ c.if-not-good_n.false))
 
 pub returns : goal.returns
 returns c =
     let a = c.args in
-    has_ends a.bytes a.k (sym c.good_n.ensures ∙ not-false _ c.if-not-good_n.false-raw)
+    has_ends a.bytes a.k (sym c.good_n.ensures ∙ c.if-not-good_n.false)

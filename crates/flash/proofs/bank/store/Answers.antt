@@ -16,24 +16,24 @@ use Rattle.flash.proofs.bank.store.Goals as goal
 pub returns-then-not-has_sector : goal.returns-then-not-has_sector
 returns-then-not-has_sector c =
     let a = c.args in
-    sym (at_none (stored_in a.store) a.k a.bank.now (sym c.has_sector.ensures ∙ not-true _ c.if-not-has_sector.true-raw))
+    sym (at_none (stored_in a.store) a.k a.bank.now (sym c.has_sector.ensures ∙ c.if-not-has_sector.true))
 
 pub overflow_add-from : goal.overflow_add-from
 overflow_add-from c =
     let a = c.args in
-    let h : has_sector (length a.bank.now) a.k ≡ true = sym c.has_sector.ensures ∙ not-false _ c.if-not-has_sector.false-raw in
+    let h : has_sector (length a.bank.now) a.k ≡ true = sym c.has_sector.ensures ∙ c.if-not-has_sector.false in
     let e : c.sector_offset-from.result + sector_size ≤ length a.bank.now = has_end _ a.k h c.sector_offset-from.ensures in
     search rules
 
 pub slice_bounds-make-end : goal.slice_bounds-make-end
 slice_bounds-make-end c =
     let a = c.args in
-    let h : has_sector (length a.bank.now) a.k ≡ true = sym c.has_sector.ensures ∙ not-false _ c.if-not-has_sector.false-raw in
+    let h : has_sector (length a.bank.now) a.k ≡ true = sym c.has_sector.ensures ∙ c.if-not-has_sector.false in
     let e : c.sector_offset-from.result + sector_size ≤ length a.bank.now = has_end _ a.k h c.sector_offset-from.ensures in
     search rules
 
 pub returns : goal.returns
 returns c =
         let a = c.args in
-    let h : has_sector (length a.bank.now) a.k ≡ true = sym c.has_sector.ensures ∙ not-false _ c.if-not-has_sector.false-raw in
+    let h : has_sector (length a.bank.now) a.k ≡ true = sym c.has_sector.ensures ∙ c.if-not-has_sector.false in
     at_lent (stored_in a.store) a.k a.bank.now h c.sector_offset-from.ensures c.make.ensures

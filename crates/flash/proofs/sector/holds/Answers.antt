@@ -16,11 +16,11 @@ slice_bounds-same-end c = sym (length-take-le _ c.args.sector.now (omega arith))
 pub returns-then-not-same : goal.returns-then-not-same
 returns-then-not-same c =
     let a = c.args in
-    holds_not a.sector.now a.bytes.now (omega arith) (omega arith) c.same.ensures (not-true _ c.if-not-same.true-raw)
+    holds_not a.sector.now a.bytes.now (omega arith) (omega arith) c.same.ensures c.if-not-same.true
 
 pub returns : goal.returns
 returns c =
         let a = c.args in
     c.blank.ensures
     ∙ ap blank_of (rest_out a.sector.now _)
-    ∙ holds_rest a.sector.now a.bytes.now (omega arith) (omega arith) c.same.ensures (not-false _ c.if-not-same.false-raw)
+    ∙ holds_rest a.sector.now a.bytes.now (omega arith) (omega arith) c.same.ensures c.if-not-same.false

@@ -29,14 +29,14 @@ returns-then-not-checked c =
     control_checksum c.args.datagram.now
     c.wide-l.result c.wide-l.ensures
     (ne_eqb _ _ c.if-l-eq0.false) (eq-eqb _ _ c.if-datagram-l.false)
-    (sym c.checked.ensures ∙ not-true _ c.if-not-checked.true-raw)
+    (sym c.checked.ensures ∙ c.if-not-checked.true)
 
 pub returns-then-datagram-l-ne3 : goal.returns-then-datagram-l-ne3
 returns-then-datagram-l-ne3 c =
     control_footer c.args.datagram.now
     c.wide-l.result c.wide-l.ensures
     (ne_eqb _ _ c.if-l-eq0.false) (eq-eqb _ _ c.if-datagram-l.false)
-    (sym c.checked.ensures ∙ not-false _ c.if-not-checked.false-raw) (ne_eqb _ _ c.if-datagram-l-ne3.true)
+    (sym c.checked.ensures ∙ c.if-not-checked.false) (ne_eqb _ _ c.if-datagram-l-ne3.true)
 
 pub returns : goal.returns
 returns c =
@@ -45,5 +45,5 @@ returns c =
     c.wide-l.ensures
     (ne_eqb _ _ c.if-l-eq0.false)
     (eq-eqb _ _ c.if-datagram-l.false)
-    (sym c.checked.ensures ∙ not-false _ c.if-not-checked.false-raw)
+    (sym c.checked.ensures ∙ c.if-not-checked.false)
     (eq-eqb _ _ c.if-datagram-l-ne3.false)

@@ -16,7 +16,7 @@ pub returns-then-not-checked : goal.returns-then-not-checked
 returns-then-not-checked c =
     write_checksum c.args.datagram.now c.wide2-m.result
     (c.wide2-m.ensures ∙ c.number2.ensures)
-    (eq-eqb _ _ c.if-datagram-m.false) (sym c.checked.ensures ∙ not-true _ c.if-not-checked.true-raw)
+    (eq-eqb _ _ c.if-datagram-m.false) (sym c.checked.ensures ∙ c.if-not-checked.true)
 
 pub returns-then-footer-eq3 : goal.returns-then-footer-eq3
 returns-then-footer-eq3 c =
@@ -26,7 +26,7 @@ returns-then-footer-eq3 c =
     (c.wide2-m.ensures ∙
     c.number2.ensures)
     (eq-eqb _ _ c.if-datagram-m.false)
-    (sym c.checked.ensures ∙ not-false _ c.if-not-checked.false-raw) (eq-eqb _ _ c.if-footer-eq3.true)
+    (sym c.checked.ensures ∙ c.if-not-checked.false) (eq-eqb _ _ c.if-footer-eq3.true)
 
 pub returns-then-footer-eq23 : goal.returns-then-footer-eq23
 returns-then-footer-eq23 c =
@@ -36,7 +36,7 @@ returns-then-footer-eq23 c =
     (c.wide2-m.ensures ∙
     c.number2.ensures)
     (eq-eqb _ _ c.if-datagram-m.false)
-    (sym c.checked.ensures ∙ not-false _ c.if-not-checked.false-raw)
+    (sym c.checked.ensures ∙ c.if-not-checked.false)
     (ne_eqb _ _ c.if-footer-eq3.false) (eq-eqb _ _ c.if-footer-eq23.true)
 
 pub returns : goal.returns
@@ -46,5 +46,5 @@ returns c =
     (c.wide2-m.ensures ∙
     c.number2.ensures)
     (eq-eqb _ _ c.if-datagram-m.false)
-    (sym c.checked.ensures ∙ not-false _ c.if-not-checked.false-raw)
+    (sym c.checked.ensures ∙ c.if-not-checked.false)
     (ne_eqb _ _ c.if-footer-eq3.false) (ne_eqb _ _ c.if-footer-eq23.false)

@@ -6,10 +6,10 @@ use borrow.Author.Rules.{rules}
 use Rattle.night.proofs.judge.written.Goals as goal
 
 pub returns-then-not-fields_awaited : goal.returns-then-not-fields_awaited
-returns-then-not-fields_awaited c = fields_other _ _ _ _ _ _ _ c.fields_awaited.ensures (not-true _ c.if-not-fields_awaited.true-raw)
+returns-then-not-fields_awaited c = fields_other _ _ _ _ _ _ _ c.fields_awaited.ensures c.if-not-fields_awaited.true
 
 pub returns-then-crc-sector_crc : goal.returns-then-crc-sector_crc
-returns-then-crc-sector_crc c = crc_same _ _ _ _ _ _ _ c.fields_awaited.ensures _ c.sector_crc.ensures (not-false _ c.if-not-fields_awaited.false-raw) c.if-crc-sector_crc.true
+returns-then-crc-sector_crc c = crc_same _ _ _ _ _ _ _ c.fields_awaited.ensures _ c.sector_crc.ensures c.if-not-fields_awaited.false c.if-crc-sector_crc.true
 
 pub returns : goal.returns
-returns c = crc_other _ _ _ _ _ _ _ c.fields_awaited.ensures _ c.sector_crc.ensures (not-false _ c.if-not-fields_awaited.false-raw) c.if-crc-sector_crc.false
+returns c = crc_other _ _ _ _ _ _ _ c.fields_awaited.ensures _ c.sector_crc.ensures c.if-not-fields_awaited.false c.if-crc-sector_crc.false

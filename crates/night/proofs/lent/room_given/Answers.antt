@@ -11,7 +11,7 @@ pub returns-then-room-lt-ROOM : goal.returns-then-room-lt-ROOM
 returns-then-room-lt-ROOM c = no_room _ _ _ c.if-room-lt-ROOM.true
 
 pub returns-then-not-tries_good : goal.returns-then-not-tries_good
-returns-then-not-tries_good c = bad_tries _ _ _ (omega arith) (sym c.tries_good.ensures ∙ not-true _ c.if-not-tries_good.true-raw)
+returns-then-not-tries_good c = bad_tries _ _ _ (omega arith) (sym c.tries_good.ensures ∙ c.if-not-tries_good.true)
 
 pub returns : goal.returns
-returns c = given _ _ _ (omega arith) (sym c.tries_good.ensures ∙ not-false _ c.if-not-tries_good.false-raw)
+returns c = given _ _ _ (omega arith) (sym c.tries_good.ensures ∙ c.if-not-tries_good.false)

@@ -12,9 +12,9 @@ returns-then-parameters-ne1 c = error_length _ c.if-parameters-ne1.true
 pub returns-then-not-may_carry : goal.returns-then-not-may_carry
 returns-then-not-may_carry c =
     let args = c.args in
-    error_result args.parameters.now (sym c.may_carry.ensures ∙ not-true _ c.if-not-may_carry.true-raw)
+    error_result args.parameters.now (sym c.may_carry.ensures ∙ c.if-not-may_carry.true)
 
 pub returns : goal.returns
 returns c =
     let args = c.args in
-    is_error args.parameters.now c.if-parameters-ne1.false (sym c.may_carry.ensures ∙ not-false _ c.if-not-may_carry.false-raw)
+    is_error args.parameters.now c.if-parameters-ne1.false (sym c.may_carry.ensures ∙ c.if-not-may_carry.false)

@@ -14,7 +14,7 @@ pub returns-then-parameters-eq0 : goal.returns-then-parameters-eq0
 returns-then-parameters-eq0 c = no_result _ _ c.if-parameters-eq0.true
 
 pub returns-then-not-may_carry : goal.returns-then-not-may_carry
-returns-then-not-may_carry c = bad-result _ _ _ refl (sym c.may_carry.ensures ∙ not-true _ c.if-not-may_carry.true-raw)
+returns-then-not-may_carry c = bad-result _ _ _ refl (sym c.may_carry.ensures ∙ c.if-not-may_carry.true)
 
 pub overflow_add-added : goal.overflow_add-added
 overflow_add-added c =
@@ -23,12 +23,12 @@ overflow_add-added c =
 
 pub returns-then-parameters-added : goal.returns-then-parameters-added
 returns-then-parameters-added c =
-    bad_length _ _ _ refl (sym c.may_carry.ensures ∙ not-false _ c.if-not-may_carry.false-raw)
+    bad_length _ _ _ refl (sym c.may_carry.ensures ∙ c.if-not-may_carry.false)
     (λ q. c.if-parameters-added.true (q ∙ ap (λ (x : ℕ). x + 1) (sym c.added.ensures)))
 
 pub returns-then-result-ne6 : goal.returns-then-result-ne6
 returns-then-result-ne6 c =
-        is_plain _ _ _ refl (sym c.may_carry.ensures ∙ not-false _ c.if-not-may_carry.false-raw)
+        is_plain _ _ _ refl (sym c.may_carry.ensures ∙ c.if-not-may_carry.false)
     (c.if-parameters-added.false ∙ ap (λ (x : ℕ). x + 1) c.added.ensures) (ne_eqb _ _ c.if-result-ne6.true)
 
 pub accepted-requires : goal.accepted-requires
@@ -39,5 +39,5 @@ accepted-requires c =
 
 pub returns : goal.returns
 returns c =
-        c.accepted.ensures ∙ is-accepted _ _ _ refl (sym c.may_carry.ensures ∙ not-false _ c.if-not-may_carry.false-raw)
+        c.accepted.ensures ∙ is-accepted _ _ _ refl (sym c.may_carry.ensures ∙ c.if-not-may_carry.false)
     (c.if-parameters-added.false ∙ ap (λ (x : ℕ). x + 1) c.added.ensures) (eq-eqb _ _ c.if-result-ne6.false)

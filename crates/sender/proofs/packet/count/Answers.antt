@@ -9,19 +9,19 @@ use borrow.Author.Rules.{rules}
 use Rattle.sender.proofs.packet.count.Goals as goal
 
 pub returns-then-not-good_n : goal.returns-then-not-good_n
-returns-then-not-good_n c = tally_bad_n _ _ (sym c.good_n.ensures ∙ not-true _ c.if-not-good_n.true-raw)
+returns-then-not-good_n c = tally_bad_n _ _ (sym c.good_n.ensures ∙ c.if-not-good_n.true)
 
 pub overflow_mul-n : goal.overflow_mul-n
-overflow_mul-n c = omega (arith, good_high _ (sym c.good_n.ensures ∙ not-false _ c.if-not-good_n.false-raw))
+overflow_mul-n c = omega (arith, good_high _ (sym c.good_n.ensures ∙ c.if-not-good_n.false))
 
 pub returns-then-image-n : goal.returns-then-image-n
-returns-then-image-n c = tally_bad_image _ _ (sym c.good_n.ensures ∙ not-false _ c.if-not-good_n.false-raw) c.if-image-n.true
+returns-then-image-n c = tally_bad_image _ _ (sym c.good_n.ensures ∙ c.if-not-good_n.false) c.if-image-n.true
 
 pub survey-seen-requires : goal.survey-seen-requires
-survey-seen-requires c = record { n_value = sym c.good_n.ensures ∙ not-false _ c.if-not-good_n.false-raw; image_len = c.if-image-n.false }
+survey-seen-requires c = record { n_value = sym c.good_n.ensures ∙ c.if-not-good_n.false; image_len = c.if-image-n.false }
 
 pub returns : goal.returns
 returns c =
     let args = c.args in
-    let good = sym c.good_n.ensures ∙ not-false _ c.if-not-good_n.false-raw in
+    let good = sym c.good_n.ensures ∙ c.if-not-good_n.false in
     tally_packets _ _ (seen-count args.image.now 0 args.n _ c.survey-seen.ensures) good c.if-image-n.false

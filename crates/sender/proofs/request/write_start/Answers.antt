@@ -8,7 +8,7 @@ use borrow.Author.Rules.{rules}
 use Rattle.sender.proofs.request.write_start.Goals as goal
 
 pub returns-then-not-good_n : goal.returns-then-not-good_n
-returns-then-not-good_n c = start_refused _ _ _ (sym c.good_n.ensures ∙ not-true _ c.if-not-good_n.true-raw)
+returns-then-not-good_n c = start_refused _ _ _ (sym c.good_n.ensures ∙ c.if-not-good_n.true)
 
 pub returns : goal.returns
 returns c =
@@ -17,4 +17,4 @@ returns c =
     let put =
     start_parameters args.bank args.n _ refl refl refl c.put_number4.ensures c.put_number4-2.ensures c.start_address.ensures
     c.end_address.ensures in
-    request_control (WriteStart _ _) (sym c.good_n.ensures ∙ not-false _ c.if-not-good_n.false-raw) (pre) put c.control.ensures
+    request_control (WriteStart _ _) (sym c.good_n.ensures ∙ c.if-not-good_n.false) (pre) put c.control.ensures

@@ -9,17 +9,17 @@ use Rattle.client.proofs.record.Client.initiate.Goals as goal
 pub returns-then-not-good_n : goal.returns-then-not-good_n
 returns-then-not-good_n c =
     initiate_bad c.args.self _ c.hosted.ensures
-    (sym c.good_n.ensures ∙ not-true _ c.if-not-good_n.true-raw)
+    (sym c.good_n.ensures ∙ c.if-not-good_n.true)
 
 pub returns-then-not-is_closed : goal.returns-then-not-is_closed
 returns-then-not-is_closed c =
     initiate_vain c.args.self _ c.hosted-then-not-is_closed.ensures
-    (sym c.good_n.ensures ∙ not-false _ c.if-not-good_n.false-raw)
-    (sym c.is_closed.ensures ∙ not-true _ c.if-not-is_closed.true-raw)
+    (sym c.good_n.ensures ∙ c.if-not-good_n.false)
+    (sym c.is_closed.ensures ∙ c.if-not-is_closed.true)
 
 pub returns : goal.returns
 returns c =
     initiate_done c.args.self _ _ c.initiated.ensures
     c.hosted-2.ensures
-    (sym c.good_n.ensures ∙ not-false _ c.if-not-good_n.false-raw)
-    (sym c.is_closed.ensures ∙ not-false _ c.if-not-is_closed.false-raw)
+    (sym c.good_n.ensures ∙ c.if-not-good_n.false)
+    (sym c.is_closed.ensures ∙ c.if-not-is_closed.false)
