@@ -3,7 +3,6 @@
 use mathlib.Core.Path.{sym, ap, ◌∙◌}
 use Rattle.bank.specs.Said.{verdict_said}
 use Rattle.layout.specs.Said.{code}
-use borrow.Author.Rules.{rules}
 use Rattle.exports.proofs.check.bank_check.Goals as goal
 
 pub returns-in-Refused : goal.returns-in-Refused

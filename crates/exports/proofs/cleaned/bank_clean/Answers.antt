@@ -1,7 +1,6 @@
 -- `exports::cleaned::bank_clean` meets its contract: without room nothing is done, and with it what came of the bank is told.
 -- Assumes nothing.
 use Rattle.exports.proofs.Telling.{not_counted, all_counted}
-use borrow.Author.Rules.{rules}
 use Rattle.exports.proofs.cleaned.bank_clean.Goals as goal
 
 pub returns-then-told-lt2 : goal.returns-then-told-lt2

@@ -1,6 +1,5 @@
 -- `exports::heard::hear_slot` meets its contract: the part of the slots behind the length is the response.
 -- Assumes nothing.
-use borrow.Author.Rules.{rules}
 use Rattle.exports.proofs.Hearing.{slot_heard}
 use Rattle.exports.proofs.heard.hear_slot.Goals as goal
 

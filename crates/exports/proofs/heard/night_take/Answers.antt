@@ -1,18 +1,14 @@
 -- `exports::heard::night_take` meets its contract: at each turn the first k slots are heard.
 -- Assumes nothing.
 use mathlib.Core.Path.{◌≡◌, refl, sym, ◌∙◌}
-use Prim.Native.Nat.{◌≤◌, ◌-◌}
-use native.Mathlib.Omega.{arith}
 use lib.ListN.{length}
 use borrow.Author.Rules.{rules}
-use borrow.Author.Tests.{not-true, not-false}
-use Rattle.exports.specs.Heard.{stood, heard_of}
 use Rattle.exports.proofs.Hearing.{none_heard, one_heard, slots_refused, slots_heard}
 use Rattle.exports.proofs.Taking.{each_good}
 use Rattle.exports.proofs.heard.night_take.Goals as goal
 
 pub returns-then-not-slots_good : goal.returns-then-not-slots_good
-returns-then-not-slots_good c = slots_refused _ _ _ _ _ (sym c.slots_good.ensures ∙ not-true _ c.if-not-slots_good.true-raw)
+returns-then-not-slots_good c = slots_refused _ _ _ _ _ (sym c.slots_good.ensures ∙ c.if-not-slots_good.true)
 
 pub loop-k-init : goal.loop-k-init
 loop-k-init c = (search rules, refl, none_heard _ _ _)
@@ -20,13 +16,8 @@ loop-k-init c = (search rules, refl, none_heard _ _ _)
 pub hear_slot-called-requires : goal.hear_slot-called-requires
 hear_slot-called-requires c =
     let a = c.args in
-    let good = sym c.slots_good.ensures ∙ not-false _ c.if-not-slots_good.false-raw in
+    let good = sym c.slots_good.ensures ∙ c.if-not-slots_good.false in
     record { slot_size_in_bounds = search rules; k_bound = each_good a.slots.now _ c.loop-k.k good (search rules) }
-
-pub overflow_add-k : goal.overflow_add-k
-overflow_add-k c =
-    let more = c.loop-k-test.true in
-    omega arith
 
 pub loop-k-preserved : goal.loop-k-preserved
 loop-k-preserved c =
@@ -36,11 +27,8 @@ loop-k-preserved c =
       rw c.next_code-told-in-loop-k.ensures (one_heard _ _ _ c.loop-k.k c.loop-k.night c.loop-k.told _ c.hear_slot-called.result _ c.loop-k.invariant.2 c.hear_slot-called.ensures),
     )
 
-pub shape_of-buffer : goal.shape_of-buffer
-shape_of-buffer c = c.loop-k.invariant.1 ∙ c.start-begun.auto.buffer
-
 pub returns : goal.returns
 returns c =
-    let good = sym c.slots_good.ensures ∙ not-false _ c.if-not-slots_good.false-raw in
+    let good = sym c.slots_good.ensures ∙ c.if-not-slots_good.false in
     let all = (rw c.next_code-told.ensures at c.loop-k.invariant.2) in
     slots_heard _ _ _ _ _ c.start-begun.result _ c.loop-k.night c.loop-k.told _ c.loop-k.k good c.start-begun.ensures (search rules) all

@@ -1,14 +1,9 @@
 -- `exports::heard::night_take` meets its contract: at each turn the first k slots are heard.
 -- Assumes nothing.
-use mathlib.Core.Path.{◌≡◌, refl, sym, ◌∙◌}
+use mathlib.Core.Path.{◌≡◌}
 use Prim.Native.Nat.{◌≤◌, ◌-◌}
-use native.Mathlib.Omega.{arith}
 use lib.ListN.{length}
-use borrow.Author.Rules.{rules}
-use borrow.Author.Tests.{not-true, not-false}
 use Rattle.exports.specs.Heard.{stood, heard_of}
-use Rattle.exports.proofs.Hearing.{none_heard, one_heard, slots_refused, slots_heard}
-use Rattle.exports.proofs.Taking.{each_good}
 use Rattle.exports.proofs.heard.night_take.Given as goal
 
 abbrev pub invariant-loop-k : goal.invariant-loop-k

@@ -2,7 +2,6 @@
 -- Assumes nothing.
 use mathlib.Core.Path.{ap, ◌∙◌}
 use Rattle.layout.specs.Said.{code}
-use borrow.Author.Rules.{rules}
 use Rattle.exports.proofs.packet.sender_packet.Goals as goal
 
 pub returns : goal.returns

@@ -1,19 +1,14 @@
 -- `exports::slots::client_take` meets its contract: at each turn the first k slots are taken.
 -- Assumes nothing.
 use mathlib.Core.Path.{◌≡◌, refl, sym, ◌∙◌}
-use Prim.Native.Nat.{◌≤◌, ◌-◌}
 use native.Mathlib.Omega.{arith}
 use lib.ListN.{length}
 use borrow.Author.Rules.{rules}
-use borrow.Author.Tests.{not-true, not-false}
-use Rattle.layout.specs.Pair.{banks}
-use Rattle.calls.specs.Call.{board}
-use Rattle.exports.specs.Slots.{calls_of, ran, run_of}
 use Rattle.exports.proofs.Taking.{each_good, slots_all_good, an_address_each, none_taken, one-taken, slots_refused, slots_taken_lem}
 use Rattle.exports.proofs.slots.client_take.Goals as goal
 
 pub returns-then-not-all_good : goal.returns-then-not-all_good
-returns-then-not-all_good c = slots_refused _ _ _ _ _ _ _ (sym c.all_good.ensures ∙ not-true _ c.if-not-all_good.true-raw)
+returns-then-not-all_good c = slots_refused _ _ _ _ _ _ _ (sym c.all_good.ensures ∙ c.if-not-all_good.true)
 
 pub loop-k-init : goal.loop-k-init
 loop-k-init c = (search rules, refl, refl, refl, none_taken _ _ _ _ _)
@@ -21,15 +16,10 @@ loop-k-init c = (search rules, refl, refl, refl, none_taken _ _ _ _ _)
 pub take_slot-stepped-requires : goal.take_slot-stepped-requires
 take_slot-stepped-requires c =
     let a = c.args in
-    let good = sym c.all_good.ensures ∙ not-false _ c.if-not-all_good.false-raw in
+    let good = sym c.all_good.ensures ∙ c.if-not-all_good.false in
     let k = c.loop-k.k in
     let every = an_address_each a.slots.now a.addresses.now _ good in
     record { slot_size_in_bounds = search rules; k_bound = each_good a.slots.now _ k (slots_all_good a.slots.now a.addresses.now _ good) (search rules); address_size_in_bounds = omega arith }
-
-pub overflow_add-k : goal.overflow_add-k
-overflow_add-k c =
-    let more = c.loop-k-test.true in
-    omega arith
 
 pub loop-k-preserved : goal.loop-k-preserved
 loop-k-preserved c =
@@ -44,16 +34,7 @@ loop-k-preserved c =
       rw c.given-told.ensures (one-taken _ _ _ _ _ c.loop-k.k c.loop-k.client c.loop-k.told _ _ _ c.loop-k.invariant.4 c.loop-k.invariant.3 c.take_slot-stepped.result _ _ _ c.take_slot-stepped.ensures),
     )
 
-pub shape_of-bank0 : goal.shape_of-bank0
-shape_of-bank0 c = c.loop-k.invariant.1
-
-pub shape_of-bank1 : goal.shape_of-bank1
-shape_of-bank1 c = c.loop-k.invariant.2
-
-pub shape_of-buffer : goal.shape_of-buffer
-shape_of-buffer c = c.loop-k.invariant.3
-
 pub returns : goal.returns
 returns c =
-    let good = sym c.all_good.ensures ∙ not-false _ c.if-not-all_good.false-raw in
+    let good = sym c.all_good.ensures ∙ c.if-not-all_good.false in
     slots_taken_lem _ _ _ _ _ _ _ c.loop-k.client c.loop-k.told _ _ _ _ c.loop-k.k good c.fresh-client.ensures (search rules) c.loop-k.invariant.4

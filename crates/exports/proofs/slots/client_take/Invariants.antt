@@ -1,15 +1,11 @@
 -- `exports::slots::client_take` meets its contract: at each turn the first k slots are taken.
 -- Assumes nothing.
-use mathlib.Core.Path.{◌≡◌, refl, sym, ◌∙◌}
+use mathlib.Core.Path.{◌≡◌}
 use Prim.Native.Nat.{◌≤◌, ◌-◌}
-use native.Mathlib.Omega.{arith}
 use lib.ListN.{length}
-use borrow.Author.Rules.{rules}
-use borrow.Author.Tests.{not-true, not-false}
 use Rattle.layout.specs.Pair.{banks}
 use Rattle.calls.specs.Call.{board}
 use Rattle.exports.specs.Slots.{calls_of, ran, run_of}
-use Rattle.exports.proofs.Taking.{each_good, slots_all_good, an_address_each, none_taken, one-taken, slots_refused, slots_taken_lem}
 use Rattle.exports.proofs.slots.client_take.Given as goal
 
 abbrev pub invariant-loop-k : goal.invariant-loop-k

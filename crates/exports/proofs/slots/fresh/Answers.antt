@@ -3,7 +3,6 @@
 use mathlib.Core.Path.{ap, ◌∙◌}
 use Rattle.client.specs.declared.host.Hosted.{Hosted}
 use Rattle.client.specs.Host.{initiate_of}
-use borrow.Author.Rules.{rules}
 use Rattle.exports.proofs.slots.fresh.Goals as goal
 
 pub returns : goal.returns

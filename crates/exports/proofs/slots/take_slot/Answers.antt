@@ -1,8 +1,6 @@
 -- `exports::slots::take_slot` meets its contract: the part of the slots behind the length is the datagram, and a part of the addresses is its own.
 -- Assumes nothing.
 use Rattle.exports.proofs.Taking.{slot_stepped}
-use native.Mathlib.Omega.{arith}
-use borrow.Author.Rules.{rules}
 use Rattle.exports.proofs.slots.take_slot.Goals as goal
 
 pub returns : goal.returns

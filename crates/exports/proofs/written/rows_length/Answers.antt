@@ -2,7 +2,6 @@
 -- Assumes nothing.
 use mathlib.Core.Path.{ap, ◌∙◌}
 use Rattle.layout.specs.Said.{code}
-use borrow.Author.Rules.{rules}
 use Rattle.exports.proofs.written.rows_length.Goals as goal
 
 pub returns : goal.returns
