@@ -7,12 +7,13 @@ use client::host::{Hosted, Told};
 use client::record::Client;
 use layout::Bank;
 use script::{say, text};
+use std::env::Env;
 
-fn say_told(told: Told) {
+fn say_told(rt: &impl Env, told: Told) {
     if let Told::Done = told {
-        say::text(b"done\n");
+        say::text(rt, b"done\n");
     } else {
-        send::say_refused(client::host::told_number(told) as usize);
+        send::say_refused(rt, client::host::told_number(told) as usize);
     }
 }
 
@@ -22,6 +23,7 @@ fn bank_of(number: usize) -> Bank {
 
 // All of both banks of a new board is 0xFF.
 fn renew(
+    rt: &impl Env,
     bank0: &mut [u8],
     bank1: &mut [u8],
     n: usize,
@@ -35,12 +37,13 @@ fn renew(
     let hosted = Client::new(n, running, major, minor, revision);
     let told = hosted.told;
     let client = hosted.client;
-    say_told(told);
+    say_told(rt, told);
     state::fresh(client)
 }
 
 // The version's three fields, behind those on the banks.
 fn versioned(
+    rt: &impl Env,
     board: Board,
     bank0: &mut [u8],
     bank1: &mut [u8],
@@ -62,6 +65,7 @@ fn versioned(
         return state::kept(board, Wrong::Revision);
     }
     renew(
+        rt,
         bank0,
         bank1,
         n,
@@ -72,7 +76,7 @@ fn versioned(
     )
 }
 
-fn client(board: Board, bank0: &mut [u8], bank1: &mut [u8], fields: &[u8]) -> Board {
+fn client(rt: &impl Env, board: Board, bank0: &mut [u8], bank1: &mut [u8], fields: &[u8]) -> Board {
     let later = text::rest(fields);
     let n = text::decimal(text::first(fields), 6);
     let bank = text::decimal(text::first(later), 1);
@@ -82,35 +86,36 @@ fn client(board: Board, bank0: &mut [u8], bank1: &mut [u8], fields: &[u8]) -> Bo
     if bank > 1 {
         return state::kept(board, Wrong::Bank);
     }
-    versioned(board, bank0, bank1, n, bank_of(bank), text::rest(later))
+    versioned(rt, board, bank0, bank1, n, bank_of(bank), text::rest(later))
 }
 
-fn hosted(board: Board, hosted: Hosted) -> Board {
+fn hosted(rt: &impl Env, board: Board, hosted: Hosted) -> Board {
     let client = hosted.client;
     let told = hosted.told;
-    say_told(told);
+    say_told(rt, told);
     let mut b = board;
     b.client = client;
     b
 }
 
-fn initiate(board: Board, fields: &[u8]) -> Board {
+fn initiate(rt: &impl Env, board: Board, fields: &[u8]) -> Board {
     if fields.len() > 0 {
         return state::kept(board, Wrong::Fields);
     }
     let client = board.client;
-    hosted(board, client.initiate())
+    hosted(rt, board, client.initiate())
 }
 
-fn terminate(board: Board, fields: &[u8]) -> Board {
+fn terminate(rt: &impl Env, board: Board, fields: &[u8]) -> Board {
     if fields.len() > 0 {
         return state::kept(board, Wrong::Fields);
     }
     let client = board.client;
-    hosted(board, client.terminate())
+    hosted(rt, board, client.terminate())
 }
 
 pub(crate) fn run(
+    rt: &impl Env,
     board: Board,
     bank0: &mut [u8],
     bank1: &mut [u8],
@@ -118,9 +123,9 @@ pub(crate) fn run(
     fields: &[u8],
 ) -> Board {
     match call {
-        Call::Client => client(board, bank0, bank1, fields),
-        Call::Initiate => initiate(board, fields),
-        Call::Terminate => terminate(board, fields),
-        Call::Send => send::send(board, bank0, bank1, fields),
+        Call::Client => client(rt, board, bank0, bank1, fields),
+        Call::Initiate => initiate(rt, board, fields),
+        Call::Terminate => terminate(rt, board, fields),
+        Call::Send => send::send(rt, board, bank0, bank1, fields),
     }
 }

@@ -4,14 +4,22 @@ use crate::word::Word;
 use crate::wrong::Wrong;
 use crate::{calls, settings, shows, state, word, wrong};
 use script::text;
+use std::env::Env;
 
 // A field that is missing is empty, and no command has an empty field; one too many stands in the last field, with a blank that no
 // field has.
-fn run(board: Board, bank0: &mut [u8], bank1: &mut [u8], word: Word, fields: &[u8]) -> Board {
+fn run(
+    rt: &impl Env,
+    board: Board,
+    bank0: &mut [u8],
+    bank1: &mut [u8],
+    word: Word,
+    fields: &[u8],
+) -> Board {
     match word {
-        Word::Sets(setting) => settings::run(board, bank0, bank1, setting, fields),
-        Word::Calls(call) => calls::run(board, bank0, bank1, call, fields),
-        Word::Shows(show) => state::kept(board, shows::run(board, bank0, bank1, show, fields)),
+        Word::Sets(setting) => settings::run(rt, board, bank0, bank1, setting, fields),
+        Word::Calls(call) => calls::run(rt, board, bank0, bank1, call, fields),
+        Word::Shows(show) => state::kept(board, shows::run(rt, board, bank0, bank1, show, fields)),
         Word::Other => state::kept(board, Wrong::Command),
     }
 }
@@ -23,20 +31,28 @@ fn does_nothing(line: &[u8]) -> bool {
     line[0] == b'#'
 }
 
-pub(crate) fn too_long(board: Board, number: usize) -> Board {
-    wrong::say_too_long(number);
+pub(crate) fn too_long(rt: &impl Env, board: Board, number: usize) -> Board {
+    wrong::say_too_long(rt, number);
     state::ended(board)
 }
 
 // The empty field behind a blank at the line's end would pass for no field.
-fn known(board: Board, bank0: &mut [u8], bank1: &mut [u8], word: Word, line: &[u8]) -> Board {
+fn known(
+    rt: &impl Env,
+    board: Board,
+    bank0: &mut [u8],
+    bank1: &mut [u8],
+    word: Word,
+    line: &[u8],
+) -> Board {
     if text::ends_in_blank(line) {
         return state::kept(board, Wrong::Blank);
     }
-    run(board, bank0, bank1, word, text::rest(line))
+    run(rt, board, bank0, bank1, word, text::rest(line))
 }
 
 pub(crate) fn follow(
+    rt: &impl Env,
     board: Board,
     bank0: &mut [u8],
     bank1: &mut [u8],
@@ -47,8 +63,8 @@ pub(crate) fn follow(
         return board;
     }
     let word = word::word_of(text::first(line));
-    let after = known(board, bank0, bank1, word, line);
+    let after = known(rt, board, bank0, bank1, word, line);
     let wrong = after.wrong;
-    wrong::say(wrong, word, number, line);
+    wrong::say(rt, wrong, word, number, line);
     after
 }

@@ -8,57 +8,58 @@ use client::step::Stepped;
 use decision::plan::ADDRESS;
 use exchange::answer::{Answer, Refusal};
 use script::{say, text};
+use std::env::Env;
 
-pub(crate) fn say_refused(number: usize) {
-    say::refused(number);
-    say::end();
+pub(crate) fn say_refused(rt: &impl Env, number: usize) {
+    say::refused(rt, number);
+    say::end(rt);
 }
 
-fn say_code(kind: Kind) {
-    say::text(b" notice ");
-    say::pair(client::notice::notice_code(kind));
-    say::text(b" ");
+fn say_code(rt: &impl Env, kind: Kind) {
+    say::text(rt, b" notice ");
+    say::pair(rt, client::notice::notice_code(kind));
+    say::text(rt, b" ");
 }
 
-fn say_started(address: [u8; ADDRESS]) {
-    say_code(Kind::Started);
-    say::bytes(&address);
-    say::end();
+fn say_started(rt: &impl Env, address: [u8; ADDRESS]) {
+    say_code(rt, Kind::Started);
+    say::bytes(rt, &address);
+    say::end(rt);
 }
 
-fn say_ended(res: u8, address: [u8; ADDRESS]) {
-    say_code(Kind::Ended);
-    say::byte(res);
-    say::text(b" ");
-    say::bytes(&address);
-    say::end();
+fn say_ended(rt: &impl Env, res: u8, address: [u8; ADDRESS]) {
+    say_code(rt, Kind::Ended);
+    say::byte(rt, res);
+    say::text(rt, b" ");
+    say::bytes(rt, &address);
+    say::end(rt);
 }
 
-fn say_notice(notice: Notice) {
+fn say_notice(rt: &impl Env, notice: Notice) {
     let kind = notice.kind;
     let address = notice.address;
     match kind {
-        Kind::Nothing => say::end(),
-        Kind::Started => say_started(address),
-        Kind::Ended => say_ended(notice.result, address),
+        Kind::Nothing => say::end(rt),
+        Kind::Started => say_started(rt, address),
+        Kind::Ended => say_ended(rt, notice.result, address),
     }
 }
 
-fn say_refusal(refusal: Refusal) {
-    say_refused(exchange::answer::refusal_number(refusal) as usize);
+fn say_refusal(rt: &impl Env, refusal: Refusal) {
+    say_refused(rt, exchange::answer::refusal_number(refusal) as usize);
 }
 
-fn say_answered(bytes: &[u8], notice: Notice) {
-    say::text(b"answer ");
-    say::bytes(bytes);
-    say_notice(notice);
+fn say_answered(rt: &impl Env, bytes: &[u8], notice: Notice) {
+    say::text(rt, b"answer ");
+    say::bytes(rt, bytes);
+    say_notice(rt, notice);
 }
 
-fn say_answer(answer: Answer, bytes: &[u8], notice: Notice) {
+fn say_answer(rt: &impl Env, answer: Answer, bytes: &[u8], notice: Notice) {
     if let Answer::Refused(refusal) = answer {
-        say_refusal(refusal);
+        say_refusal(rt, refusal);
     } else {
-        say_answered(bytes, notice);
+        say_answered(rt, bytes, notice);
     }
 }
 
@@ -72,11 +73,16 @@ fn latest(answer: Answer, count: usize, former: usize) -> usize {
 }
 
 // The answer is shown as it stands in the buffer.
-fn answered(board: Board, stepped: Stepped, buffer: [u8; state::BUFFER_ROOM]) -> Board {
+fn answered(
+    rt: &impl Env,
+    board: Board,
+    stepped: Stepped,
+    buffer: [u8; state::BUFFER_ROOM],
+) -> Board {
     let client = stepped.client;
     let answer = stepped.answer;
     let notice = stepped.notice;
-    say_answer(answer, state::front(&buffer, stepped.length), notice);
+    say_answer(rt, answer, state::front(&buffer, stepped.length), notice);
     let mut b = board;
     b.client = client;
     b.buffer = buffer;
@@ -100,6 +106,7 @@ fn step(
 }
 
 fn with_buffer(
+    rt: &impl Env,
     board: Board,
     bank0: &mut [u8],
     bank1: &mut [u8],
@@ -119,10 +126,11 @@ fn with_buffer(
         board.buffer_lent,
         datagram,
     );
-    answered(board, stepped, buffer)
+    answered(rt, board, stepped, buffer)
 }
 
 fn with_address(
+    rt: &impl Env,
     board: Board,
     bank0: &mut [u8],
     bank1: &mut [u8],
@@ -132,28 +140,52 @@ fn with_address(
     let lent = board.address_lent;
     let address = board.address;
     let count = io::count(lent as isize, &address);
-    with_buffer(board, bank0, bank1, marks, &address[..count], datagram)
+    with_buffer(rt, board, bank0, bank1, marks, &address[..count], datagram)
 }
 
-fn with_marks(board: Board, bank0: &mut [u8], bank1: &mut [u8], datagram: &[u8]) -> Board {
+fn with_marks(
+    rt: &impl Env,
+    board: Board,
+    bank0: &mut [u8],
+    bank1: &mut [u8],
+    datagram: &[u8],
+) -> Board {
     let lent = board.marks_lent;
     let marks = board.marks;
     let count = io::count(lent as isize, &marks);
-    with_address(board, bank0, bank1, &marks[..count], datagram)
+    with_address(rt, board, bank0, bank1, &marks[..count], datagram)
 }
 
-fn with_banks(board: Board, bank0: &mut [u8], bank1: &mut [u8], datagram: &[u8]) -> Board {
+fn with_banks(
+    rt: &impl Env,
+    board: Board,
+    bank0: &mut [u8],
+    bank1: &mut [u8],
+    datagram: &[u8],
+) -> Board {
     let lent0 = io::count(board.bank0 as isize, bank0);
     let lent1 = io::count(board.bank1 as isize, bank1);
-    with_marks(board, &mut bank0[..lent0], &mut bank1[..lent1], datagram)
+    with_marks(
+        rt,
+        board,
+        &mut bank0[..lent0],
+        &mut bank1[..lent1],
+        datagram,
+    )
 }
 
-pub(crate) fn send(board: Board, bank0: &mut [u8], bank1: &mut [u8], fields: &[u8]) -> Board {
+pub(crate) fn send(
+    rt: &impl Env,
+    board: Board,
+    bank0: &mut [u8],
+    bank1: &mut [u8],
+    fields: &[u8],
+) -> Board {
     let mut datagram = [0u8; 2048];
     let got = text::bytes(fields, &mut datagram);
     if got < 0 {
         return state::kept(board, Wrong::Bytes);
     }
     let count = io::count(got, &datagram);
-    with_banks(board, bank0, bank1, &datagram[..count])
+    with_banks(rt, board, bank0, bank1, &datagram[..count])
 }

@@ -6,6 +6,7 @@ use crate::state::Board;
 use crate::word::Setting;
 use crate::wrong::Wrong;
 use script::{say, text};
+use std::env::Env;
 
 fn lend_bank(board: Board, bank: usize, count: u32) -> Board {
     let mut b = board;
@@ -17,7 +18,7 @@ fn lend_bank(board: Board, bank: usize, count: u32) -> Board {
     b
 }
 
-fn bank(board: Board, fields: &[u8]) -> Board {
+fn bank(rt: &impl Env, board: Board, fields: &[u8]) -> Board {
     let bank = text::decimal(text::first(fields), 1);
     let count = text::decimal(text::rest(fields), 6);
     if bank > 1 {
@@ -26,14 +27,14 @@ fn bank(board: Board, fields: &[u8]) -> Board {
     if count > state::BANK_ROOM {
         return state::kept(board, Wrong::Length(state::BANK_ROOM));
     }
-    say::text(b"bank");
-    say::field(bank);
-    say::field(count);
-    say::end();
+    say::text(rt, b"bank");
+    say::field(rt, bank);
+    say::field(rt, count);
+    say::end(rt);
     lend_bank(board, bank, count as u32)
 }
 
-fn fill(bank0: &mut [u8], bank1: &mut [u8], fields: &[u8]) -> Wrong {
+fn fill(rt: &impl Env, bank0: &mut [u8], bank1: &mut [u8], fields: &[u8]) -> Wrong {
     let bank = text::decimal(text::first(fields), 1);
     let byte = text::number(text::rest(fields), 2);
     if bank > 1 {
@@ -42,11 +43,11 @@ fn fill(bank0: &mut [u8], bank1: &mut [u8], fields: &[u8]) -> Wrong {
     if byte > 255 {
         return Wrong::Byte;
     }
-    say::text(b"fill");
-    say::field(bank);
-    say::text(b" ");
-    say::byte(byte as u8);
-    say::end();
+    say::text(rt, b"fill");
+    say::field(rt, bank);
+    say::text(rt, b" ");
+    say::byte(rt, byte as u8);
+    say::end(rt);
     if bank == 0 {
         buffer::fill::fill(bank0, byte as u8);
     } else {
@@ -56,7 +57,7 @@ fn fill(bank0: &mut [u8], bank1: &mut [u8], fields: &[u8]) -> Wrong {
 }
 
 // The bytes that `digits` spells, to a bank's room from `offset` on.
-fn put_in(room: &mut [u8], bank: usize, offset: usize, digits: &[u8]) -> Wrong {
+fn put_in(rt: &impl Env, room: &mut [u8], bank: usize, offset: usize, digits: &[u8]) -> Wrong {
     if offset > room.len() {
         return Wrong::Offset;
     }
@@ -64,35 +65,35 @@ fn put_in(room: &mut [u8], bank: usize, offset: usize, digits: &[u8]) -> Wrong {
     if got < 0 {
         return Wrong::Bytes;
     }
-    say::text(b"put");
-    say::field(bank);
-    say::field(offset);
-    say::field(io::count(got, room));
-    say::end();
+    say::text(rt, b"put");
+    say::field(rt, bank);
+    say::field(rt, offset);
+    say::field(rt, io::count(got, room));
+    say::end(rt);
     Wrong::Nothing
 }
 
-fn put(bank0: &mut [u8], bank1: &mut [u8], fields: &[u8]) -> Wrong {
+fn put(rt: &impl Env, bank0: &mut [u8], bank1: &mut [u8], fields: &[u8]) -> Wrong {
     let bank = text::decimal(text::first(fields), 1);
     let later = text::rest(fields);
     let offset = text::decimal(text::first(later), 6);
     if bank == 0 {
-        return put_in(bank0, bank, offset, text::rest(later));
+        return put_in(rt, bank0, bank, offset, text::rest(later));
     }
     if bank == 1 {
-        return put_in(bank1, bank, offset, text::rest(later));
+        return put_in(rt, bank1, bank, offset, text::rest(later));
     }
     Wrong::Bank
 }
 
-fn marks(board: Board, fields: &[u8]) -> Board {
+fn marks(rt: &impl Env, board: Board, fields: &[u8]) -> Board {
     let count = text::decimal(fields, 6);
     if count > state::MARKS_ROOM {
         return state::kept(board, Wrong::Length(state::MARKS_ROOM));
     }
-    say::text(b"marks");
-    say::field(count);
-    say::end();
+    say::text(rt, b"marks");
+    say::field(rt, count);
+    say::end(rt);
     let mut b = board;
     b.marks = [0u8; state::MARKS_ROOM];
     b.marks_lent = count as u32;
@@ -108,7 +109,7 @@ fn set_mark(board: Board, sector: usize, byte: u8) -> Board
     b
 }
 
-fn mark(board: Board, fields: &[u8]) -> Board {
+fn mark(rt: &impl Env, board: Board, fields: &[u8]) -> Board {
     let sector = text::decimal(text::first(fields), 6);
     let byte = text::number(text::rest(fields), 2);
     if sector < 1 {
@@ -120,31 +121,31 @@ fn mark(board: Board, fields: &[u8]) -> Board {
     if byte > 255 {
         return state::kept(board, Wrong::Byte);
     }
-    say::text(b"mark");
-    say::field(sector);
-    say::text(b" ");
-    say::byte(byte as u8);
-    say::end();
+    say::text(rt, b"mark");
+    say::field(rt, sector);
+    say::text(rt, b" ");
+    say::byte(rt, byte as u8);
+    say::end(rt);
     set_mark(board, sector, byte as u8)
 }
 
-fn address(board: Board, fields: &[u8]) -> Board {
+fn address(rt: &impl Env, board: Board, fields: &[u8]) -> Board {
     let mut address = board.address;
     let got = text::bytes(fields, &mut address);
     if got < 0 {
         return state::kept(board, Wrong::Bytes);
     }
     let count = io::count(got, &address);
-    say::text(b"address");
-    say::field(count);
-    say::end();
+    say::text(rt, b"address");
+    say::field(rt, count);
+    say::end(rt);
     let mut b = board;
     b.address = address;
     b.address_lent = count as u32;
     b
 }
 
-fn buffer(board: Board, fields: &[u8]) -> Board {
+fn buffer(rt: &impl Env, board: Board, fields: &[u8]) -> Board {
     let count = text::decimal(text::first(fields), 6);
     let byte = text::number(text::rest(fields), 2);
     if count > state::BUFFER_ROOM {
@@ -153,9 +154,9 @@ fn buffer(board: Board, fields: &[u8]) -> Board {
     if byte > 255 {
         return state::kept(board, Wrong::Byte);
     }
-    say::text(b"buffer");
-    say::field(count);
-    say::end();
+    say::text(rt, b"buffer");
+    say::field(rt, count);
+    say::end(rt);
     let mut b = board;
     b.buffer = [byte as u8; state::BUFFER_ROOM];
     b.buffer_lent = count as u32;
@@ -164,6 +165,7 @@ fn buffer(board: Board, fields: &[u8]) -> Board {
 }
 
 pub(crate) fn run(
+    rt: &impl Env,
     board: Board,
     bank0: &mut [u8],
     bank1: &mut [u8],
@@ -171,12 +173,12 @@ pub(crate) fn run(
     fields: &[u8],
 ) -> Board {
     match setting {
-        Setting::Bank => bank(board, fields),
-        Setting::Fill => state::kept(board, fill(bank0, bank1, fields)),
-        Setting::Put => state::kept(board, put(bank0, bank1, fields)),
-        Setting::Marks => marks(board, fields),
-        Setting::Mark => mark(board, fields),
-        Setting::Address => address(board, fields),
-        Setting::Buffer => buffer(board, fields),
+        Setting::Bank => bank(rt, board, fields),
+        Setting::Fill => state::kept(board, fill(rt, bank0, bank1, fields)),
+        Setting::Put => state::kept(board, put(rt, bank0, bank1, fields)),
+        Setting::Marks => marks(rt, board, fields),
+        Setting::Mark => mark(rt, board, fields),
+        Setting::Address => address(rt, board, fields),
+        Setting::Buffer => buffer(rt, board, fields),
     }
 }

@@ -8,16 +8,17 @@ use decision::plan::ADDRESS;
 use exchange::state::State;
 use layout::{Bank, MOST};
 use script::{say, text};
+use std::env::Env;
 
 // How many bytes these are, and their CRC-32.
-fn say_sum(bytes: &[u8]) {
-    say::field(bytes.len());
-    say::text(b" ");
-    say::quad(crc::crc32(bytes));
-    say::end();
+fn say_sum(rt: &impl Env, bytes: &[u8]) {
+    say::field(rt, bytes.len());
+    say::text(rt, b" ");
+    say::quad(rt, crc::crc32(bytes));
+    say::end(rt);
 }
 
-fn body<'a>(board: Board, bank0: &'a [u8], bank1: &'a [u8], fields: &[u8]) -> Wrong {
+fn body<'a>(rt: &impl Env, board: Board, bank0: &'a [u8], bank1: &'a [u8], fields: &[u8]) -> Wrong {
     let i = text::decimal(fields, 6);
     if i > text::LARGEST_NUMBER {
         return Wrong::Index;
@@ -25,74 +26,74 @@ fn body<'a>(board: Board, bank0: &'a [u8], bank1: &'a [u8], fields: &[u8]) -> Wr
     let client = board.client;
     let lent0 = state::front(bank0, board.bank0 as usize);
     let lent1 = state::front(bank1, board.bank1 as usize);
-    say::text(b"body");
-    say_sum(client.body(lent0, lent1, i));
+    say::text(rt, b"body");
+    say_sum(rt, client.body(lent0, lent1, i));
     Wrong::Nothing
 }
 
-fn say_state(state: State) {
+fn say_state(rt: &impl Env, state: State) {
     match state {
-        State::Closed => say::text(b" closed"),
-        State::Idle => say::text(b" idle"),
-        State::Control => say::text(b" control"),
-        State::Write => say::text(b" write"),
+        State::Closed => say::text(rt, b" closed"),
+        State::Idle => say::text(rt, b" idle"),
+        State::Control => say::text(rt, b" control"),
+        State::Write => say::text(rt, b" write"),
     }
 }
 
-fn say_latest(latest: Latest) {
+fn say_latest(rt: &impl Env, latest: Latest) {
     match latest {
-        Latest::Nothing => say::text(b" nothing"),
-        Latest::Good => say::text(b" good"),
-        Latest::Otherwise => say::text(b" otherwise"),
+        Latest::Nothing => say::text(rt, b" nothing"),
+        Latest::Good => say::text(rt, b" good"),
+        Latest::Otherwise => say::text(rt, b" otherwise"),
     }
 }
 
 // The address that opened the mode, while one is open.
-fn say_opener(state: State, opener: [u8; ADDRESS]) {
-    say::text(b" ");
+fn say_opener(rt: &impl Env, state: State, opener: [u8; ADDRESS]) {
+    say::text(rt, b" ");
     if exchange::state::is_open(state) {
-        say::bytes(&opener);
+        say::bytes(rt, &opener);
     } else {
-        say::text(b"-");
+        say::text(rt, b"-");
     }
 }
 
-fn say_bank(bank: Bank) {
-    say::field(layout::bank_number(bank) as usize);
+fn say_bank(rt: &impl Env, bank: Bank) {
+    say::field(rt, layout::bank_number(bank) as usize);
 }
 
-fn say_version(major: u8, minor: u8, revision: u32) {
-    say::field(major as usize);
-    say::field(minor as usize);
-    say::field(revision as usize);
+fn say_version(rt: &impl Env, major: u8, minor: u8, revision: u32) {
+    say::field(rt, major as usize);
+    say::field(rt, minor as usize);
+    say::field(rt, revision as usize);
 }
 
 // One sector more of the list, where it was received; whether the list now has one.
-fn say_sector(received: bool, sector: usize, begun: bool) -> bool {
+fn say_sector(rt: &impl Env, received: bool, sector: usize, begun: bool) -> bool {
     if !received {
         return begun;
     }
     if begun {
-        say::text(b",");
+        say::text(rt, b",");
     }
-    say::decimal(sector);
+    say::decimal(rt, sector);
     true
 }
 
-fn say_received(received: [bool; MOST]) {
+fn say_received(rt: &impl Env, received: [bool; MOST]) {
     let mut begun = false;
     let mut i = 0;
     while i < MOST {
-        begun = say_sector(received[i], i + 1, begun);
+        begun = say_sector(rt, received[i], i + 1, begun);
         i += 1;
     }
     if !begun {
-        say::text(b"-");
+        say::text(rt, b"-");
     }
-    say::end();
+    say::end(rt);
 }
 
-fn say_record(client: Client) {
+fn say_record(rt: &impl Env, client: Client) {
     let fixed = client.fixed;
     let running = fixed.running;
     let next = client.next;
@@ -100,47 +101,47 @@ fn say_record(client: Client) {
     let latest = client.latest;
     let opener = client.opener;
     let received = client.received;
-    say::text(b"record");
-    say::field(fixed.n);
-    say_bank(running);
-    say_bank(next);
-    say_state(state);
-    say_latest(latest);
-    say_opener(state, opener);
-    say_version(fixed.major, fixed.minor, fixed.revision);
-    say::text(b" ");
-    say_received(received);
+    say::text(rt, b"record");
+    say::field(rt, fixed.n);
+    say_bank(rt, running);
+    say_bank(rt, next);
+    say_state(rt, state);
+    say_latest(rt, latest);
+    say_opener(rt, state, opener);
+    say_version(rt, fixed.major, fixed.minor, fixed.revision);
+    say::text(rt, b" ");
+    say_received(rt, received);
 }
 
-fn record(board: Board, fields: &[u8]) -> Wrong {
+fn record(rt: &impl Env, board: Board, fields: &[u8]) -> Wrong {
     if fields.len() > 0 {
         return Wrong::Fields;
     }
     let client = board.client;
-    say_record(client);
+    say_record(rt, client);
     Wrong::Nothing
 }
 
-fn say_crc(bank: usize, bytes: &[u8]) {
-    say::text(b"crc");
-    say::field(bank);
-    say_sum(bytes);
+fn say_crc(rt: &impl Env, bank: usize, bytes: &[u8]) {
+    say::text(rt, b"crc");
+    say::field(rt, bank);
+    say_sum(rt, bytes);
 }
 
-fn crc(board: Board, bank0: &[u8], bank1: &[u8], fields: &[u8]) -> Wrong {
+fn crc(rt: &impl Env, board: Board, bank0: &[u8], bank1: &[u8], fields: &[u8]) -> Wrong {
     let bank = text::decimal(fields, 1);
     if bank == 0 {
-        say_crc(bank, state::front(bank0, board.bank0 as usize));
+        say_crc(rt, bank, state::front(bank0, board.bank0 as usize));
         return Wrong::Nothing;
     }
     if bank == 1 {
-        say_crc(bank, state::front(bank1, board.bank1 as usize));
+        say_crc(rt, bank, state::front(bank1, board.bank1 as usize));
         return Wrong::Nothing;
     }
     Wrong::Bank
 }
 
-fn show_of(room: &[u8], offset: usize, count: usize) -> Wrong {
+fn show_of(rt: &impl Env, room: &[u8], offset: usize, count: usize) -> Wrong {
     if offset > room.len() {
         return Wrong::Offset;
     }
@@ -148,22 +149,22 @@ fn show_of(room: &[u8], offset: usize, count: usize) -> Wrong {
         return Wrong::Within;
     }
     let end = offset + count;
-    say::text(b"show ");
-    say::bytes(&room[offset..end]);
-    say::end();
+    say::text(rt, b"show ");
+    say::bytes(rt, &room[offset..end]);
+    say::end(rt);
     Wrong::Nothing
 }
 
-fn show(bank0: &[u8], bank1: &[u8], fields: &[u8]) -> Wrong {
+fn show(rt: &impl Env, bank0: &[u8], bank1: &[u8], fields: &[u8]) -> Wrong {
     let bank = text::decimal(text::first(fields), 1);
     let later = text::rest(fields);
     let offset = text::decimal(text::first(later), 6);
     let count = text::decimal(text::rest(later), 6);
     if bank == 0 {
-        return show_of(bank0, offset, count);
+        return show_of(rt, bank0, offset, count);
     }
     if bank == 1 {
-        return show_of(bank1, offset, count);
+        return show_of(rt, bank1, offset, count);
     }
     Wrong::Bank
 }
@@ -177,21 +178,25 @@ fn behind(lent: &[u8], answered: usize) -> &[u8] {
     }
 }
 
-fn rest(board: Board, fields: &[u8]) -> Wrong {
+fn rest(rt: &impl Env, board: Board, fields: &[u8]) -> Wrong {
     if fields.len() > 0 {
         return Wrong::Fields;
     }
     let buffer = board.buffer;
-    say::text(b"rest ");
-    say::bytes(behind(
-        state::front(&buffer, board.buffer_lent as usize),
-        board.answered,
-    ));
-    say::end();
+    say::text(rt, b"rest ");
+    say::bytes(
+        rt,
+        behind(
+            state::front(&buffer, board.buffer_lent as usize),
+            board.answered,
+        ),
+    );
+    say::end(rt);
     Wrong::Nothing
 }
 
 pub(crate) fn run<'a>(
+    rt: &impl Env,
     board: Board,
     bank0: &'a [u8],
     bank1: &'a [u8],
@@ -199,10 +204,10 @@ pub(crate) fn run<'a>(
     fields: &[u8],
 ) -> Wrong {
     match asked {
-        Show::Body => body(board, bank0, bank1, fields),
-        Show::Record => record(board, fields),
-        Show::Crc => crc(board, bank0, bank1, fields),
-        Show::Show => show(bank0, bank1, fields),
-        Show::Rest => rest(board, fields),
+        Show::Body => body(rt, board, bank0, bank1, fields),
+        Show::Record => record(rt, board, fields),
+        Show::Crc => crc(rt, board, bank0, bank1, fields),
+        Show::Show => show(rt, bank0, bank1, fields),
+        Show::Rest => rest(rt, board, fields),
     }
 }

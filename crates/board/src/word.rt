@@ -1,7 +1,8 @@
 // The words that a command begins with, and what each takes.
 use script::say;
+use std::env::Env;
 
-#[derive(Drop)]
+#[derive(Clone, Copy)]
 pub enum Setting {
     Bank,
     Fill,
@@ -12,7 +13,7 @@ pub enum Setting {
     Buffer,
 }
 
-#[derive(Drop)]
+#[derive(Clone, Copy)]
 pub enum Call {
     Client,
     Initiate,
@@ -20,7 +21,7 @@ pub enum Call {
     Send,
 }
 
-#[derive(Drop)]
+#[derive(Clone, Copy)]
 pub enum Show {
     Body,
     Record,
@@ -29,7 +30,7 @@ pub enum Show {
     Rest,
 }
 
-#[derive(Drop)]
+#[derive(Clone, Copy)]
 pub enum Word {
     Sets(Setting),
     Calls(Call),
@@ -101,42 +102,42 @@ pub(crate) fn word_of(word: &[u8]) -> Word {
     setting_of(word)
 }
 
-fn setting_takes(setting: Setting) {
+fn setting_takes(rt: &impl Env, setting: Setting) {
     match setting {
-        Setting::Bank => say::text(b"bank takes BANK LENGTH"),
-        Setting::Fill => say::text(b"fill takes BANK BYTE"),
-        Setting::Put => say::text(b"put takes BANK OFFSET BYTES"),
-        Setting::Marks => say::text(b"marks takes LENGTH"),
-        Setting::Mark => say::text(b"mark takes SECTOR BYTE"),
-        Setting::Address => say::text(b"address takes BYTES"),
-        Setting::Buffer => say::text(b"buffer takes LENGTH BYTE"),
+        Setting::Bank => say::text(rt, b"bank takes BANK LENGTH"),
+        Setting::Fill => say::text(rt, b"fill takes BANK BYTE"),
+        Setting::Put => say::text(rt, b"put takes BANK OFFSET BYTES"),
+        Setting::Marks => say::text(rt, b"marks takes LENGTH"),
+        Setting::Mark => say::text(rt, b"mark takes SECTOR BYTE"),
+        Setting::Address => say::text(rt, b"address takes BYTES"),
+        Setting::Buffer => say::text(rt, b"buffer takes LENGTH BYTE"),
     }
 }
 
-fn call_takes(call: Call) {
+fn call_takes(rt: &impl Env, call: Call) {
     match call {
-        Call::Client => say::text(b"client takes N BANK MAJOR MINOR REVISION"),
-        Call::Initiate => say::text(b"initiate takes nothing"),
-        Call::Terminate => say::text(b"terminate takes nothing"),
-        Call::Send => say::text(b"send takes BYTES"),
+        Call::Client => say::text(rt, b"client takes N BANK MAJOR MINOR REVISION"),
+        Call::Initiate => say::text(rt, b"initiate takes nothing"),
+        Call::Terminate => say::text(rt, b"terminate takes nothing"),
+        Call::Send => say::text(rt, b"send takes BYTES"),
     }
 }
 
-fn show_takes(show: Show) {
+fn show_takes(rt: &impl Env, show: Show) {
     match show {
-        Show::Body => say::text(b"body takes I"),
-        Show::Record => say::text(b"record takes nothing"),
-        Show::Crc => say::text(b"crc takes BANK"),
-        Show::Show => say::text(b"show takes BANK OFFSET LENGTH"),
-        Show::Rest => say::text(b"rest takes nothing"),
+        Show::Body => say::text(rt, b"body takes I"),
+        Show::Record => say::text(rt, b"record takes nothing"),
+        Show::Crc => say::text(rt, b"crc takes BANK"),
+        Show::Show => say::text(rt, b"show takes BANK OFFSET LENGTH"),
+        Show::Rest => say::text(rt, b"rest takes nothing"),
     }
 }
 
-pub(crate) fn say_takes(word: Word) {
+pub(crate) fn say_takes(rt: &impl Env, word: Word) {
     match word {
-        Word::Sets(setting) => setting_takes(setting),
-        Word::Calls(call) => call_takes(call),
-        Word::Shows(show) => show_takes(show),
-        Word::Other => say::text(b"no such command"),
+        Word::Sets(setting) => setting_takes(rt, setting),
+        Word::Calls(call) => call_takes(rt, call),
+        Word::Shows(show) => show_takes(rt, show),
+        Word::Other => say::text(rt, b"no such command"),
     }
 }

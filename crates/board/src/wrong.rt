@@ -2,8 +2,9 @@
 use crate::word::Word;
 use crate::{state, word};
 use script::{call, say, text};
+use std::env::Env;
 
-#[derive(Drop)]
+#[derive(Clone, Copy)]
 pub enum Wrong {
     Nothing,
     // There is no such command.
@@ -36,13 +37,13 @@ pub(crate) fn is_nothing(wrong: Wrong) -> bool {
     }
 }
 
-fn say_range(name: &[u8], least: usize, most: usize) {
-    say::text(b"; ");
-    say::text(name);
-    say::text(b" is");
-    say::field(least);
-    say::text(b" to");
-    say::field(most);
+fn say_range(rt: &impl Env, name: &[u8], least: usize, most: usize) {
+    say::text(rt, b"; ");
+    say::text(rt, name);
+    say::text(rt, b" is");
+    say::field(rt, least);
+    say::text(rt, b" to");
+    say::field(rt, most);
 }
 
 // Whether each byte is one of ASCII's that show, a blank too.
@@ -63,72 +64,73 @@ fn printable(line: &[u8]) -> bool {
 const LONGEST_QUOTE: isize = 80;
 
 // What is no command may be the refusal of a program that wrote into the pipe, which is seen nowhere else.
-fn say_quoted(line: &[u8]) {
+fn say_quoted(rt: &impl Env, line: &[u8]) {
     if printable(line) {
         let end = io::count(LONGEST_QUOTE, line);
-        say::text(b": ");
-        say::text(&line[..end]);
+        say::text(rt, b": ");
+        say::text(rt, &line[..end]);
     }
 }
 
-fn say_field(wrong: Wrong, line: &[u8]) {
+fn say_field(rt: &impl Env, wrong: Wrong, line: &[u8]) {
     match wrong {
         Wrong::Nothing => (),
-        Wrong::Command => say_quoted(line),
+        Wrong::Command => say_quoted(rt, line),
         Wrong::Fields => (),
         Wrong::Blank => (),
-        Wrong::N => say_range(b"N", 0, text::LARGEST_NUMBER),
-        Wrong::Bank => say_range(b"BANK", 0, 1),
-        Wrong::Major => say_range(b"MAJOR", 0, 255),
-        Wrong::Minor => say_range(b"MINOR", 0, 255),
-        Wrong::Revision => say_range(b"REVISION", 0, 0xFFFF_FFFF),
-        Wrong::Length(most) => say_range(b"LENGTH", 0, most),
-        Wrong::Offset => say_range(b"OFFSET", 0, state::BANK_ROOM),
-        Wrong::Within => say::text(b"; OFFSET and LENGTH stay within 252416 bytes"),
-        Wrong::Sector => say_range(b"SECTOR", 1, state::MARKS_ROOM),
-        Wrong::Index => say_range(b"I", 0, text::LARGEST_NUMBER),
-        Wrong::Byte => say::text(b"; BYTE is two hex digits"),
+        Wrong::N => say_range(rt, b"N", 0, text::LARGEST_NUMBER),
+        Wrong::Bank => say_range(rt, b"BANK", 0, 1),
+        Wrong::Major => say_range(rt, b"MAJOR", 0, 255),
+        Wrong::Minor => say_range(rt, b"MINOR", 0, 255),
+        Wrong::Revision => say_range(rt, b"REVISION", 0, 0xFFFF_FFFF),
+        Wrong::Length(most) => say_range(rt, b"LENGTH", 0, most),
+        Wrong::Offset => say_range(rt, b"OFFSET", 0, state::BANK_ROOM),
+        Wrong::Within => say::text(rt, b"; OFFSET and LENGTH stay within 252416 bytes"),
+        Wrong::Sector => say_range(rt, b"SECTOR", 1, state::MARKS_ROOM),
+        Wrong::Index => say_range(rt, b"I", 0, text::LARGEST_NUMBER),
+        Wrong::Byte => say::text(rt, b"; BYTE is two hex digits"),
         Wrong::Bytes => say::text(
+            rt,
             b"; BYTES is two hex digits for each byte, - for none, and has to fit",
         ),
     }
 }
 
-fn say_line(number: usize) {
-    say::text(b"line ");
-    say::decimal(number);
-    say::text(b": ");
+fn say_line(rt: &impl Env, number: usize) {
+    say::text(rt, b"line ");
+    say::decimal(rt, number);
+    say::text(rt, b": ");
 }
 
 // The script ends there, so this is told as a refusal.
-fn say_end() {
-    say::end();
-    call::refused();
+fn say_end(rt: &impl Env) {
+    say::end(rt);
+    call::refused(rt);
 }
 
-pub(crate) fn say_too_long(number: usize) {
-    say_line(number);
-    say::text(b"too long");
-    say_end();
+pub(crate) fn say_too_long(rt: &impl Env, number: usize) {
+    say_line(rt, number);
+    say::text(rt, b"too long");
+    say_end(rt);
 }
 
-fn say_blank(number: usize) {
-    say_line(number);
-    say::text(b"a blank at its end");
-    say_end();
+fn say_blank(rt: &impl Env, number: usize) {
+    say_line(rt, number);
+    say::text(rt, b"a blank at its end");
+    say_end(rt);
 }
 
-fn say_taken(wrong: Wrong, word: Word, number: usize, line: &[u8]) {
-    say_line(number);
-    word::say_takes(word);
-    say_field(wrong, line);
-    say_end();
+fn say_taken(rt: &impl Env, wrong: Wrong, word: Word, number: usize, line: &[u8]) {
+    say_line(rt, number);
+    word::say_takes(rt, word);
+    say_field(rt, wrong, line);
+    say_end(rt);
 }
 
-pub(crate) fn say(wrong: Wrong, word: Word, number: usize, line: &[u8]) {
+pub(crate) fn say(rt: &impl Env, wrong: Wrong, word: Word, number: usize, line: &[u8]) {
     match wrong {
         Wrong::Nothing => (),
-        Wrong::Blank => say_blank(number),
-        other => say_taken(other, word, number, line),
+        Wrong::Blank => say_blank(rt, number),
+        other => say_taken(rt, other, word, number, line),
     }
 }

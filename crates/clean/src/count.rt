@@ -9,7 +9,7 @@ use bank::gaps::Gaps;
 use layout::{MOST, SECTOR};
 
 // What the first bytes of a bank have shown.
-#[derive(Drop)]
+#[derive(Clone, Copy)]
 pub(crate) struct Seen {
     // How many runs they have.
     pub runs: usize,

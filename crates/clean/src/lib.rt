@@ -19,7 +19,7 @@ use layout::{MOST, SECTOR};
 pub const MOST_RUNS: usize = MOST * SECTOR / 2;
 
 // What comes back of a bank.
-#[derive(Drop)]
+#[derive(Clone, Copy)]
 pub enum Cleaned {
     // The length is no bank's.
     BadLength,

@@ -10,7 +10,7 @@ use bank::gaps::Gaps;
 use layout::SECTOR;
 
 // What is listed behind some bytes.
-#[derive(Drop)]
+#[derive(Clone, Copy)]
 pub(crate) struct Progress {
     // How many runs.
     pub runs: usize,

@@ -12,7 +12,7 @@ use decision::plan::{Fixed, Plan};
 use exchange::answer::Answer;
 use exchange::state::State;
 
-#[derive(Drop)]
+#[derive(Clone, Copy)]
 pub(crate) struct Served {
     pub client: Client,
     pub answer: Answer,

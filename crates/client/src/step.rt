@@ -9,7 +9,7 @@ use decision::plan::Plan;
 use exchange::answer::{Answer, Refusal};
 use layout::Bank;
 
-#[derive(Drop)]
+#[derive(Clone, Copy)]
 pub struct Stepped {
     pub client: Client,
     pub answer: Answer,

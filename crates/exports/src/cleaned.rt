@@ -5,7 +5,7 @@ ghost use Rattle.exports.specs.Cleaned.{runs_told, sectors_told, IsCleanNumbers}
 use clean::Cleaned;
 
 // How many of each, none where it is refused.
-#[derive(Drop)]
+#[derive(Clone, Copy)]
 struct Counts {
     runs: usize,
     sectors: usize,

@@ -8,7 +8,7 @@ use hex_text::read::Answer;
 use layout::Bank;
 
 // Where a text is at fault, both counted from 1; 0 where it is not.
-#[derive(Drop)]
+#[derive(Clone, Copy)]
 struct Place {
     line: usize,
     byte: usize,

@@ -8,7 +8,7 @@ ghost use Rattle.flash.specs.Sector.{padded_of, stored_in};
 pub const WORD: usize = 4;
 
 // What changes a sector: all of it is erased, or a word, high byte first, is stored from an index on.
-#[derive(Drop)]
+#[derive(Clone, Copy)]
 pub enum Store {
     Erase,
     Word { at: usize, word: u32 },

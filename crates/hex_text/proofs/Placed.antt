@@ -5,7 +5,7 @@ use native.Mathlib.Decide.{dec_lt}
 use lib.ListN.{get_or-eq_default}
 use Rattle.buffer.proofs.Bools.{and_false, no_way}
 use Rattle.digits.specs.Digit.{value_of, is_digit}
-use Rattle.hex_text.specs.Spell.{byte_of, digit_bytes}
+use Rattle.hex_text.specs.Spell.{digit_bytes}
 use Rattle.hex_text.specs.Record.{Whole, Broken, digits_in, digits_due, digits_whole, record_of}
 use Rattle.hex_text.specs.Places.{pair_at, Placed}
 use Rattle.hex_text.proofs.Pairs.{pair_none, pair_small}

@@ -2,7 +2,7 @@
 ghost use Rattle.hex_text.specs.Read.{IsKindNumber};
 
 // The fault of a line, by the paper's letters.
-#[derive(Drop)]
+#[derive(Clone, Copy)]
 pub enum Kind {
     H1,
     H2,
@@ -26,7 +26,7 @@ pub fn kind_number(kind: Kind) -> u8
 }
 
 // The first faulty line, its fault, and the byte in the line at which it stands; line and byte are counted from 1.
-#[derive(Drop)]
+#[derive(Clone, Copy)]
 pub struct Refusal {
     pub kind: Kind,
     pub line: usize,

@@ -10,7 +10,7 @@ use layout::Bank;
 use lines::line::Ahead;
 
 // What comes back of a text.
-#[derive(Drop)]
+#[derive(Clone, Copy)]
 pub enum Answer {
     // The number of sectors is no bank's.
     BadN,
@@ -36,14 +36,14 @@ pub fn answer_number(answer: Answer) -> usize
 }
 
 // What came of the lines.
-#[derive(Drop)]
+#[derive(Clone, Copy)]
 pub enum Outcome {
     Stopped(Refusal),
     Through,
 }
 
 // What came of a line.
-#[derive(Drop)]
+#[derive(Clone, Copy)]
 pub(crate) enum Step {
     Stop(Kind, usize),
     On(State),

@@ -17,7 +17,7 @@ const COLON: usize = 1;
 const NO_SUM: usize = 256;
 
 // Where the reading stands: the upper half of addresses, the end of earlier data, whether the end record was seen.
-#[derive(Drop)]
+#[derive(Clone, Copy)]
 pub struct State {
     pub upper: usize,
     pub last: usize,
@@ -25,7 +25,7 @@ pub struct State {
 }
 
 // What a line says.
-#[derive(Drop)]
+#[derive(Clone, Copy)]
 pub enum Found {
     // and the byte, counted from 1, at which it stands
     Fault(Kind, usize),

@@ -4,21 +4,21 @@ ghost use Rattle.lines.specs.Line.{lf_next};
 ghost use Rattle.lines.specs.Places.{quiet_at, Skipped, end_len, LineAt, ahead_at, IsReader, IsNext, IsAhead};
 
 // A line's end, without LF or CR LF, and the start of the next one.
-#[derive(Drop)]
+#[derive(Clone, Copy)]
 pub struct Line {
     pub end: usize,
     pub next: usize,
 }
 
 // What lies ahead of a place in a text.
-#[derive(Drop)]
+#[derive(Clone, Copy)]
 pub enum Ahead {
     One(Line),
     Nothing,
 }
 
 // A line reader keeps the text that it was lent and its place in it.
-#[derive(Drop)]
+#[derive(Clone, Copy)]
 pub struct LineReader<'a> {
     pub text: &'a [u8],
     pub at: usize,

@@ -10,7 +10,7 @@ use commands::Command;
 use layout::{Bank, SECTOR};
 use response::read::Response;
 
-#[derive(Drop)]
+#[derive(Clone, Copy)]
 pub(crate) enum Verdict {
     // It is the awaited one, or counts as done.
     Settled,

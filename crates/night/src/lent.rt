@@ -6,7 +6,7 @@ use crate::record::Next;
 use sender::made::ROOM;
 use sender::packet::Placed;
 
-#[derive(Drop)]
+#[derive(Clone, Copy)]
 pub(crate) enum Looked {
     Refused(Next),
     // The sector of the packet asked for, and how many packets the image has.

@@ -2,7 +2,7 @@
 ghost use Rattle.std.specs.Prelude.{◌≡◌};
 ghost use Rattle.night.specs.Name.{number_of};
 
-#[derive(Drop)]
+#[derive(Clone, Copy)]
 pub enum Name {
     ModeStart,
     VersionInfo,

@@ -8,7 +8,7 @@ use crate::name::Name;
 use layout::Bank;
 
 // Why a request was given up.
-#[derive(Drop)]
+#[derive(Clone, Copy)]
 pub enum Why {
     // It has gone out as often as it may.
     Tries,
@@ -18,7 +18,7 @@ pub enum Why {
     Unknown,
 }
 
-#[derive(Drop)]
+#[derive(Clone, Copy)]
 pub enum Stand {
     // The start was refused.
     NotBegun,
@@ -28,7 +28,7 @@ pub enum Stand {
     GaveUp { name: Name, why: Why },
 }
 
-#[derive(Drop)]
+#[derive(Clone, Copy)]
 pub struct Night {
     pub bank: Bank,
     pub n: usize,
@@ -37,7 +37,7 @@ pub struct Night {
     pub stand: Stand,
 }
 
-#[derive(Drop)]
+#[derive(Clone, Copy)]
 pub enum Next {
     // No bank has so many sectors.
     BadN,
@@ -55,7 +55,7 @@ pub enum Next {
 }
 
 // The record is handed back beside what comes next.
-#[derive(Drop)]
+#[derive(Clone, Copy)]
 pub struct Called {
     pub night: Night,
     pub next: Next,

@@ -1,59 +1,61 @@
 // What comes next in a night: a request, or the end.
 use crate::{name, refusals};
-use libc::{STDERR_FILENO, STDOUT_FILENO};
 use night::name::Name;
 use night::record::{Next, Night, Stand, Why};
+use script::call::STDERR_FILENO;
+use script::say::STDOUT_FILENO;
 use script::{call, say};
+use std::env::Env;
 
-fn say_try(name: Name, gone: usize, tries: usize, buffer: &[u8]) {
-    name::text(STDERR_FILENO, b"night: ");
-    name::say(STDERR_FILENO, name, buffer);
-    name::text(STDERR_FILENO, b", try ");
-    name::decimal(STDERR_FILENO, gone);
-    name::text(STDERR_FILENO, b" of ");
-    name::decimal(STDERR_FILENO, tries);
-    name::text(STDERR_FILENO, b"\n");
+fn say_try(rt: &impl Env, name: Name, gone: usize, tries: usize, buffer: &[u8]) {
+    name::text(rt, STDERR_FILENO, b"night: ");
+    name::say(rt, STDERR_FILENO, name, buffer);
+    name::text(rt, STDERR_FILENO, b", try ");
+    name::decimal(rt, STDERR_FILENO, gone);
+    name::text(rt, STDERR_FILENO, b" of ");
+    name::decimal(rt, STDERR_FILENO, tries);
+    name::text(rt, STDERR_FILENO, b"\n");
 }
 
-fn progress(night: Night, buffer: &[u8]) {
+fn progress(rt: &impl Env, night: Night, buffer: &[u8]) {
     let stand = night.stand;
     if let Stand::At { name, gone } = stand {
-        say_try(name, gone, night.tries, buffer);
+        say_try(rt, name, gone, night.tries, buffer);
     }
 }
 
 // The request is out before anything is said of it.
-fn send(night: Night, buffer: &[u8], size: usize) {
+fn send(rt: &impl Env, night: Night, buffer: &[u8], size: usize) {
     if size <= buffer.len() {
         let end = io::count(size as isize, buffer);
-        say::text(b"send ");
-        say::hex(&buffer[..end]);
-        say::end();
-        progress(night, buffer);
+        say::text(rt, b"send ");
+        say::hex(rt, &buffer[..end]);
+        say::end(rt);
+        progress(rt, night, buffer);
     }
 }
 
-fn say_why(why: Why) {
+fn say_why(rt: &impl Env, why: Why) {
     match why {
-        Why::Tries => say::text(b": tries\n"),
-        Why::WrongBank => say::text(b": wrong bank\n"),
-        Why::Unknown => say::text(b": unknown\n"),
+        Why::Tries => say::text(rt, b": tries\n"),
+        Why::WrongBank => say::text(rt, b": wrong bank\n"),
+        Why::Unknown => say::text(rt, b": unknown\n"),
     }
 }
 
-fn gave_up(name: Name, why: Why, buffer: &[u8]) {
-    say::text(b"gave up at ");
-    name::say(STDOUT_FILENO, name, buffer);
-    say_why(why);
-    call::refused();
+fn gave_up(rt: &impl Env, name: Name, why: Why, buffer: &[u8]) {
+    say::text(rt, b"gave up at ");
+    name::say(rt, STDOUT_FILENO, name, buffer);
+    say_why(rt, why);
+    call::refused(rt);
 }
 
-pub(crate) fn say(night: Night, next: Next, buffer: &[u8]) {
+pub(crate) fn say(rt: &impl Env, night: Night, next: Next, buffer: &[u8]) {
     match next {
-        Next::Send { name: _, size } => send(night, buffer, size),
-        Next::Finished => say::text(b"finished\n"),
-        Next::GaveUp { name, why } => gave_up(name, why, buffer),
-        _ => refusals::number(night::record::next_number(next) as usize),
+        Next::Send { name: _, size } => send(rt, night, buffer, size),
+        Next::Finished => say::text(rt, b"finished\n"),
+        Next::GaveUp { name, why } => gave_up(rt, name, why, buffer),
+        _ => refusals::number(rt, night::record::next_number(next) as usize),
     }
 }
 

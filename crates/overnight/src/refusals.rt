@@ -1,28 +1,29 @@
 // What is said where there is no night.
 use hex_text::fault::Refusal;
-use libc::STDERR_FILENO;
+use script::call::STDERR_FILENO;
 use script::{call, say};
+use std::env::Env;
 
-fn end() {
-    say::end();
-    call::refused();
+fn end(rt: &impl Env) {
+    say::end(rt);
+    call::refused(rt);
 }
 
-pub(crate) fn number(number: usize) {
-    say::refused(number);
-    end();
+pub(crate) fn number(rt: &impl Env, number: usize) {
+    say::refused(rt, number);
+    end(rt);
 }
 
-pub(crate) fn line(refusal: Refusal) {
+pub(crate) fn line(rt: &impl Env, refusal: Refusal) {
     let kind = refusal.kind;
     let number = hex_text::fault::kind_number(kind) as usize;
-    say::refused_place(number, refusal.line, refusal.byte);
-    end();
+    say::refused_place(rt, number, refusal.line, refusal.byte);
+    end(rt);
 }
 
-pub(crate) fn too_long() {
-    say::text(b"too long");
-    end();
+pub(crate) fn too_long(rt: &impl Env) {
+    say::text(rt, b"too long");
+    end(rt);
 }
 
 // The file was named when that was told: it may be a word out of its place.

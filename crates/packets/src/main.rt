@@ -10,109 +10,110 @@ use script::input::Input;
 use script::{call, input, say};
 use sender::made::{Made, ROOM};
 use sender::packet::Tally;
+use std::env::Env;
 
 const N: usize = 32;
 
 const LONGEST_TEXT: usize = 49_152;
 
 // 32 is a number of sectors, and the image has as many: this is never said.
-fn say_refused(number: usize) {
-    say::refused(number);
-    say::end();
-    call::refused();
+fn say_refused(rt: &impl Env, number: usize) {
+    say::refused(rt, number);
+    say::end(rt);
+    call::refused(rt);
 }
 
-fn say_listed(sector: u16, footer: Footer) {
-    say::pair(sector);
-    say::text(b" ");
-    say::byte(frame::write::footer_byte(footer));
-    say::end();
+fn say_listed(rt: &impl Env, sector: u16, footer: Footer) {
+    say::pair(rt, sector);
+    say::text(rt, b" ");
+    say::byte(rt, frame::write::footer_byte(footer));
+    say::end(rt);
 }
 
 // Sector and footer, as the packet is read.
-fn say_packet(packet: &[u8]) {
+fn say_packet(rt: &impl Env, packet: &[u8]) {
     if let Read::Write { sector, footer, .. } = frame::read::read_frame(packet) {
-        say_listed(sector, footer);
+        say_listed(rt, sector, footer);
     }
 }
 
-fn say_made(buffer: &[u8], size: usize) {
+fn say_made(rt: &impl Env, buffer: &[u8], size: usize) {
     if size <= buffer.len() {
         let n = io::count(size as isize, buffer);
-        say_packet(&buffer[..n]);
+        say_packet(rt, &buffer[..n]);
     }
 }
 
-fn list_one(image: &[u8], p: usize) {
+fn list_one(rt: &impl Env, image: &[u8], p: usize) {
     let mut buffer = [0u8; ROOM];
     let made = sender::packet::packet(image, N, p, &mut buffer);
     match made {
-        Made::Frame(size) => say_made(&buffer, size),
-        _ => say_refused(sender::made::made_number(made)),
+        Made::Frame(size) => say_made(rt, &buffer, size),
+        _ => say_refused(rt, sender::made::made_number(made)),
     }
 }
 
-fn list_all(image: &[u8], count: usize) {
+fn list_all(rt: &impl Env, image: &[u8], count: usize) {
     let mut p = 0;
     while p < count {
-        list_one(image, p);
+        list_one(rt, image, p);
         p += 1;
     }
-    say::text(b"sent ");
-    say::decimal(count);
-    say::end();
+    say::text(rt, b"sent ");
+    say::decimal(rt, count);
+    say::end(rt);
 }
 
-fn list(image: &[u8]) {
+fn list(rt: &impl Env, image: &[u8]) {
     let tally = sender::packet::count(image, N);
     match tally {
-        Tally::Packets(count) => list_all(image, count),
-        _ => say_refused(sender::packet::tally_number(tally)),
+        Tally::Packets(count) => list_all(rt, image, count),
+        _ => say_refused(rt, sender::packet::tally_number(tally)),
     }
 }
 
-fn say_refusal(refusal: Refusal) {
+fn say_refusal(rt: &impl Env, refusal: Refusal) {
     let kind = refusal.kind;
     let number = hex_text::fault::kind_number(kind) as usize;
-    say::refused_place(number, refusal.line, refusal.byte);
-    say::end();
-    call::refused();
+    say::refused_place(rt, number, refusal.line, refusal.byte);
+    say::end(rt);
+    call::refused(rt);
 }
 
-fn answer(text: &[u8]) {
+fn answer(rt: &impl Env, text: &[u8]) {
     let mut image = [0u8; SECTOR * N];
     let answer = hex_text::read::read(text, Bank::Zero, N, &mut image);
     match answer {
-        Answer::Refused(refusal) => say_refusal(refusal),
-        Answer::Accepted => list(&image),
-        _ => say_refused(hex_text::read::answer_number(answer)),
+        Answer::Refused(refusal) => say_refusal(rt, refusal),
+        Answer::Accepted => list(rt, &image),
+        _ => say_refused(rt, hex_text::read::answer_number(answer)),
     }
 }
 
-fn say_too_long() {
-    say::text(b"too long\n");
-    call::refused();
+fn say_too_long(rt: &impl Env) {
+    say::text(rt, b"too long\n");
+    call::refused(rt);
 }
 
-fn answer_read(text: &[u8], size: usize) {
+fn answer_read(rt: &impl Env, text: &[u8], size: usize) {
     if size > LONGEST_TEXT {
-        return say_too_long();
+        return say_too_long(rt);
     }
     let end = io::count(size as isize, text);
-    answer(&text[..end]);
+    answer(rt, &text[..end]);
 }
 
 // The room is a byte larger than the longest text, so that a longer one is seen to be so.
-fn list_input() {
+fn list_input(rt: &(impl Env + std::io::Input)) {
     let mut text = [0u8; LONGEST_TEXT + 1];
-    match input::all(&mut text) {
+    match input::all(rt, &mut text) {
         Input::Unread => (),
-        Input::Read(size) => answer_read(&text, size),
+        Input::Read(size) => answer_read(rt, &text, size),
     }
 }
 
-fn main() {
-    if call::takes(0, b"usage: ./run packets [FILE]\n") {
-        list_input();
+fn main(rt: HostRuntime) {
+    if call::takes(&rt, 0, b"usage: ./run packets [FILE]\n") {
+        list_input(&rt);
     }
 }

@@ -8,7 +8,7 @@ use commands::{Coded, Command};
 use frame::read::{Footer, Read};
 use layout::Bank;
 
-#[derive(Drop)]
+#[derive(Clone, Copy)]
 pub enum Response {
     Unreadable,
     // A command's own response, the result alone.

@@ -20,7 +20,7 @@ const DATA_LINE: usize = BESIDE + 2 * ROW;
 const UPPER_LINE: usize = BESIDE + 2 * 2;
 
 // What comes back of an image.
-#[derive(Drop)]
+#[derive(Clone, Copy)]
 pub enum Written {
     // The image is no bank's, or the text has no room.
     BadLength,
@@ -39,7 +39,7 @@ pub fn written_number(written: Written) -> usize
 }
 
 // How far the text goes, and the upper half that it told last, 0 before the first.
-#[derive(Drop)]
+#[derive(Clone, Copy)]
 pub(crate) struct Reached {
     pub(crate) told: usize,
     pub(crate) at: usize,

@@ -2,76 +2,142 @@
 ghost use Rattle.std.specs.Prelude.{◌≡◌, true, ◌<◌, ◌≤◌};
 ghost use Rattle.io.specs.Counts.{IsPrefixLen};
 
-use libc::STDERR_FILENO;
+use std::env::{Env, FillError};
+use std::fmt;
+use std::fmt::Write;
+use std::io::Error;
+
+pub const STDERR_FILENO: i32 = 2;
 
 // Where `./run` listens, if its own first argument says so.
 const LISTENER: i32 = 3;
 
-fn heard() -> bool {
+// An argument, counted from 0, which is the program's name, to the front of `into`, and its length; 0 where it is missing or longer.
+fn arg(rt: &impl Env, number: usize, into: &mut [u8]) -> usize
+    ensures { IsPrefixLen result into.new }
+{
+    match rt.arg(number, into) {
+        Ok(size) => size,
+        Err(_) => 0,
+    }
+}
+
+fn is_given(rt: &impl Env, number: usize) -> bool {
+    let mut none = [0u8; 1];
+    match rt.arg(number, &mut none) {
+        Err(FillError::NotPresent) => false,
+        _ => true,
+    }
+}
+
+// How many arguments there are, the program's name among them.
+fn arg_count(rt: &impl Env) -> usize {
+    for i in 0..usize::MAX {
+        if !is_given(rt, i) {
+            return i;
+        }
+    }
+    usize::MAX
+}
+
+fn heard(rt: &impl Env) -> bool {
     let mut first = [0u8; 16];
-    let n = os::arg(1, &mut first);
+    let n = arg(rt, 1, &mut first);
     check::same(&first[..n], b"status=3")
 }
 
-fn tell(mark: &[u8]) {
-    if heard() {
+fn tell(rt: &impl Env, mark: &[u8]) {
+    if heard(rt) {
         io::write_all(LISTENER, mark);
     }
 }
 
 // What was asked is refused; the output says why.
-pub fn refused() {
-    tell(b"r");
+pub fn refused(rt: &impl Env) {
+    tell(rt, b"r");
 }
 
 // A part of the output could not be written.
-pub fn unwritten() {
-    tell(b"o");
+pub fn unwritten(rt: &impl Env) {
+    tell(rt, b"o");
+}
+
+// Takes the text of an error to standard error, but for the number that the system has for it, which stands behind the words: ` (os error 2)`.
+#[derive(Drop)]
+struct Words {
+    ended: bool,
+}
+
+impl fmt::Write for Words {
+    fn write_str(&mut self, text: &str) -> fmt::Result {
+        if self.ended {
+            return Ok(());
+        }
+        match text.split_once(" (os error ") {
+            Some((words, _)) => {
+                self.ended = true;
+                io::write_all(STDERR_FILENO, words.as_bytes());
+            }
+            None => {
+                io::write_all(STDERR_FILENO, text.as_bytes());
+            }
+        }
+        Ok(())
+    }
+}
+
+// A line on standard error: what failed, and the system's words for it. What that does not take is lost.
+fn fail(name: &[u8], why: Error) {
+    io::write_all(STDERR_FILENO, name);
+    io::write_all(STDERR_FILENO, b": ");
+    let mut words = Words { ended: false };
+    let _ = write!(words, "{why}");
+    io::write_all(STDERR_FILENO, b"\n");
 }
 
 // The input that is named could not be read, or not to its end.
-pub fn unread(name: &[u8]) {
-    os::fail(name);
-    tell(b"i");
+pub fn unread(rt: &impl Env, name: &[u8], why: Error) {
+    fail(name, why);
+    tell(rt, b"i");
 }
 
 // The input ended where more of it was needed.
-pub fn cut_short(why: &[u8]) {
+pub fn cut_short(rt: &impl Env, why: &[u8]) {
     io::write_all(STDERR_FILENO, why);
-    tell(b"i");
+    tell(rt, b"i");
 }
 
 // It was called as it cannot be.
-pub fn called_wrongly(usage: &[u8]) {
+pub fn called_wrongly(rt: &impl Env, usage: &[u8]) {
     io::write_all(STDERR_FILENO, usage);
-    tell(b"c");
+    tell(rt, b"c");
 }
 
 // The program's own name stands before its words, and what `./run` says to it.
-fn before_words() -> usize
+fn before_words(rt: &impl Env) -> usize
     ensures { (0 < result) × (result ≤ 2) }
 {
-    if heard() { 2 } else { 1 }
+    if heard(rt) { 2 } else { 1 }
 }
 
 // Whether it was called with so many words. They are fewer than can be counted, since its name is counted with them.
-pub fn takes(words: usize, usage: &[u8]) -> bool
+pub fn takes(rt: &impl Env, words: usize, usage: &[u8]) -> bool
     ensures { result ≡ true → words < 18446744073709551615 }
 {
-    let all = os::arg_count();
-    let before = before_words();
+    let all = arg_count(rt);
+    let before = before_words(rt);
     if all >= before {
         if all - before == words {
             return true;
         }
     }
-    called_wrongly(usage);
+    called_wrongly(rt, usage);
     false
 }
 
 // A word of the call, counted from 0, to the front of `into`, and its length; 0 where it is missing or longer.
-pub fn word(number: u8, into: &mut [u8]) -> usize
+pub fn word(rt: &impl Env, number: u8, into: &mut [u8]) -> usize
     ensures { IsPrefixLen result into.new }
 {
-    os::arg(before_words() + number as usize, into)
+    arg(rt, before_words(rt) + number as usize, into)
 }

@@ -3,9 +3,12 @@ ghost use Rattle.std.specs.Prelude.{length};
 ghost use Rattle.script.specs.Input.{Within};
 
 use crate::call;
-use libc::STDIN_FILENO;
+use std::env::Env;
+use std::fs::Files;
+use std::io::{Error, ErrorKind, Read};
+use std::{fs, str};
 
-#[derive(Drop)]
+#[derive(Clone, Copy)]
 pub enum Input {
     // It could not be read to its end, and that was told.
     Unread,
@@ -13,47 +16,57 @@ pub enum Input {
     Read(usize),
 }
 
-fn read(from: i32, name: &[u8], room: &mut [u8]) -> Input
+fn read(rt: &impl Env, from: &mut impl Read, name: &[u8], room: &mut [u8]) -> Input
     ensures { Within (length room.old) result }
 {
     let mut done = 0;
     while done < room.len() {
-        let got = libc::read(from, &mut room[done..]);
-        if got < 0 {
-            call::unread(name);
-            return Input::Unread;
+        match from.read(&mut room[done..]) {
+            Err(why) => {
+                call::unread(rt, name, why);
+                return Input::Unread;
+            }
+            Ok(more) => {
+                if more == 0 {
+                    return Input::Read(done);
+                }
+                done += more;
+            }
         }
-        let more = io::count(got, &room[done..]);
-        if more == 0 {
-            return Input::Read(done);
-        }
-        done += more;
     }
     Input::Read(done)
 }
 
-pub fn all(room: &mut [u8]) -> Input
+pub fn all(rt: &(impl Env + std::io::Input), room: &mut [u8]) -> Input
     ensures { Within (length room.old) result }
 {
-    read(STDIN_FILENO, b"standard input", room)
+    let mut from = rt.reader();
+    read(rt, &mut from, b"standard input", room)
 }
 
-fn read_opened(from: i32, name: &[u8], room: &mut [u8]) -> Input
+// A name is text in UTF-8: the library opens no other.
+fn open<R: Files>(rt: &R, name: &[u8]) -> std::io::Result<R::File> {
+    match str::from_utf8(name) {
+        Ok(path) => fs::open(rt, path),
+        Err(_) => Err(Error::new(ErrorKind::InvalidInput, "the name is not UTF-8 text")),
+    }
+}
+
+fn read_opened(rt: &impl Env, mut from: impl Read + Drop, name: &[u8], room: &mut [u8]) -> Input
     ensures { Within (length room.old) result }
 {
-    let input = read(from, name, room);
-    libc::close(from);
-    input
+    read(rt, &mut from, name, room)
 }
 
 // The file of that name.
-pub fn file(name: &[u8], room: &mut [u8]) -> Input
+pub fn file(rt: &(impl Env + Files), name: &[u8], room: &mut [u8]) -> Input
     ensures { Within (length room.old) result }
 {
-    let from = os::open_read(name);
-    if from < 0 {
-        call::unread(name);
-        return Input::Unread;
+    match open(rt, name) {
+        Ok(from) => read_opened(rt, from, name, room),
+        Err(why) => {
+            call::unread(rt, name, why);
+            Input::Unread
+        }
     }
-    read_opened(from, name, room)
 }

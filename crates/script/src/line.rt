@@ -1,11 +1,13 @@
 // The lines of standard input, one after another. What is read stands in a chunk; the line that was found is copied out of it.
 ghost use Rattle.std.specs.Prelude.{◌≡◌, ◌≤◌, length};
+ghost use Rattle.std.specs.Io.{ReadsAtMost};
 ghost use Rattle.script.specs.Line.{own_length, IsBefore, IsHeld};
 
 use crate::call;
-use libc::STDIN_FILENO;
+use std::env::Env;
+use std::io::{Error, Input, Read, Result};
 
-#[derive(Drop)]
+#[derive(Clone, Copy)]
 pub enum Found {
     Line,
     // It has more bytes than there is room for, and was passed over.
@@ -15,7 +17,7 @@ pub enum Found {
 }
 
 // What a turn found, the `held` bytes of its line, and the bytes of the chunk that it left unread, from `from` up to `to`.
-#[derive(Drop)]
+#[derive(Clone, Copy)]
 pub struct Turn {
     pub found: Found,
     pub held: usize,
@@ -36,12 +38,19 @@ pub fn before() -> Turn
 }
 
 // Where a read failed that is told, and what was begun of a line is no line.
-fn failed(got: isize) -> bool {
-    if got < 0 {
-        call::unread(b"standard input");
-        return true;
-    }
-    false
+fn failed(rt: &impl Env, why: Error) -> Turn
+    ensures { IsBefore result }
+{
+    call::unread(rt, b"standard input", why);
+    before()
+}
+
+// One read: what has come is handed on, though there is room for more.
+fn read(rt: &impl Input, chunk: &mut [u8]) -> Result<usize>
+    ensures { ReadsAtMost result chunk.new }
+{
+    let mut from = rt.reader();
+    from.read(chunk)
 }
 
 fn within(chunk: &[u8], to: usize) -> usize
@@ -73,7 +82,7 @@ fn whole_last(line: &[u8], held: usize) -> Found {
 }
 
 // Nothing says that a line ends, so the loop counts its turns down, from a number that no run uses up.
-pub fn next(chunk: &mut [u8], line: &mut [u8], last: Turn) -> Turn
+pub fn next(rt: &(impl Env + Input), chunk: &mut [u8], line: &mut [u8], last: Turn) -> Turn
     ensures { result.to ≤ length chunk.new }
 {
     let mut from = last.from;
@@ -84,11 +93,10 @@ pub fn next(chunk: &mut [u8], line: &mut [u8], last: Turn) -> Turn
         turns -= 1;
         if from >= to {
             from = 0;
-            let got = libc::read(STDIN_FILENO, chunk);
-            if failed(got) {
-                return before();
+            match read(rt, chunk) {
+                Err(why) => return failed(rt, why),
+                Ok(more) => to = more,
             }
-            to = io::count(got, chunk);
             if to == 0 {
                 return Turn {
                     found: whole_last(line, held),

@@ -4,26 +4,28 @@ ghost use Rattle.io.specs.Counts.{IsPrefixLen};
 ghost use Rattle.script.specs.Spelt.{IsSpell};
 
 use crate::call;
-use libc::STDOUT_FILENO;
+use std::env::Env;
 
-fn written(all: bool) {
+pub const STDOUT_FILENO: i32 = 1;
+
+fn written(rt: &impl Env, all: bool) {
     if !all {
-        call::unwritten();
+        call::unwritten(rt);
     }
 }
 
-pub fn text(words: &[u8]) {
-    written(io::write_all(STDOUT_FILENO, words));
+pub fn text(rt: &impl Env, words: &[u8]) {
+    written(rt, io::write_all(STDOUT_FILENO, words));
 }
 
 // Of a line that is no request: the next one is answered all the same.
-pub fn no_request() {
-    text(b"?\n");
-    call::refused();
+pub fn no_request(rt: &impl Env) {
+    text(rt, b"?\n");
+    call::refused(rt);
 }
 
-pub fn end() {
-    text(b"\n");
+pub fn end(rt: &impl Env) {
+    text(rt, b"\n");
 }
 
 const LARGEST_PIECE: usize = 2048;
@@ -45,10 +47,10 @@ fn spell(bytes: &[u8], into: &mut [u8]) -> usize
     2 * i
 }
 
-fn hex_piece(bytes: &[u8]) {
+fn hex_piece(rt: &impl Env, bytes: &[u8]) {
     let mut spelt = [0u8; 2 * LARGEST_PIECE];
     let n = spell(bytes, &mut spelt);
-    text(&spelt[..n]);
+    text(rt, &spelt[..n]);
 }
 
 // How much of what is left goes into one piece.
@@ -63,62 +65,62 @@ fn piece_of(left: usize) -> usize
     }
 }
 
-pub fn hex(bytes: &[u8]) {
+pub fn hex(rt: &impl Env, bytes: &[u8]) {
     let mut done = 0;
     while done < bytes.len() {
         let end = done + piece_of(bytes.len() - done);
-        hex_piece(&bytes[done..end]);
+        hex_piece(rt, &bytes[done..end]);
         done = end;
     }
 }
 
-pub fn bytes(all: &[u8]) {
+pub fn bytes(rt: &impl Env, all: &[u8]) {
     if all.len() == 0 {
-        text(b"-");
+        text(rt, b"-");
     } else {
-        hex(all);
+        hex(rt, all);
     }
 }
 
-pub fn byte(value: u8) {
+pub fn byte(rt: &impl Env, value: u8) {
     let one = [value];
-    hex(&one);
+    hex(rt, &one);
 }
 
-pub fn pair(value: u16) {
+pub fn pair(rt: &impl Env, value: u16) {
     let mut two = [0u8; 2];
     buffer::number::put_number2(&mut two, 0, value);
-    hex(&two);
+    hex(rt, &two);
 }
 
-pub fn quad(value: u32) {
+pub fn quad(rt: &impl Env, value: u32) {
     let mut four = [0u8; 4];
     buffer::number::put_number4(&mut four, 0, value);
-    hex(&four);
+    hex(rt, &four);
 }
 
-pub fn decimal(value: usize) {
-    written(io::print_decimal(STDOUT_FILENO, value as u64));
+pub fn decimal(rt: &impl Env, value: usize) {
+    written(rt, io::print_decimal(STDOUT_FILENO, value as u64));
 }
 
 // One field more.
-pub fn field(number: usize) {
-    text(b" ");
-    decimal(number);
+pub fn field(rt: &impl Env, number: usize) {
+    text(rt, b" ");
+    decimal(rt, number);
 }
 
 // The paper's number of a refusal.
-pub fn refused(number: usize) {
-    text(b"refused ");
-    decimal(number);
+pub fn refused(rt: &impl Env, number: usize) {
+    text(rt, b"refused ");
+    decimal(rt, number);
 }
 
 // The same of a hex text: its fault, H1 to H6, the line, and the byte in it.
-pub fn refused_place(fault: usize, line: usize, byte: usize) {
-    text(b"refused H");
-    decimal(fault);
-    text(b" line ");
-    decimal(line);
-    text(b" byte ");
-    decimal(byte);
+pub fn refused_place(rt: &impl Env, fault: usize, line: usize, byte: usize) {
+    text(rt, b"refused H");
+    decimal(rt, fault);
+    text(rt, b" line ");
+    decimal(rt, line);
+    text(rt, b" byte ");
+    decimal(rt, byte);
 }

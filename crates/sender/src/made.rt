@@ -4,7 +4,7 @@ ghost use Rattle.sender.specs.Made.{IsMadeNumber};
 // The least room for a frame of the sender: a sector's bytes and the seven around them.
 pub const ROOM: usize = 519;
 
-#[derive(Drop)]
+#[derive(Clone, Copy)]
 pub enum Made {
     // No bank has so many sectors.
     BadN,

@@ -8,7 +8,7 @@ use frame::read::Footer;
 use layout::SECTOR;
 
 // How many packets an image has.
-#[derive(Drop)]
+#[derive(Clone, Copy)]
 pub enum Tally {
     // No bank has so many sectors.
     BadN,
@@ -29,7 +29,7 @@ pub fn tally_number(tally: Tally) -> usize
 }
 
 // Where a packet stands.
-#[derive(Drop)]
+#[derive(Clone, Copy)]
 pub enum Placed {
     // No bank has so many sectors.
     BadN,
@@ -42,7 +42,7 @@ pub enum Placed {
 }
 
 // How many of the sectors that were looked at are sent, and the one that is packet p, or 0.
-#[derive(Drop)]
+#[derive(Clone, Copy)]
 pub(crate) struct Seen {
     pub(crate) count: usize,
     pub(crate) sector: usize,

@@ -7,7 +7,7 @@ use crate::made::{Made, ROOM};
 use commands::Command;
 use layout::Bank;
 
-#[derive(Drop)]
+#[derive(Clone, Copy)]
 pub enum Request {
     ModeStart,
     BankInfo,

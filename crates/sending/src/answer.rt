@@ -2,8 +2,9 @@
 use crate::held::{Answered, Held};
 use crate::{frames, held, images, texts, written};
 use script::{say, text};
+use std::env::Env;
 
-#[derive(Drop)]
+#[derive(Clone, Copy)]
 enum Word {
     Text,
     More,
@@ -56,49 +57,61 @@ fn word_of(word: &[u8]) -> Word {
     Word::Other
 }
 
-fn put(image: &mut [u8], held: Held, fields: &[u8]) -> bool {
+fn put(rt: &impl Env, image: &mut [u8], held: Held, fields: &[u8]) -> bool {
     let n = held::lent(image, held.image);
-    images::put(&mut image[..n], fields)
+    images::put(rt, &mut image[..n], fields)
 }
 
-fn length(image: &[u8], held: Held, fields: &[u8]) -> bool {
+fn length(rt: &impl Env, image: &[u8], held: Held, fields: &[u8]) -> bool {
     let n = held::lent(image, held.image);
-    written::length(&image[..n], fields)
+    written::length(rt, &image[..n], fields)
 }
 
-fn count(image: &[u8], held: Held, fields: &[u8]) -> bool {
+fn count(rt: &impl Env, image: &[u8], held: Held, fields: &[u8]) -> bool {
     let n = held::lent(image, held.image);
-    images::count(&image[..n], fields)
+    images::count(rt, &image[..n], fields)
 }
 
-fn packet(image: &[u8], held: Held, fields: &[u8]) -> bool {
+fn packet(rt: &impl Env, image: &[u8], held: Held, fields: &[u8]) -> bool {
     let n = held::lent(image, held.image);
-    images::packet(&image[..n], fields)
+    images::packet(rt, &image[..n], fields)
 }
 
-fn known(hex_text: &mut [u8], image: &mut [u8], held: Held, line: &[u8]) -> Answered {
+fn known(
+    rt: &impl Env,
+    hex_text: &mut [u8],
+    image: &mut [u8],
+    held: Held,
+    line: &[u8],
+) -> Answered {
     let fields = text::rest(line);
     match word_of(text::first(line)) {
-        Word::Text => texts::text(hex_text, held, fields),
-        Word::More => texts::more(hex_text, held, fields),
-        Word::Read => texts::read(hex_text, image, held, fields),
-        Word::Image => images::image(image, held, fields),
-        Word::Put => held::kept(put(image, held, fields), held),
-        Word::Length => held::kept(length(image, held, fields), held),
-        Word::Write => written::write(hex_text, image, held, fields),
-        Word::Count => held::kept(count(image, held, fields), held),
-        Word::Packet => held::kept(packet(image, held, fields), held),
-        Word::Request => held::kept(frames::request(fields), held),
-        Word::Response => held::kept(frames::response(fields), held),
+        Word::Text => texts::text(rt, hex_text, held, fields),
+        Word::More => texts::more(rt, hex_text, held, fields),
+        Word::Read => texts::read(rt, hex_text, image, held, fields),
+        Word::Image => images::image(rt, image, held, fields),
+        Word::Put => held::kept(put(rt, image, held, fields), held),
+        Word::Length => held::kept(length(rt, image, held, fields), held),
+        Word::Write => written::write(rt, hex_text, image, held, fields),
+        Word::Count => held::kept(count(rt, image, held, fields), held),
+        Word::Packet => held::kept(packet(rt, image, held, fields), held),
+        Word::Request => held::kept(frames::request(rt, fields), held),
+        Word::Response => held::kept(frames::response(rt, fields), held),
         Word::Other => Answered::No,
     }
 }
 
 // What is held after the line.
-pub(crate) fn answer(hex_text: &mut [u8], image: &mut [u8], held: Held, line: &[u8]) -> Answered {
-    match known(hex_text, image, held, line) {
+pub(crate) fn answer(
+    rt: &impl Env,
+    hex_text: &mut [u8],
+    image: &mut [u8],
+    held: Held,
+    line: &[u8],
+) -> Answered {
+    match known(rt, hex_text, image, held, line) {
         Answered::No => {
-            say::no_request();
+            say::no_request(rt);
             Answered::Yes(held)
         }
         Answered::Yes(after) => Answered::Yes(after),

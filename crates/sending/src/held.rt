@@ -7,14 +7,14 @@ pub const LONGEST_TEXT: usize = 720_896;
 pub const LONGEST_IMAGE: usize = 252_416;
 
 // The lengths.
-#[derive(Drop)]
+#[derive(Clone, Copy)]
 pub struct Held {
     pub text: usize,
     pub image: usize,
 }
 
 // Whether it was a request, and what is held then.
-#[derive(Drop)]
+#[derive(Clone, Copy)]
 pub enum Answered {
     No,
     Yes(Held),

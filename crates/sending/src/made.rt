@@ -2,27 +2,28 @@
 use crate::held;
 use script::say;
 use sender::made::Made;
+use std::env::Env;
 
 pub const LARGEST_BUFFER: usize = 600;
 
-fn say_frame(size: usize, buffer: &[u8]) {
+fn say_frame(rt: &impl Env, size: usize, buffer: &[u8]) {
     let end = held::lent(buffer, size);
-    say::text(b"frame ");
-    say::bytes(&buffer[..end]);
-    say::text(b" ");
-    say::bytes(&buffer[end..]);
+    say::text(rt, b"frame ");
+    say::bytes(rt, &buffer[..end]);
+    say::text(rt, b" ");
+    say::bytes(rt, &buffer[end..]);
 }
 
-fn say_refused(number: usize, buffer: &[u8]) {
-    say::refused(number);
-    say::text(b" ");
-    say::bytes(buffer);
+fn say_refused(rt: &impl Env, number: usize, buffer: &[u8]) {
+    say::refused(rt, number);
+    say::text(rt, b" ");
+    say::bytes(rt, buffer);
 }
 
-pub(crate) fn say_made(made: Made, buffer: &[u8]) {
+pub(crate) fn say_made(rt: &impl Env, made: Made, buffer: &[u8]) {
     match made {
-        Made::Frame(size) => say_frame(size, buffer),
-        _ => say_refused(sender::made::made_number(made), buffer),
+        Made::Frame(size) => say_frame(rt, size, buffer),
+        _ => say_refused(rt, sender::made::made_number(made), buffer),
     }
-    say::end();
+    say::end(rt);
 }

@@ -4,29 +4,30 @@ use crate::held::{Answered, Held, LONGEST_TEXT};
 use layout::Bank;
 use rows::text::Written;
 use script::{say, text};
+use std::env::Env;
 
-fn say_told(word: &[u8], written: Written) {
+fn say_told(rt: &impl Env, word: &[u8], written: Written) {
     match written {
         Written::Text(size) => {
-            say::text(word);
-            say::decimal(size);
+            say::text(rt, word);
+            say::decimal(rt, size);
         }
-        _ => say::refused(rows::text::written_number(written)),
+        _ => say::refused(rt, rows::text::written_number(written)),
     }
 }
 
-fn say_length(image: &[u8], bank: Bank) -> bool {
-    say_told(b"length ", rows::text::length(image, bank));
-    say::end();
+fn say_length(rt: &impl Env, image: &[u8], bank: Bank) -> bool {
+    say_told(rt, b"length ", rows::text::length(image, bank));
+    say::end(rt);
     true
 }
 
-pub(crate) fn length(image: &[u8], fields: &[u8]) -> bool {
+pub(crate) fn length(rt: &impl Env, image: &[u8], fields: &[u8]) -> bool {
     if check::same(fields, b"0") {
-        return say_length(image, Bank::Zero);
+        return say_length(rt, image, Bank::Zero);
     }
     if check::same(fields, b"1") {
-        return say_length(image, Bank::One);
+        return say_length(rt, image, Bank::One);
     }
     false
 }
@@ -39,17 +40,18 @@ fn size_of(written: Written, room: usize) -> usize {
 }
 
 // How much of the room is the text then: what was written, or all of it.
-fn write_into(image: &[u8], bank: Bank, room: &mut [u8]) -> usize {
+fn write_into(rt: &impl Env, image: &[u8], bank: Bank, room: &mut [u8]) -> usize {
     buffer::fill::fill(room, 0xA5);
     let written = rows::text::write(image, bank, room);
-    say_told(b"written ", written);
-    say::text(b" ");
-    say::quad(crc::crc32(room));
-    say::end();
+    say_told(rt, b"written ", written);
+    say::text(rt, b" ");
+    say::quad(rt, crc::crc32(room));
+    say::end(rt);
     size_of(written, room.len())
 }
 
 fn write_bank(
+    rt: &impl Env,
     hex_text: &mut [u8],
     image: &[u8],
     held: Held,
@@ -62,21 +64,27 @@ fn write_bank(
     }
     let taken = held::lent(image, held.image);
     let room = held::lent(hex_text, size);
-    let after = write_into(&image[..taken], bank, &mut hex_text[..room]);
+    let after = write_into(rt, &image[..taken], bank, &mut hex_text[..room]);
     Answered::Yes(Held {
         text: after,
         image: held.image,
     })
 }
 
-pub(crate) fn write(hex_text: &mut [u8], image: &[u8], held: Held, fields: &[u8]) -> Answered {
+pub(crate) fn write(
+    rt: &impl Env,
+    hex_text: &mut [u8],
+    image: &[u8],
+    held: Held,
+    fields: &[u8],
+) -> Answered {
     let bank = text::first(fields);
     let later = text::rest(fields);
     if check::same(bank, b"0") {
-        return write_bank(hex_text, image, held, Bank::Zero, later);
+        return write_bank(rt, hex_text, image, held, Bank::Zero, later);
     }
     if check::same(bank, b"1") {
-        return write_bank(hex_text, image, held, Bank::One, later);
+        return write_bank(rt, hex_text, image, held, Bank::One, later);
     }
     Answered::No
 }

@@ -1,41 +1,42 @@
 // The bodies of a sound bank. Each has a byte or more, so the first empty one is past the last.
 use script::say;
+use std::env::Env;
 
-fn say_body(i: usize, body: &[u8]) {
-    say::text(b"# body");
-    say::field(i);
-    say::text(b":");
-    say::field(body.len());
-    say::text(b" bytes, CRC-32 ");
-    say::quad(crc::crc32(body));
-    say::end();
+fn say_body(rt: &impl Env, i: usize, body: &[u8]) {
+    say::text(rt, b"# body");
+    say::field(rt, i);
+    say::text(rt, b":");
+    say::field(rt, body.len());
+    say::text(rt, b" bytes, CRC-32 ");
+    say::quad(rt, crc::crc32(body));
+    say::end(rt);
 }
 
 // A line for each, and how many they are.
-pub(crate) fn report(image: &[u8]) -> usize {
+pub(crate) fn report(rt: &impl Env, image: &[u8]) -> usize {
     let mut i = 0;
     while i < image.len() {
         let body = bank::body::body(image, i);
         if body.len() == 0 {
             return i;
         }
-        say_body(i, body);
+        say_body(rt, i, body);
         i += 1;
     }
     i
 }
 
-fn ask_one(i: usize) {
-    say::text(b"body");
-    say::field(i);
-    say::end();
+fn ask_one(rt: &impl Env, i: usize) {
+    say::text(rt, b"body");
+    say::field(rt, i);
+    say::end(rt);
 }
 
 // The board's own view of each, afterwards.
-pub(crate) fn ask(count: usize) {
+pub(crate) fn ask(rt: &impl Env, count: usize) {
     let mut i = 0;
     while i < count {
-        ask_one(i);
+        ask_one(rt, i);
         i += 1;
     }
 }

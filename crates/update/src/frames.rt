@@ -4,58 +4,60 @@ use layout::Bank;
 use script::say;
 use sender::made::{Made, ROOM};
 use sender::request::Request;
+use std::env::Env;
 
-fn say_frame(buffer: &[u8], size: usize) {
+fn say_frame(rt: &impl Env, buffer: &[u8], size: usize) {
     if size <= buffer.len() {
         let end = io::count(size as isize, buffer);
-        say::text(b"send ");
-        say::hex(&buffer[..end]);
-        say::end();
+        say::text(rt, b"send ");
+        say::hex(rt, &buffer[..end]);
+        say::end(rt);
     }
 }
 
-fn say_made(made: Made, buffer: &[u8]) {
+fn say_made(rt: &impl Env, made: Made, buffer: &[u8]) {
     match made {
-        Made::Frame(size) => say_frame(buffer, size),
-        _ => refusals::number(sender::made::made_number(made)),
+        Made::Frame(size) => say_frame(rt, buffer, size),
+        _ => refusals::number(rt, sender::made::made_number(made)),
     }
 }
 
-fn say_request(why: &[u8], request: Request) {
+fn say_request(rt: &impl Env, why: &[u8], request: Request) {
     let mut buffer = [0u8; ROOM];
     let made = sender::request::make(request, &mut buffer);
-    say::text(why);
-    say_made(made, &buffer);
+    say::text(rt, why);
+    say_made(rt, made, &buffer);
 }
 
-pub(crate) fn begin(target: Bank, n: usize) {
-    say_request(b"# Start OTA Mode\n", Request::ModeStart);
-    say_request(b"# bank information\n", Request::BankInfo);
-    say_request(b"# version\n", Request::VersionInfo);
+pub(crate) fn begin(rt: &impl Env, target: Bank, n: usize) {
+    say_request(rt, b"# Start OTA Mode\n", Request::ModeStart);
+    say_request(rt, b"# bank information\n", Request::BankInfo);
+    say_request(rt, b"# version\n", Request::VersionInfo);
     say_request(
+        rt,
         b"# Start OTA Write\n",
         Request::WriteStart { bank: target, n },
     );
 }
 
-fn say_packet(image: &[u8], n: usize, p: usize) {
+fn say_packet(rt: &impl Env, image: &[u8], n: usize, p: usize) {
     let mut buffer = [0u8; ROOM];
     let made = sender::packet::packet(image, n, p, &mut buffer);
-    say::text(b"# packet");
-    say::field(p);
-    say::end();
-    say_made(made, &buffer);
+    say::text(rt, b"# packet");
+    say::field(rt, p);
+    say::end(rt);
+    say_made(rt, made, &buffer);
 }
 
-pub(crate) fn packets(image: &[u8], n: usize, count: usize) {
+pub(crate) fn packets(rt: &impl Env, image: &[u8], n: usize, count: usize) {
     let mut p = 0;
     while p < count {
-        say_packet(image, n, p);
+        say_packet(rt, image, n, p);
         p += 1;
     }
 }
 
-pub(crate) fn end() {
-    say_request(b"# End OTA Write\n", Request::WriteEnd);
-    say_request(b"# End OTA Mode\n", Request::ModeEnd);
+pub(crate) fn end(rt: &impl Env) {
+    say_request(rt, b"# End OTA Write\n", Request::WriteEnd);
+    say_request(rt, b"# End OTA Mode\n", Request::ModeEnd);
 }

@@ -1,8 +1,9 @@
 // One request line and its answer: docs/REQUESTS.md has the form of both.
 use crate::{banks, frames, sums};
 use script::{say, text};
+use std::env::Env;
 
-#[derive(Drop)]
+#[derive(Clone, Copy)]
 enum Word {
     Crc,
     More,
@@ -73,29 +74,29 @@ fn word_of(word: &[u8]) -> Word {
 
 // Whether the line is a request; one that is, is answered. A field that is missing is empty, and no request has an empty field;
 // one too many stands in the last field, with a blank that no field has.
-fn known(line: &[u8]) -> bool {
+fn known(rt: &impl Env, line: &[u8]) -> bool {
     let fields = text::rest(line);
     match word_of(text::first(line)) {
-        Word::Crc => sums::crc(fields),
-        Word::More => sums::more(fields),
-        Word::Run => sums::run(fields),
-        Word::Ramp => sums::ramp(fields),
-        Word::Sum => sums::sum(fields),
-        Word::Read => frames::read(fields),
-        Word::Control => frames::control(fields),
-        Word::Write => frames::write(fields),
-        Word::Error => frames::error(fields),
-        Word::Layout => banks::layout(fields),
-        Word::Sectors => banks::sectors(fields),
-        Word::Check => banks::verdict(fields),
-        Word::Body => banks::body(fields),
-        Word::Clean => banks::clean(fields),
+        Word::Crc => sums::crc(rt, fields),
+        Word::More => sums::more(rt, fields),
+        Word::Run => sums::run(rt, fields),
+        Word::Ramp => sums::ramp(rt, fields),
+        Word::Sum => sums::sum(rt, fields),
+        Word::Read => frames::read(rt, fields),
+        Word::Control => frames::control(rt, fields),
+        Word::Write => frames::write(rt, fields),
+        Word::Error => frames::error(rt, fields),
+        Word::Layout => banks::layout(rt, fields),
+        Word::Sectors => banks::sectors(rt, fields),
+        Word::Check => banks::verdict(rt, fields),
+        Word::Body => banks::body(rt, fields),
+        Word::Clean => banks::clean(rt, fields),
         Word::Other => false,
     }
 }
 
-pub(crate) fn answer(line: &[u8]) {
-    if !known(line) {
-        say::no_request();
+pub(crate) fn answer(rt: &impl Env, line: &[u8]) {
+    if !known(rt, line) {
+        say::no_request(rt);
     }
 }

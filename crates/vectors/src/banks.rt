@@ -6,6 +6,7 @@ use crate::{lists, sums};
 use bank::check::Verdict;
 use layout::{Bank, Counted};
 use script::{say, text};
+use std::env::Env;
 
 // Two sectors more than the largest bank has: what is too long is told from what is no request.
 const LONGEST_BANK: usize = 252_416;
@@ -13,47 +14,47 @@ const LONGEST_BANK: usize = 252_416;
 // A longer body is told by its length and its CRC-32.
 const LONGEST_SHOWN: usize = 64;
 
-fn say_layout(bank: Bank, n: usize) {
-    say::text(b"layout ");
-    say::decimal(layout::bank_number(bank) as usize);
-    say::text(b" ");
-    say::quad(layout::start_address(bank));
-    say::text(b" ");
-    say::quad(layout::end_address(bank, n));
-    say::end();
+fn say_layout(rt: &impl Env, bank: Bank, n: usize) {
+    say::text(rt, b"layout ");
+    say::decimal(rt, layout::bank_number(bank) as usize);
+    say::text(rt, b" ");
+    say::quad(rt, layout::start_address(bank));
+    say::text(rt, b" ");
+    say::quad(rt, layout::end_address(bank, n));
+    say::end(rt);
 }
 
-pub(crate) fn layout(fields: &[u8]) -> bool {
+pub(crate) fn layout(rt: &impl Env, fields: &[u8]) -> bool {
     let n = text::decimal(text::rest(fields), 6);
     if n > text::LARGEST_NUMBER {
         return false;
     }
     let bank = text::first(fields);
     if check::same(bank, b"0") {
-        say_layout(Bank::Zero, n);
+        say_layout(rt, Bank::Zero, n);
         return true;
     }
     if check::same(bank, b"1") {
-        say_layout(Bank::One, n);
+        say_layout(rt, Bank::One, n);
         return true;
     }
     false
 }
 
-fn say_sectors(n: usize) {
-    say::text(b"sectors ");
-    say::decimal(n);
-    say::end();
+fn say_sectors(rt: &impl Env, n: usize) {
+    say::text(rt, b"sectors ");
+    say::decimal(rt, n);
+    say::end(rt);
 }
 
-pub(crate) fn sectors(fields: &[u8]) -> bool {
+pub(crate) fn sectors(rt: &impl Env, fields: &[u8]) -> bool {
     let length = text::decimal(fields, 6);
     if length > text::LARGEST_NUMBER {
         return false;
     }
     match layout::sectors(length) {
-        Counted::Refused => say::text(b"refused\n"),
-        Counted::Sectors(n) => say_sectors(n),
+        Counted::Refused => say::text(rt, b"refused\n"),
+        Counted::Sectors(n) => say_sectors(rt, n),
     }
     true
 }
@@ -131,7 +132,7 @@ fn put_pieces(bank: &mut [u8], pieces: &[u8]) -> bool {
 }
 
 // What is asked of a bank.
-#[derive(Drop)]
+#[derive(Clone, Copy)]
 enum Ask {
     Check,
     Body(usize),
@@ -139,79 +140,80 @@ enum Ask {
     Clean(usize, usize),
 }
 
-fn say_verdict(bank: &[u8]) {
+fn say_verdict(rt: &impl Env, bank: &[u8]) {
     match bank::check::check(bank) {
-        Verdict::Refused => say::text(b"refused\n"),
-        Verdict::Sound => say::text(b"sound\n"),
-        Verdict::Unsound => say::text(b"unsound\n"),
+        Verdict::Refused => say::text(rt, b"refused\n"),
+        Verdict::Sound => say::text(rt, b"sound\n"),
+        Verdict::Unsound => say::text(rt, b"unsound\n"),
     }
 }
 
-fn say_body(body: &[u8]) {
-    say::text(b"body ");
+fn say_body(rt: &impl Env, body: &[u8]) {
+    say::text(rt, b"body ");
     if body.len() <= LONGEST_SHOWN {
-        say::bytes(body);
+        say::bytes(rt, body);
     } else {
-        say::decimal(body.len());
-        say::text(b" ");
-        say::quad(crc::crc32(body));
+        say::decimal(rt, body.len());
+        say::text(rt, b" ");
+        say::quad(rt, crc::crc32(body));
     }
-    say::end();
+    say::end(rt);
 }
 
-fn said(bank: &mut [u8], ask: Ask) -> bool {
+fn said(rt: &impl Env, bank: &mut [u8], ask: Ask) -> bool {
     match ask {
-        Ask::Check => say_verdict(bank),
-        Ask::Body(i) => say_body(bank::body::body(bank, i)),
-        Ask::Clean(runs, sectors) => return lists::cleaned(bank, runs, sectors),
+        Ask::Check => say_verdict(rt, bank),
+        Ask::Body(i) => say_body(rt, bank::body::body(bank, i)),
+        Ask::Clean(runs, sectors) => return lists::cleaned(rt, bank, runs, sectors),
     }
     true
 }
 
-fn asked(bank: &mut [u8], pieces: &[u8], ask: Ask) -> bool {
+fn asked(rt: &impl Env, bank: &mut [u8], pieces: &[u8], ask: Ask) -> bool {
     if !put_pieces(bank, pieces) {
         return false;
     }
-    said(bank, ask)
+    said(rt, bank, ask)
 }
 
 // The bytes of a new bank are 0xFF.
-fn asked_of(length: usize, pieces: &[u8], ask: Ask) -> bool {
+fn asked_of(rt: &impl Env, length: usize, pieces: &[u8], ask: Ask) -> bool {
     if length > LONGEST_BANK {
         return false;
     }
     let mut bank = [0xFFu8; LONGEST_BANK];
     let n = io::count(length as isize, &bank);
-    asked(&mut bank[..n], pieces, ask)
+    asked(rt, &mut bank[..n], pieces, ask)
 }
 
 // The empty field behind a blank at the end would pass for no piece.
-fn asked_by(fields: &[u8], ask: Ask) -> bool {
+fn asked_by(rt: &impl Env, fields: &[u8], ask: Ask) -> bool {
     if text::ends_in_blank(fields) {
         return false;
     }
     asked_of(
+        rt,
         text::decimal(text::first(fields), 6),
         text::rest(fields),
         ask,
     )
 }
 
-pub(crate) fn verdict(fields: &[u8]) -> bool {
-    asked_by(fields, Ask::Check)
+pub(crate) fn verdict(rt: &impl Env, fields: &[u8]) -> bool {
+    asked_by(rt, fields, Ask::Check)
 }
 
-pub(crate) fn body(fields: &[u8]) -> bool {
+pub(crate) fn body(rt: &impl Env, fields: &[u8]) -> bool {
     let i = text::decimal(text::first(fields), 6);
     if i > text::LARGEST_NUMBER {
         return false;
     }
-    asked_by(text::rest(fields), Ask::Body(i))
+    asked_by(rt, text::rest(fields), Ask::Body(i))
 }
 
-pub(crate) fn clean(fields: &[u8]) -> bool {
+pub(crate) fn clean(rt: &impl Env, fields: &[u8]) -> bool {
     let later = text::rest(fields);
     let runs = text::decimal(text::first(fields), 6);
     let sectors = text::decimal(text::first(later), 6);
-    asked_by(text::rest(later), Ask::Clean(runs, sectors))
+    asked_by(rt, text::rest(later), Ask::Clean(runs, sectors))
 }

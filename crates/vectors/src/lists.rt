@@ -3,6 +3,7 @@ ghost use Rattle.std.specs.Prelude.{◌≤◌, length};
 
 use clean::Cleaned;
 use script::say;
+use std::env::Env;
 
 // The longest list of runs: 32 of them, two numbers each.
 const LONGEST_RUNS: usize = 64;
@@ -31,61 +32,61 @@ fn fill_sectors(list: &mut [u16])
     }
 }
 
-fn say_gap(count: usize) {
-    say::text(b" ");
+fn say_gap(rt: &impl Env, count: usize) {
+    say::text(rt, b" ");
     if count == 0 {
-        say::text(b"-");
+        say::text(rt, b"-");
     }
 }
 
-fn say_runs(list: &[u32]) {
-    say_gap(list.len());
+fn say_runs(rt: &impl Env, list: &[u32]) {
+    say_gap(rt, list.len());
     let mut i = 0;
     while i < list.len() {
-        say::quad(list[i]);
+        say::quad(rt, list[i]);
         i += 1;
     }
 }
 
-fn say_sectors(list: &[u16]) {
-    say_gap(list.len());
+fn say_sectors(rt: &impl Env, list: &[u16]) {
+    say_gap(rt, list.len());
     let mut i = 0;
     while i < list.len() {
-        say::pair(list[i]);
+        say::pair(rt, list[i]);
         i += 1;
     }
 }
 
-fn say_outcome(cleaned: Cleaned) {
+fn say_outcome(rt: &impl Env, cleaned: Cleaned) {
     if let Cleaned::Done { runs, sectors } = cleaned {
-        say::text(b"cleaned");
-        say::field(runs);
-        say::field(sectors);
+        say::text(rt, b"cleaned");
+        say::field(rt, runs);
+        say::field(rt, sectors);
         return;
     }
-    say::refused(clean::cleaned_number(cleaned));
+    say::refused(rt, clean::cleaned_number(cleaned));
 }
 
 // Lists and bank are told of a refusal too: they are to be as they were.
-fn say_cleaned(bank: &mut [u8], runs: &mut [u32], sectors: &mut [u16]) {
-    say_outcome(clean::clean(bank, runs, sectors));
-    say_runs(runs);
-    say_sectors(sectors);
-    say::text(b" ");
-    say::quad(crc::crc32(bank));
-    say::end();
+fn say_cleaned(rt: &impl Env, bank: &mut [u8], runs: &mut [u32], sectors: &mut [u16]) {
+    say_outcome(rt, clean::clean(bank, runs, sectors));
+    say_runs(rt, runs);
+    say_sectors(rt, sectors);
+    say::text(rt, b" ");
+    say::quad(rt, crc::crc32(bank));
+    say::end(rt);
 }
 
-fn lend_sectors(bank: &mut [u8], runs: &mut [u32], sectors: usize)
+fn lend_sectors(rt: &impl Env, bank: &mut [u8], runs: &mut [u32], sectors: usize)
     requires { sectors ≤ 512 }
 {
     let mut list = [0u16; LONGEST_SECTORS];
     fill_sectors(&mut list);
-    say_cleaned(bank, runs, &mut list[..sectors]);
+    say_cleaned(rt, bank, runs, &mut list[..sectors]);
 }
 
 // Whether there are such lists.
-pub(crate) fn cleaned(bank: &mut [u8], runs: usize, sectors: usize) -> bool {
+pub(crate) fn cleaned(rt: &impl Env, bank: &mut [u8], runs: usize, sectors: usize) -> bool {
     if runs > LONGEST_RUNS {
         return false;
     }
@@ -94,6 +95,6 @@ pub(crate) fn cleaned(bank: &mut [u8], runs: usize, sectors: usize) -> bool {
     }
     let mut list = [0u32; LONGEST_RUNS];
     fill_runs(&mut list);
-    lend_sectors(bank, &mut list[..runs], sectors);
+    lend_sectors(rt, bank, &mut list[..runs], sectors);
     true
 }

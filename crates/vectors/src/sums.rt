@@ -2,72 +2,73 @@
 ghost use Rattle.std.specs.Prelude.{◌<◌, ◌≤◌};
 
 use script::{say, text};
+use std::env::Env;
 
 const LONGEST_RUN: usize = 300_000;
 
-fn say_crc(value: u32) {
-    say::text(b"crc ");
-    say::quad(value);
-    say::end();
+fn say_crc(rt: &impl Env, value: u32) {
+    say::text(rt, b"crc ");
+    say::quad(rt, value);
+    say::end(rt);
 }
 
 // What is asked of bytes that a field spells.
-#[derive(Drop)]
+#[derive(Clone, Copy)]
 enum Ask {
     Crc,
     More(u32),
     Sum,
 }
 
-fn say_more(register: u32, bytes: &[u8]) {
-    say::text(b"more ");
-    say::quad(crc::crc_more(register, bytes));
-    say::end();
+fn say_more(rt: &impl Env, register: u32, bytes: &[u8]) {
+    say::text(rt, b"more ");
+    say::quad(rt, crc::crc_more(register, bytes));
+    say::end(rt);
 }
 
-fn say_sum(bytes: &[u8]) {
-    say::text(b"sum ");
-    say::byte(frame::checksum::checksum(bytes));
-    say::end();
+fn say_sum(rt: &impl Env, bytes: &[u8]) {
+    say::text(rt, b"sum ");
+    say::byte(rt, frame::checksum::checksum(bytes));
+    say::end(rt);
 }
 
-fn say_asked(ask: Ask, bytes: &[u8]) {
+fn say_asked(rt: &impl Env, ask: Ask, bytes: &[u8]) {
     match ask {
-        Ask::Crc => say_crc(crc::crc32(bytes)),
-        Ask::More(register) => say_more(register, bytes),
-        Ask::Sum => say_sum(bytes),
+        Ask::Crc => say_crc(rt, crc::crc32(bytes)),
+        Ask::More(register) => say_more(rt, register, bytes),
+        Ask::Sum => say_sum(rt, bytes),
     }
 }
 
-fn asked(ask: Ask, digits: &[u8]) -> bool {
+fn asked(rt: &impl Env, ask: Ask, digits: &[u8]) -> bool {
     let mut bytes = [0u8; 2048];
     let got = text::bytes(digits, &mut bytes);
     if got < 0 {
         return false;
     }
     let n = io::count(got, &bytes);
-    say_asked(ask, &bytes[..n]);
+    say_asked(rt, ask, &bytes[..n]);
     true
 }
 
-pub(crate) fn crc(fields: &[u8]) -> bool {
-    asked(Ask::Crc, fields)
+pub(crate) fn crc(rt: &impl Env, fields: &[u8]) -> bool {
+    asked(rt, Ask::Crc, fields)
 }
 
-pub(crate) fn more(fields: &[u8]) -> bool {
+pub(crate) fn more(rt: &impl Env, fields: &[u8]) -> bool {
     let register = text::number(text::first(fields), 8);
     if register > 0xFFFF_FFFF {
         return false;
     }
-    asked(Ask::More(register as u32), text::rest(fields))
+    asked(rt, Ask::More(register as u32), text::rest(fields))
 }
 
-pub(crate) fn sum(fields: &[u8]) -> bool {
-    asked(Ask::Sum, fields)
+pub(crate) fn sum(rt: &impl Env, fields: &[u8]) -> bool {
+    asked(rt, Ask::Sum, fields)
 }
 
 // The bytes of a long message: all the same, or 0, 1, .. 250 over and over.
-#[derive(Drop)]
+#[derive(Clone, Copy)]
 pub enum Pattern {
     Same(u8),
     Ramp,
@@ -135,25 +136,26 @@ fn register_of(pattern: Pattern, count: usize) -> u32
     register
 }
 
-fn long_crc(pattern: Pattern, count: usize) -> bool {
+fn long_crc(rt: &impl Env, pattern: Pattern, count: usize) -> bool {
     if count > LONGEST_RUN {
         return false;
     }
-    say_crc(crc_of(pattern, count));
+    say_crc(rt, crc_of(pattern, count));
     true
 }
 
-pub(crate) fn run(fields: &[u8]) -> bool {
+pub(crate) fn run(rt: &impl Env, fields: &[u8]) -> bool {
     let byte = text::number(text::first(fields), 2);
     if byte > 255 {
         return false;
     }
     long_crc(
+        rt,
         Pattern::Same(byte as u8),
         text::decimal(text::rest(fields), 6),
     )
 }
 
-pub(crate) fn ramp(fields: &[u8]) -> bool {
-    long_crc(Pattern::Ramp, text::decimal(fields, 6))
+pub(crate) fn ramp(rt: &impl Env, fields: &[u8]) -> bool {
+    long_crc(rt, Pattern::Ramp, text::decimal(fields, 6))
 }

@@ -1,0 +1,18 @@
+-- `bank::bodies::listed_good` meets its contract: what is left holds just where all does.
+-- Assumes nothing.
+use mathlib.Core.Path.{◌≡◌, sym, ◌∙◌}
+use mathlib.Core.Bool.{◌&&◌}
+use native.Mathlib.Omega.{arith}
+use Prim.Native.Nat.{◌-◌, ◌≤◌}
+use lib.ListN.{length}
+use borrow.Author.Tests.{not-true, not-false}
+use borrow.Author.Rules.{rules}
+use Rattle.bank.specs.Sound.{listed_good, blank_good, asked}
+use Rattle.bank.proofs.Tables.{end_fits, good_from, good-not, good-next, good_done, good_within, good_start}
+use Rattle.bank.proofs.bodies.listed_good.Given as goal
+
+abbrev pub invariant-loop-i : goal.invariant-loop-i
+invariant-loop-i l = (l.at ≤ length l.bank) × ((listed_good l.bank && asked l.outside (blank_good l.bank)) ≡ good_from l.outside l.bank l.at l.i)
+
+abbrev pub decreases-loop-i : goal.decreases-loop-i
+decreases-loop-i l = l.n - l.i

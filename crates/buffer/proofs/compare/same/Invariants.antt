@@ -1,0 +1,13 @@
+-- `buffer::compare::same` meets its contract: what is left is the same just where the whole is.
+-- Assumes nothing.
+use mathlib.Core.Path.{◌≡◌}
+use Prim.Native.Nat.{◌-◌, ◌≤◌}
+use lib.ListN.{length, drop}
+use Rattle.buffer.specs.Compare.{same_of}
+use Rattle.buffer.proofs.compare.same.Given as goal
+
+abbrev pub invariant-loop-i : goal.invariant-loop-i
+invariant-loop-i l = (l.i ≤ length l.a) × (same_of (drop l.i l.a) (drop l.i l.b) ≡ same_of l.a l.b)
+
+abbrev pub decreases-loop-i : goal.decreases-loop-i
+decreases-loop-i l = length l.a - l.i

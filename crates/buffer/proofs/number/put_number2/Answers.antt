@@ -1,0 +1,12 @@
+-- `buffer::number::put_number2` meets its contract.
+-- Assumes nothing.
+use mathlib.Core.Path.{sym, ap, ◌∙◌}
+use Rattle.buffer.specs.Place.{place_of}
+use Rattle.buffer.proofs.Numbers.{bytes_two}
+use Rattle.buffer.proofs.number.put_number2.Goals as goal
+
+pub returns : goal.returns
+returns c =
+    c.put_at.ensures ∙ ap
+    (place_of c.args.buffer.now
+    c.args.at) (sym (bytes_two c.args.number))

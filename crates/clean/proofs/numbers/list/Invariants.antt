@@ -1,0 +1,18 @@
+-- `clean::numbers::list` meets its contract: behind each sector the numbers up to there are listed.
+-- Assumes nothing.
+use mathlib.Core.Path.{◌≡◌, sym, ap, ◌∙◌}
+use Prim.Native.Nat.{◌+◌, ◌-◌, ◌≤◌}
+use native.Mathlib.Omega.{arith}
+use lib.ListN.{length}
+use lib.Seq.{sets, length-sets}
+use Rattle.buffer.proofs.Places.{sets_next}
+use Rattle.clean.specs.Sectors.{numbers_at}
+use Rattle.clean.specs.Walk.{mark_in}
+use Rattle.clean.proofs.Sectors.{numbers_next, numbers_none, numbers_more, numbers_on}
+use Rattle.clean.proofs.numbers.list.Given as goal
+
+abbrev pub invariant-loop-i : goal.invariant-loop-i
+invariant-loop-i l = (l.i ≤ l.n) × (l.m ≡ length (numbers_at (mark_in l.marks) l.i)) × (l.sectors ≡ sets l.initial.sectors 0 (numbers_at (mark_in l.marks) l.i))
+
+abbrev pub decreases-loop-i : goal.decreases-loop-i
+decreases-loop-i l = l.n - l.i

@@ -1,0 +1,7 @@
+-- `client::notice::notice_with` meets its contract.
+-- Assumes nothing.
+use borrow.Author.Rules.{rules}
+use Rattle.client.proofs.notice.notice_with.Goals as goal
+
+pub returns : goal.returns
+returns c = simp c.address_of.ensures

@@ -1,0 +1,10 @@
+-- `client::step::Client::kept` meets its contract.
+-- Assumes nothing.
+use Rattle.client.proofs.Stepping.{kept_is}
+use borrow.Author.Rules.{rules}
+use Rattle.client.proofs.record.Client.kept.Goals as goal
+
+pub returns : goal.returns
+returns c =
+    let a = c.args in
+    kept_is a.self a.answer a.buffer.now _ _ _ c.no_notice-notice.ensures c.say-length.ensures

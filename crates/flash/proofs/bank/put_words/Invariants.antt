@@ -1,0 +1,16 @@
+-- `flash::bank::put_words` meets its contract: at each turn the first i words are stored.
+-- Assumes nothing.
+use mathlib.Core.Path.{◌≡◌, refl, ◌∙◌}
+use Prim.Native.Nat.{◌≤◌, ◌-◌}
+use native.Mathlib.Omega.{arith}
+use lib.ListN.{length}
+use borrow.Author.Rules.{rules}
+use Rattle.flash.specs.Store.{StoresLeave, word_stores}
+use Rattle.flash.proofs.Words.{words_none, words_next}
+use Rattle.flash.proofs.bank.put_words.Given as goal
+
+abbrev pub invariant-loop-i : goal.invariant-loop-i
+invariant-loop-i l = (l.i ≤ l.n) × (length l.bank ≡ length l.initial.bank) × StoresLeave (word_stores l.k l.bytes l.i) l.initial.bank l.bank
+
+abbrev pub decreases-loop-i : goal.decreases-loop-i
+decreases-loop-i l = l.n - l.i

@@ -1,0 +1,16 @@
+-- `flash::bank::sweep` meets its contract: at each turn the stores of the first j sectors are made.
+-- Assumes nothing.
+use mathlib.Core.Path.{◌≡◌, refl, ◌∙◌}
+use Prim.Native.Nat.{◌≤◌, ◌-◌}
+use native.Mathlib.Omega.{arith}
+use lib.ListN.{length}
+use borrow.Author.Rules.{rules}
+use Rattle.flash.specs.Store.{StoresLeave, sweep_stores}
+use Rattle.flash.proofs.Sweeps.{sweep_none, sweep_next, sweep_end}
+use Rattle.flash.proofs.bank.sweep.Given as goal
+
+abbrev pub invariant-loop-j : goal.invariant-loop-j
+invariant-loop-j l = (l.j ≤ l.last) × (length l.bank ≡ length l.initial.bank) × StoresLeave (sweep_stores l.received (length l.initial.bank) l.j) l.initial.bank l.bank
+
+abbrev pub decreases-loop-j : goal.decreases-loop-j
+decreases-loop-j l = l.last - l.j

@@ -1,0 +1,13 @@
+-- `frame::write::footer_byte` meets its contract.
+-- Assumes nothing.
+use Rattle.frame.specs.Frame.{footer_byte}
+use Rattle.std.proofs.Common.{rules}
+use Rattle.frame.proofs.write.footer_byte.Goals as goal
+
+pub returns-in-End : goal.returns-in-End
+unfolding footer_byte
+returns-in-End c = rw c.in-End.is
+
+pub returns-in-Continued : goal.returns-in-Continued
+unfolding footer_byte
+returns-in-Continued c = rw c.in-Continued.is

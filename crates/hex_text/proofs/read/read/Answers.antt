@@ -1,0 +1,44 @@
+-- `hex_text::read::read` meets its contract: each way out is a case of the definition.
+-- Assumes nothing.
+use Rattle.std.proofs.Common.{sym, ◌∙◌, arith}
+use Rattle.layout.proofs.Layouts.{good_high, start_small}
+use Rattle.hex_text.proofs.Steps.{read_3, read-2, read-accepted, read-refused}
+use Rattle.hex_text.proofs.read.read.Goals as goal
+
+pub returns-then-not-good_n : goal.returns-then-not-good_n
+returns-then-not-good_n c =
+    let a = c.args in read_3 a.text.now a.bank a.n a.image.now (sym c.good_n.ensures ∙ c.if-not-good_n.true)
+
+pub overflow_mul-n : goal.overflow_mul-n
+overflow_mul-n c =
+    let h = good_high c.args.n (sym c.good_n.ensures ∙ c.if-not-good_n.false) in
+    omega arith
+
+pub returns-then-image-n : goal.returns-then-image-n
+returns-then-image-n c =
+    let a = c.args in
+    read-2 a.text.now a.bank a.n a.image.now (sym c.good_n.ensures ∙ c.if-not-good_n.false) c.if-image-n.true
+
+pub read_lines-outcome-requires : goal.read_lines-outcome-requires
+read_lines-outcome-requires c =
+    let a = c.args in
+    let h = good_high a.n (sym c.good_n.ensures ∙ c.if-not-good_n.false) in
+    let b = start_small a.bank in
+    (omega arith, omega (arith, c.fill.auto.buffer, c.if-image-n.false))
+
+pub returns-in-Stopped : goal.returns-in-Stopped
+returns-in-Stopped c =
+    let a = c.args in
+    let g = sym c.good_n.ensures ∙ c.if-not-good_n.false in
+    read-refused a.text.now a.bank a.n a.image.now g c.if-image-n.false (c.wide4-base.ensures.0 ∙ c.start_address.ensures)
+    c.fill.ensures
+    _ c.read_lines-outcome.new.image c.in-Stopped.ensures c.read_lines-outcome.auto.image
+    c.fill-in-Stopped.ensures
+
+pub returns-in-Through : goal.returns-in-Through
+returns-in-Through c =
+    let a = c.args in
+    let g = sym c.good_n.ensures ∙ c.if-not-good_n.false in
+    read-accepted a.text.now a.bank a.n a.image.now g c.if-image-n.false (c.wide4-base.ensures.0 ∙ c.start_address.ensures)
+    c.fill.ensures
+    c.in-Through.ensures

@@ -1,0 +1,20 @@
+-- `response::read::error` meets its contract: each way out is a case of the definition.
+-- Assumes nothing.
+use mathlib.Core.Path.{sym, ◌∙◌}
+use borrow.Author.Tests.{not-true, not-false}
+use Rattle.response.proofs.Responses.{error_length, error_result, is_error}
+use borrow.Author.Rules.{rules}
+use Rattle.response.proofs.read.error.Goals as goal
+
+pub returns-then-parameters-ne1 : goal.returns-then-parameters-ne1
+returns-then-parameters-ne1 c = error_length _ c.if-parameters-ne1.true
+
+pub returns-then-not-may_carry : goal.returns-then-not-may_carry
+returns-then-not-may_carry c =
+    let args = c.args in
+    error_result args.parameters.now (sym c.may_carry.ensures ∙ c.if-not-may_carry.true)
+
+pub returns : goal.returns
+returns c =
+    let args = c.args in
+    is_error args.parameters.now c.if-parameters-ne1.false (sym c.may_carry.ensures ∙ c.if-not-may_carry.false)
