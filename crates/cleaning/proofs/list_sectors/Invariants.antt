@@ -1,7 +1,6 @@
 -- `cleaning::list_sectors` is safe and ends.
 -- Assumes nothing.
 use Prim.Native.Nat.{◌≤◌, ◌-◌}
-use borrow.Author.Rules.{rules}
 use Rattle.cleaning.proofs.list_sectors.Given as goal
 
 abbrev pub invariant-loop-i : goal.invariant-loop-i
