@@ -1,10 +1,7 @@
 -- `vectors::frames::front_frame` meets its contract: no part that is tried is longer than the buffer.
 -- Assumes nothing.
-use mathlib.Core.Path.{sym}
 use Prim.Native.Nat.{◌≤◌, ◌-◌}
 use lib.ListN.{length}
-use lib.Seq.{length-take-le}
-use borrow.Author.Rules.{rules}
 use Rattle.vectors.proofs.frames.front_frame.Given as goal
 
 abbrev pub invariant-loop-n : goal.invariant-loop-n

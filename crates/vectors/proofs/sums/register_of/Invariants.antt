@@ -1,7 +1,6 @@
 -- `vectors::sums::register_of` is safe and ends: a piece is never empty.
 -- Assumes nothing.
 use Prim.Native.Nat.{◌≤◌, ◌-◌}
-use borrow.Author.Rules.{rules}
 use Rattle.vectors.proofs.sums.register_of.Given as goal
 
 abbrev pub invariant-loop-done : goal.invariant-loop-done
