@@ -139,14 +139,12 @@ class Tries:
                 shutil.copytree(self.top / "crates" / name / part, lane / "crates" / name / part, copy_function=linked)
 
     def run(self, name, files, words, outcome):
-        """What `rt check` says of a crate with these files, in a lane of its own."""
+        """What `rt check` says of a crate with these files, in a lane of its own; the crate is there as it stands before and after."""
         if name not in self.proved:
             raise Unproved(name)
         lane = self.free.get()
+        crate = lane / "crates" / name
         try:
-            crate = lane / "crates" / name
-            shutil.rmtree(crate)
-            self.copy(name, lane)
             for path in {*files, *self.crate(name)}:
                 if files.get(path) != self.crate(name).get(path):
                     (crate / path).unlink(missing_ok=True)
@@ -155,6 +153,8 @@ class Tries:
                         (crate / path).write_text(files[path])
             return outcome(rt(crate, "check", "--jobs", "1", *words).stdout, crate)
         finally:
+            shutil.rmtree(crate)
+            self.copy(name, lane)
             self.free.put(lane)
 
     def log(self, name, files, functions=()):
@@ -164,7 +164,7 @@ class Tries:
         said = self.store.get(key)
         if said is None:
             said = self.run(name, files, only, lambda said, crate: said.replace(str(crate) + "/", ""))
-            if not re.search(r"^(?:logic|only)=", said, re.M):
+            if not re.search(rf"^crate {name}: modules .*\n(?:logic|only)=", said, re.M):
                 raise Failed(f"the check of {name} ended without a verdict: {said.strip()[-300:]}")
             self.store.put(key, said)
         return said
@@ -179,10 +179,11 @@ class Tries:
             def outcome(_, crate):
                 goals = {function: crate / f"out/generated/Rattle-{name}-proofs" / "/".join(function.split("::")[1:]) / "Goals.antt" for function in functions}
                 found = {function: re.findall(r"^(?:abbrev )?pub (\S+) ?:", f.read_text(), re.M) for function, f in goals.items() if f.is_file()}
-                return "\n".join(" ".join([function, *names]) for function, names in sorted(found.items()))
+                return "\n".join(" ".join([function, *names]) for function, names in sorted(found.items()) if names)
 
             said = self.run(name, files, [*words, "--generated", "out/generated"], outcome)
-            self.store.put(key, said)
+            if len(said.split("\n")) == len(functions):
+                self.store.put(key, said)
         return {line.split()[0]: line.split()[1:] for line in said.split("\n") if line}
 
     def side_by_side(self, call, things):
