@@ -121,7 +121,7 @@ class Tries:
         every = [name for name in self.rows if any(name == crate or name in self.below[crate] for crate in crates)]
         failed = [name for name in every if told.get(name) != "ok"]
         if failed:
-            raise Failed(f"as they stand these do not prove: {' '.join(failed)}")
+            raise Failed(f"as they stand these do not prove: {' '.join(failed)}" if told else ran.stdout.strip()[-400:])
         self.room = pathlib.Path(tempfile.mkdtemp(prefix="refused-"))
         for number in range(self.jobs):
             lane = self.room / f"lane{number}"
