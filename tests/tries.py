@@ -1,4 +1,4 @@
-"""Tries edits of a crate: each on a copy of it, beside copies of the crates that it rests on, over what `rt check` proved there.
+"""Tries edits of a crate: each on a copy of it, beside copies of the crates that it rests on, over what `rt check` proved in the checkout.
 
 `rt` tells of a must-fail edit only what it met first, and keeps no more. So each is tried here once more, outside the checkout, and the check's own words are
 handed back. What was tried is kept in the caller's cache folder, by a sum of all that the check read, as `rt ci` keeps what it passed."""
@@ -84,7 +84,7 @@ class Store:
 
 
 class Tries:
-    """The crates of a checkout, copied to a folder of their own and proved there once something has to be tried."""
+    """The crates of a checkout, which are proved there, and copied to folders apart, once something has to be tried."""
 
     def __init__(self, top, store, jobs=None, say=lambda line: None):
         self.top, self.store, self.jobs, self.say = top, store, jobs or lanes(), say
@@ -114,31 +114,37 @@ class Tries:
         return hashlib.sha256(repr((self.sums[name], sorted(files.items()), what)).encode()).hexdigest()
 
     def prove(self, crates):
-        """Proves these crates in a copy, once; a Failed where one does not prove."""
-        self.room = pathlib.Path(tempfile.mkdtemp(prefix="refused-"))
-        base = self.room / "base"
+        """Proves what the checkout has, as far as its own checks have not, and copies these crates and those that they rest on; a Failed where one does not prove."""
+        self.say("proving the crates, over which the edits are tried")
+        ran = rt(self.top, "all", "check", "--jobs", str(self.jobs))
+        told = dict(re.findall(r"^(\w+): (ok|failed \(\d+\)|not run.*)$", ran.stdout, re.M))
         every = [name for name in self.rows if any(name == crate or name in self.below[crate] for crate in crates)]
-        copy(self.top, base, self.rows, every)
-        self.say(f"proving {len(every)} crates, over which the edits are tried")
-        ran = rt(base, "all", "check", "--jobs", str(self.jobs))
-        if ran.returncode:
-            failed = re.findall(r"^(\w+): (?!ok$)(?:failed|not run).*$", ran.stdout, re.M)
-            raise Failed(f"as they stand these do not prove: {' '.join(failed) or ran.stdout[-400:]}")
+        failed = [name for name in every if told.get(name) != "ok"]
+        if failed:
+            raise Failed(f"as they stand these do not prove: {' '.join(failed)}" if told else ran.stdout.strip()[-400:])
+        self.room = pathlib.Path(tempfile.mkdtemp(prefix="refused-"))
         for number in range(self.jobs):
             lane = self.room / f"lane{number}"
-            shutil.copytree(base, lane, copy_function=linked)
+            (lane / ".git").mkdir(parents=True)  # the top of a repository
+            (lane / "crates.txt").write_text("".join(self.rows[name] + "\n" for name in every))
+            for name in every:
+                self.copy(name, lane)
             self.free.put(lane)
         self.proved = set(crates)
 
+    def copy(self, name, lane):
+        """Copies what a check of a crate reads."""
+        for part in (*PARTS, "out/incremental", "out/rlib"):
+            if (self.top / "crates" / name / part).is_dir():
+                shutil.copytree(self.top / "crates" / name / part, lane / "crates" / name / part, copy_function=linked)
+
     def run(self, name, files, words, outcome):
-        """What `rt check` says of a crate with these files, in a lane of its own."""
+        """What `rt check` says of a crate with these files, in a lane of its own; the crate is there as it stands before and after."""
         if name not in self.proved:
             raise Unproved(name)
         lane = self.free.get()
+        crate = lane / "crates" / name
         try:
-            crate = lane / "crates" / name
-            shutil.rmtree(crate)
-            shutil.copytree(self.room / "base/crates" / name, crate, copy_function=linked)
             for path in {*files, *self.crate(name)}:
                 if files.get(path) != self.crate(name).get(path):
                     (crate / path).unlink(missing_ok=True)
@@ -147,6 +153,8 @@ class Tries:
                         (crate / path).write_text(files[path])
             return outcome(rt(crate, "check", "--jobs", "1", *words).stdout, crate)
         finally:
+            shutil.rmtree(crate)
+            self.copy(name, lane)
             self.free.put(lane)
 
     def log(self, name, files, functions=()):
@@ -156,7 +164,7 @@ class Tries:
         said = self.store.get(key)
         if said is None:
             said = self.run(name, files, only, lambda said, crate: said.replace(str(crate) + "/", ""))
-            if not re.search(r"^(?:logic|only)=", said, re.M):
+            if not re.search(rf"^crate {name}: modules .*\n(?:logic|only)=", said, re.M):
                 raise Failed(f"the check of {name} ended without a verdict: {said.strip()[-300:]}")
             self.store.put(key, said)
         return said
@@ -171,10 +179,11 @@ class Tries:
             def outcome(_, crate):
                 goals = {function: crate / f"out/generated/Rattle-{name}-proofs" / "/".join(function.split("::")[1:]) / "Goals.antt" for function in functions}
                 found = {function: re.findall(r"^(?:abbrev )?pub (\S+) ?:", f.read_text(), re.M) for function, f in goals.items() if f.is_file()}
-                return "\n".join(" ".join([function, *names]) for function, names in sorted(found.items()))
+                return "\n".join(" ".join([function, *names]) for function, names in sorted(found.items()) if names)
 
             said = self.run(name, files, [*words, "--generated", "out/generated"], outcome)
-            self.store.put(key, said)
+            if len(said.split("\n")) == len(functions):
+                self.store.put(key, said)
         return {line.split()[0]: line.split()[1:] for line in said.split("\n") if line}
 
     def side_by_side(self, call, things):
@@ -182,19 +191,14 @@ class Tries:
             return list(pool.map(call, things))
 
 
-def copy(top, to, rows, crates):
-    """Copies what a check of these crates reads."""
-    (to / ".git").mkdir(parents=True)  # the top of a repository
-    (to / "crates.txt").write_text("".join(rows[crate] + "\n" for crate in crates))
-    for crate in crates:
-        for part in PARTS:
-            if (top / "crates" / crate / part).is_dir():
-                shutil.copytree(top / "crates" / crate / part, to / "crates" / crate / part)
-
-
 def linked(one, other):
-    """Copies a file; what was proved is one file with the copy, since a check replaces such a file and never writes into it."""
-    return os.link(one, other) if one.endswith(".oantt") or "/out/rlib/" in one else shutil.copy2(one, other)
+    """Copies a file; what was proved is one file with the copy, where that can be, since a check replaces such a file and never writes into it."""
+    try:
+        if one.endswith(".oantt") or "/out/rlib/" in one:
+            return os.link(one, other)
+    except OSError:
+        pass
+    return shutil.copy2(one, other)
 
 
 def rt(folder, *words):
