@@ -84,7 +84,7 @@ class Crate:
 
     def file(self, module):
         """What a module of this crate is: a file of its definitions or proofs, or the functions that its name leads to; None of another crate's."""
-        own = re.fullmatch(rf"Rattle·{re.escape(self.name)}·(specs|proofs)\.(?:specs|proofs)(?:\.(.*))?", module)
+        own = re.fullmatch(rf"Rattle\.{re.escape(self.name)}\.(specs|proofs)(?:\.(.*))?", module)
         if not own:
             return None
         parts = (own.group(2) or "Lib").split(".")

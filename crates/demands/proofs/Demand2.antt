@@ -20,7 +20,7 @@ use Rattle.frame.specs.Frame.{framed, control_frame, write_frame}
 use Rattle.frame.specs.Read.{read_of, data_in}
 use Rattle.frame.proofs.Writing.{length_control}
 use Rattle.frame.specs.declared.read.Footer.TheVariants.{End}
-use Rattle.frame.specs.declared.read.Read.TheVariants.{Control, Write}
+use Rattle.frame.specs.declared.read.Read.TheVariants.{Write}
 use Rattle.flash.specs.Bank.{with_sector}
 use Rattle.flash.specs.Sector.{padded_of}
 use Rattle.flash.proofs.Blanks.{blank_whole, sector_blanks}
@@ -47,7 +47,7 @@ use Rattle.client.specs.Record.{starting, begun, ended}
 use Rattle.calls.proofs.Courses.{accepted, not_write}
 use Rattle.exchange.proofs.Saying.{answer_short}
 use Rattle.decision.proofs.Planning.{lent_good_lem, values-words}
-use Rattle.calls.specs.Call.{Board, board}
+use Rattle.calls.specs.Call.{Board}
 use Rattle.demands.specs.Board.{LentCall, Input, Datagram, Outcome, said, after, outcomes, target_bank, sectors_in, lent_of, lent_target, step_machine}
 use Rattle.demands.specs.Session.{ends_session, all_blank, exchanged, noted}
 use Rattle.demands.specs.Demand1.{changed, stored, packet_stored, swept_target}

@@ -349,6 +349,7 @@ kept_met =
     left-shut address b (Datagram call) o (mode_ended_lem from reads e) =
         answer_tells b call 0x74 (λ (x : Board). is_open x.client.state ≡ false) refl refl refl refl refl (λ t. absurd (false≢true t)) (λ _. refl)
         (ap (is_response 0x74 0x06) e)
+    left-shut address b Initiate o leaves = elim leaves [ ]
     left-shut address b Terminate o (terminated e) =
         hosted (λ (x : Outcome). x.number ≡ 0 → is_open x.board.client.state ≡ false) b Terminate
         (first (λ _ z. absurd (omega (arith, z))) (λ _. first (λ _ z. absurd (omega (arith, z))) (λ _. first (λ _ _. refl) (λ _. last)))) e

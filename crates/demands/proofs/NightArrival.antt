@@ -249,6 +249,7 @@ module _ (image : List ℕ) (bank : Bank) (n tries : ℕ) (st : Startable image 
           onto address k gone given l w (round_of given buffer (AnswerLost a)) h (passage_more tt no_passage) k (gone + 1) (suc given)
           (silent address k gone given l w (round_of given buffer (AnswerLost a)) h (passage_more tt no_passage) refl g) (fits-then a)
           (once_more k gone (outcome a).board w.right.0 m (served a r).then) (served a r).held (one_more a)
+      failed (Through a) buffer none h g = elim none [ ]
 
       -- one that goes through settles the request
       settled : (a : Arrival) (buffer : List ℕ) → Right address n a

@@ -116,6 +116,7 @@ pub data Among (a : List ℕ) : List (List ℕ) → Type 0 where
   behind : {x : List ℕ} {rest : List (List ℕ)} → Among a rest → Among a (x ∷ rest)
 
 among_more : {a : List ℕ} (xs ys : List (List ℕ)) → Among a xs → Among a (xs ++ ys)
+among_more {a = a} [] ys m = elim m [ ]
 among_more (x ∷ xs) ys here = here
 among_more (x ∷ xs) ys (behind m) = behind (among_more xs ys m)
 
@@ -125,6 +126,7 @@ among_last a (x ∷ xs) = behind (among_last a xs)
 
 among_parts : {a : List ℕ} (xs : List (List ℕ)) (b : List ℕ) → Among a (xs ++ (b ∷ [])) → Among a xs ⊎ (a ≡ b)
 among_parts [] b here = inr refl
+among_parts {a = a} [] b (behind m) = elim m [ ]
 among_parts (x ∷ xs) b here = inl here
 among_parts (x ∷ xs) b (behind m) = by (among_parts xs b m)
   where
@@ -400,6 +402,7 @@ module _ (image : List ℕ) (bank : Bank) (n tries : ℕ) (st : Startable image 
       nothing_yet a m = by [] refl m
         where
           by : (l : List (List ℕ)) → l ≡ [] → Among a l → ⊥
+          by [] e m = elim m [ ]
           by (x ∷ l) e here = no_way cc
           by (x ∷ l) e (behind m) = no_way cc
 

@@ -17,7 +17,6 @@ use Rattle.crc.proofs.Laws.{of_lt}
 use Rattle.frame.specs.Frame.{control_frame, write_frame}
 use Rattle.frame.specs.Read.{read_of, data_in}
 use Rattle.frame.specs.declared.read.Footer.TheVariants.{End}
-use Rattle.frame.specs.declared.read.Read.TheVariants.{Write}
 use Rattle.flash.specs.Sector.{padded_of}
 use Rattle.layout.specs.declared.Bank.{Bank}
 use Rattle.layout.specs.Layout.{good_n, bank_size, bank_number, other_of, sector_of}

@@ -314,23 +314,23 @@ module _ (image : List ℕ) (bank : Bank) (n : ℕ) (Rest : List Turn → Type 0
             let less : k.fewer ≤ rest = ih k.fewer k.vain in
             omega (arith, k.left_is, counts k.size k.hand-is)
 
-    tried-counted : (gs : List Given) (o : Told S) (tries times : ℕ) {last : Next} {ts : List Turn} → TriedInVain image bank n Rest name tries last ts
+    tried-counted : (tries : ℕ) (gs : List Given) (o : Told S) (times : ℕ) {last : Next} {ts : List Turn} → TriedInVain image bank n Rest name tries last ts
         → ts ≡ turns_of m image o gs → Times name times (o ∷ tolds m image o.record_then gs) → tries ≤ times
-    tried-counted gs o tries times {last} (from-here new v) e t = vain-counted gs o tries times (subst (InVain image bank n Rest name tries last) e v) t
-    tried-counted [] o tries times (from-later x) e t = no_way cc
-    tried-counted (g ∷ gs) o tries times (from-later {t = u} {rest = us} x) e t =
+    tried-counted tries gs o times {last} (from-here new v) e t = vain-counted gs o tries times (subst (InVain image bank n Rest name tries last) e v) t
+    tried-counted tries [] o times (from-later x) e t = no_way cc
+    tried-counted tries (g ∷ gs) o times (from-later {t = u} {rest = us} x) e t =
         let next-told : Told S = m.event o.record_then g.event image g.buffer in
         let rests : us ≡ turns_of m image next-told gs = cc in
         let h : Times·Head times o (next-told ∷ tolds m image next-told.record_then gs) =
         times_head o (next-told ∷ tolds m image next-told.record_then gs) t refl in
-        omega (arith, tried-counted gs next-told tries h.rest x rests h.times-rest, h.no_more)
+        omega (arith, tried-counted tries gs next-told h.rest x rests h.times-rest, h.no_more)
 
 pub no_early : {S : Type 0} (m : NightSender S) → GivesUpEarly m → MeetsGivingUp m → ⊥
 no_early m k meets =
     let b = k.begin in
     let few = k.fewer in
     let many : b.tries ≤ k.times =
-    tried-counted b.image b.bank b.n (AllTold (GaveUp k.name Tries)) k.name m k.events (m.start b.image b.bank b.n b.tries b.before) b.tries k.times
+    tried-counted b.image b.bank b.n (AllTold (GaveUp k.name Tries)) k.name m b.tries k.events (m.start b.image b.bank b.n b.tries b.before) k.times
     (meets.why-tries b.image b.bank b.n b.tries b.before k.events k.name b.starts b.roomy k.roomy k.gives_up)
     refl k.counted in
     absurd (omega arith)

@@ -26,7 +26,7 @@ use Rattle.decision.specs.declared.plan.Fixed.{Fixed}
 use Rattle.decision.specs.Plan.{lent_good}
 use Rattle.decision.proofs.Planning.{lent}
 use Rattle.calls.specs.Call.{Board}
-use Rattle.demands.specs.Board.{LentCall, Input, Datagram, Outcome, said, after, outcomes, lent_of, lent_target, step_machine}
+use Rattle.demands.specs.Board.{LentCall, Input, Initiate, Terminate, Datagram, Outcome, said, after, outcomes, lent_of, lent_target, step_machine}
 use Rattle.demands.specs.Demand1.{is_fault, no_request, wrong_length, from_stranger, negative_response, parameter_error, response_code, refused, answered}
 use Rattle.demands.specs.Demand2.{Packets, none, more, AllTaken}
 use Rattle.demands.specs.Session.{all_blank}
@@ -150,6 +150,8 @@ strangers_met = record { nothing_changes = unchanged; unheeded = all-unheeded }
     unchanged address b [] o nobody_sends = refl
     unchanged address b (Datagram call ∷ is) o (somebody_sends h hs) =
         ap (λ (x : Board). after step_machine x is) (unheeded_one address b call o h).board ∙ unchanged address b is o hs
+    unchanged address b (Initiate ∷ is) o strange = elim strange [ ]
+    unchanged address b (Terminate ∷ is) o strange = elim strange [ ]
 
     all-unheeded : (address : List ℕ) (b : Board) (is : List Input) → OpenFor address b → AllStrange address is → AllUnheeded b is (outcomes step_machine b is)
     all-unheeded address b [] o nobody_sends = none_unheeded
@@ -157,6 +159,8 @@ strangers_met = record { nothing_changes = unchanged; unheeded = all-unheeded }
         let one = unheeded_one address b call o h in
         more_unheeded one
         (subst (λ (x : Board). AllUnheeded b is (outcomes step_machine x is)) (sym one.board) (all-unheeded address b is o hs))
+    all-unheeded address b (Initiate ∷ is) o strange = elim strange [ ]
+    all-unheeded address b (Terminate ∷ is) o strange = elim strange [ ]
 
 -- ---- demand 2 among them
 
@@ -170,10 +174,10 @@ module _ (address : List ℕ) (fixed : Fixed) (good : good_n fixed.n ≡ true) (
       → (after step_machine b js ≡ after step_machine b is) × (own_outcomes step_machine b a ≡ outcomes step_machine b is)
   among none over b shown busy = (refl, refl)
   among (more {p} {ps} {call} {is} h e l rest) (own a) b shown busy =
-      let r = among rest a (step_machine b (Datagram call)).board _ (next-busy address fixed good image size p h b shown busy call e l) in
+      let r = among {ps = ps} rest a (step_machine b (Datagram call)).board _ (next-busy address fixed good image size p h b shown busy call e l) in
       (r.0, ap (λ (os : List Outcome). step_machine b (Datagram call) ∷ os) r.1)
-  among packets (stranger {call} {is} {js} s a) b shown busy =
-      let r = among packets a b shown busy in
+  among {ps = ps} packets (stranger {call} {is} {js} s a) b shown busy =
+      let r = among {ps = ps} packets a b shown busy in
       let e : (step_machine b (Datagram call)).board ≡ b = (unheeded_one address b call (busy_open b shown busy) s).board in (
         ap (λ (x : Board). after step_machine x js) e ∙ r.0,
         ap (λ (x : Board). own_outcomes step_machine x a) e ∙ r.1,

@@ -112,6 +112,7 @@ module _ (machine : Machine) (k : NightAmong) where
 
   since_in : {b : Board} {is : List Input} → NotLeft machine k b is
       → SinceEnd machine k.address k.begin.image k.begin.bank k.begin.n k.board b is → InThen (after machine b is)
+  since_in (never_left {b = b}) since = elim since [ ]
   since_in (not_left n ns) (ended a e s u) = until_in ns u
   since_in (not_left n ns) (later x) = since_in ns x
 

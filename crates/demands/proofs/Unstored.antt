@@ -8,7 +8,6 @@ use native.Mathlib.Omega.{arith}
 use lib.ListN.{length, get_or, take, replicate, length-replicate, get_or-replicate}
 use lib.Seq.{get_or-take}
 use Rattle.frame.specs.Frame.{framed, control_frame}
-use Rattle.frame.specs.declared.read.Read.TheVariants.{Control}
 use Rattle.layout.specs.declared.Bank.{Bank}
 use Rattle.layout.specs.declared.Bank.TheVariants.{Zero, One}
 use Rattle.layout.specs.Layout.{good_n, bank_size, other_of}

@@ -67,7 +67,7 @@ pub data Among (address : List ℕ) : List Input → List Input → Type 0 where
   stranger : {call : LentCall} {is js : List Input} → Strange address call → Among address is js → Among address is (Datagram call ∷ js)
 
 -- what came of those that are not strangers'
-abbrev pub own_outcomes : Machine → Board → {address : List ℕ} {is js : List Input} → Among address is js → List Outcome
+abbrev pub own_outcomes : {address : List ℕ} → Machine → Board → {is js : List Input} → Among address is js → List Outcome
 own_outcomes m b over = []
 own_outcomes m b (own {i} rest) = m b i ∷ own_outcomes m (m b i).board rest
 own_outcomes m b (stranger {call} h rest) = own_outcomes m (m b (Datagram call)).board rest

@@ -3,8 +3,7 @@ ghost use Rattle.exports.specs.Check.{IsCheckNumber};
 
 use bank::check::Verdict;
 
-#[unsafe(no_mangle)]
-pub extern "C" fn bank_check(bank: &[u8]) -> u8
+pub fn bank_check(bank: &[u8]) -> u8
     ensures { IsCheckNumber bank.now result }
 {
     match bank::check::check(bank) {

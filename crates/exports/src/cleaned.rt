@@ -32,8 +32,7 @@ fn counts_of(cleaned: Cleaned) -> Counts
 }
 
 // The number comes back, 0 where it is done; how many of each go to the front of `told`, without room for which nothing is done.
-#[unsafe(no_mangle)]
-pub extern "C" fn bank_clean(
+pub fn bank_clean(
     bank: &mut [u8],
     runs: &mut [u32],
     sectors: &mut [u16],

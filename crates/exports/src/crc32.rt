@@ -1,8 +1,7 @@
 // The CRC-32.
 ghost use Rattle.crc.specs.Crc.{IsCrc32};
 
-#[unsafe(no_mangle)]
-pub extern "C" fn crc_crc32(bytes: &[u8]) -> u32
+pub fn crc_crc32(bytes: &[u8]) -> u32
     ensures { IsCrc32 bytes.now result }
 {
     crc::crc32(bytes)

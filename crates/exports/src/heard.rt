@@ -36,14 +36,7 @@ fn hear_slot(night: Night, slots: &[u8], k: usize, image: &[u8], buffer: &mut [u
 }
 
 // What the last call told comes back. All slots are looked at before the night begins.
-#[unsafe(no_mangle)]
-pub extern "C" fn night_take(
-    image: &[u8],
-    n: usize,
-    tries: usize,
-    slots: &[u8],
-    buffer: &mut [u8],
-) -> usize
+pub fn night_take(image: &[u8], n: usize, tries: usize, slots: &[u8], buffer: &mut [u8]) -> usize
     ensures { IsNightSlots image.now n tries slots.now buffer.old result buffer.new }
 {
     let count = slots.len() / SLOT;

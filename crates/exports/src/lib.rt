@@ -1,4 +1,4 @@
-// What C calls, a module for each crate below, which export nothing themselves.
+// What C calls, a module for each crate below, which export nothing themselves. It has its names in C from the crate `exports_c`.
 #![tactic(auto)]
 
 pub mod check;

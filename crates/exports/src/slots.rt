@@ -117,8 +117,7 @@ fn take_slot(
 }
 
 // The last answer's length or number comes back, and 0 without a slot. All slots and addresses are looked at before the first is handled.
-#[unsafe(no_mangle)]
-pub extern "C" fn client_take(
+pub fn client_take(
     n: usize,
     slots: &[u8],
     bank0: &mut [u8],

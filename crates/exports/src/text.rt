@@ -29,8 +29,7 @@ fn place_of(answer: Answer) -> Place
 }
 
 // The number comes back; it, the line and the byte go to the front of `told`, without room for which nothing is done.
-#[unsafe(no_mangle)]
-pub extern "C" fn hex_read(text: &[u8], n: usize, image: &mut [u8], told: &mut [usize]) -> usize
+pub fn hex_read(text: &[u8], n: usize, image: &mut [u8], told: &mut [usize]) -> usize
     ensures { IsReadNumbers text.now n image.old told.old result image.new told.new }
 {
     if told.len() < 3 {

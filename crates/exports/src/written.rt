@@ -3,16 +3,14 @@ ghost use Rattle.exports.specs.Written.{IsLengthNumber, IsWriteNumber};
 
 use layout::Bank;
 
-#[unsafe(no_mangle)]
-pub extern "C" fn rows_length(image: &[u8]) -> usize
+pub fn rows_length(image: &[u8]) -> usize
     ensures { IsLengthNumber image.now result }
 {
     let told = rows::text::length(image, Bank::Zero);
     rows::text::written_number(told)
 }
 
-#[unsafe(no_mangle)]
-pub extern "C" fn rows_write(image: &[u8], text: &mut [u8]) -> usize
+pub fn rows_write(image: &[u8], text: &mut [u8]) -> usize
     ensures { IsWriteNumber image.now text.old result text.new }
 {
     let written = rows::text::write(image, Bank::Zero, text);

@@ -2,7 +2,6 @@
 -- Assumes nothing.
 use Rattle.bank.proofs.Cases.{good_is, faulty_is, no_bank_is}
 use Rattle.clean.proofs.Cases.{clean_bad, clean-faulty}
-use borrow.Author.Rules.{rules}
 use Rattle.clean.proofs.clean.Goals as goal
 
 pub clean_good-requires : goal.clean_good-requires

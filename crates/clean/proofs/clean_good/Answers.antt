@@ -2,10 +2,8 @@
 -- Assumes nothing.
 use mathlib.Core.Path.{ap, ◌∙◌}
 use lib.ListN.{length}
-use borrow.Author.Tests.{not-true, not-false}
 use Rattle.clean.specs.Old.{old}
 use Rattle.clean.proofs.Cases.{good_bank, marks_none, sectors_room, sectors_small, sectors_are, clean-full, runs_fit, sectors-fit, listed-runs, clean-done}
-use borrow.Author.Rules.{rules}
 use Rattle.clean.proofs.clean_good.Goals as goal
 
 pub mark-n-requires : goal.mark-n-requires

@@ -4,7 +4,6 @@ use mathlib.Core.Path.{◌∙◌}
 use Rattle.commands.specs.Command.{response_code}
 use Rattle.commands.specs.declared.Command.TheVariants.{ModeStart, BankInfo, VersionInfo, WriteStart, WriteEnd, ModeEnd}
 use Rattle.commands.proofs.Codes.{answered_is, coded_none}
-use borrow.Author.Rules.{rules}
 use Rattle.commands.proofs.answered.Goals as goal
 
 pub returns-then-code-response_code : goal.returns-then-code-response_code

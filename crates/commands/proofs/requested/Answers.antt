@@ -4,7 +4,6 @@ use mathlib.Core.Path.{◌∙◌}
 use Rattle.commands.specs.Command.{request_code}
 use Rattle.commands.specs.declared.Command.TheVariants.{ModeStart, BankInfo, VersionInfo, WriteStart, WriteEnd, ModeEnd}
 use Rattle.commands.proofs.Codes.{requested_is, coded_none}
-use borrow.Author.Rules.{rules}
 use Rattle.commands.proofs.requested.Goals as goal
 
 pub returns-then-code-request_code : goal.returns-then-code-request_code

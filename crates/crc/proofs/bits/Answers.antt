@@ -1,7 +1,7 @@
 -- `crc::bits` meets its contract: the bits that are left, of the register as it is, come to the whole.
 -- Assumes nothing.
 use mathlib.Core.Path.{◌≡◌, ap, ◌∙◌}
-use Prim.Native.Nat.{ℕ, suc, ◌+◌, ◌-◌, ◌≤◌}
+use Prim.Native.Nat.{ℕ, suc, ◌+◌, ◌-◌}
 use native.Mathlib.Omega.{arith}
 use borrow.Author.Rules.{rules}
 use Rattle.crc.specs.Crc.{crc_bits}
@@ -16,7 +16,6 @@ loop-k-init c =
 pub loop-k-preserved : goal.loop-k-preserved
 unfolding crc_bits
 loop-k-preserved c =
-    
     let n : ℕ = c.args.n in
     let k : ℕ = c.loop-k.k in
     let e : suc (n - (k + 1)) ≡ n - k = omega arith in (

@@ -1,9 +1,7 @@
 -- `crc::bits` meets its contract: the bits that are left, of the register as it is, come to the whole.
 -- Assumes nothing.
-use mathlib.Core.Path.{◌≡◌, ap, ◌∙◌}
-use Prim.Native.Nat.{ℕ, suc, ◌+◌, ◌-◌, ◌≤◌}
-use native.Mathlib.Omega.{arith}
-use borrow.Author.Rules.{rules}
+use mathlib.Core.Path.{◌≡◌}
+use Prim.Native.Nat.{◌-◌, ◌≤◌}
 use Rattle.crc.specs.Crc.{crc_bits}
 use Rattle.crc.proofs.bits.Given as goal
 

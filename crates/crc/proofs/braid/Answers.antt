@@ -1,12 +1,9 @@
 -- `crc::braid` meets its contract: the six registers, with the words that they are at and the bytes after these, come to the whole.
 -- Assumes nothing.
-use mathlib.Core.Path.{◌≡◌, ◌∙◌}
-use mathlib.Core.List.{foldl}
-use Prim.Native.Nat.{◌+◌, ◌-◌, ◌%◌, ◌≤◌}
-use lib.ListN.{length}
+use mathlib.Core.Path.{◌∙◌}
 use borrow.Author.Rules.{rules}
-use Rattle.crc.specs.Crc.{crc_byte, crc_more}
-use Rattle.crc.proofs.Strands.{braided, braid_start, braid_turn, braid_end}
+use Rattle.crc.specs.Crc.{crc_more}
+use Rattle.crc.proofs.Strands.{braid_start, braid_turn, braid_end}
 use Rattle.crc.proofs.braid.Goals as goal
 
 pub loop-i-init : goal.loop-i-init

@@ -1,12 +1,11 @@
 -- `crc::braid` meets its contract: the six registers, with the words that they are at and the bytes after these, come to the whole.
 -- Assumes nothing.
-use mathlib.Core.Path.{◌≡◌, ◌∙◌}
+use mathlib.Core.Path.{◌≡◌}
 use mathlib.Core.List.{foldl}
 use Prim.Native.Nat.{◌+◌, ◌-◌, ◌%◌, ◌≤◌}
 use lib.ListN.{length}
-use borrow.Author.Rules.{rules}
-use Rattle.crc.specs.Crc.{crc_byte, crc_more}
-use Rattle.crc.proofs.Strands.{braided, braid_start, braid_turn, braid_end}
+use Rattle.crc.specs.Crc.{crc_byte}
+use Rattle.crc.proofs.Strands.{braided}
 use Rattle.crc.proofs.braid.Given as goal
 
 abbrev pub invariant-loop-i : goal.invariant-loop-i

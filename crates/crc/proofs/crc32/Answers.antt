@@ -2,7 +2,6 @@
 -- Assumes nothing.
 use mathlib.Core.Path.{ap}
 use Prim.Native.Nat.{ℕ, ◌-◌}
-use borrow.Author.Rules.{rules}
 use Rattle.crc.specs.Crc.{ones, crc_of}
 use Rattle.crc.proofs.crc32.Goals as goal
 

@@ -6,7 +6,6 @@ use Prim.Native.Nat.{ℕ, ◌-◌, ◌%◌}
 use native.Mathlib.Omega.{arith}
 use lib.ListN.{length, drop, length-take, length-drop}
 use lib.Seq.{take_all}
-use borrow.Author.Rules.{rules}
 use Rattle.crc.specs.Crc.{crc_more}
 use Rattle.crc.proofs.Laws.{more_split}
 use Rattle.crc.proofs.crc_more.Goals as goal

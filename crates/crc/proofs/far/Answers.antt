@@ -3,7 +3,6 @@
 use mathlib.Core.Path.{ap, ◌∙◌}
 use Prim.Native.Nat.{ℕ}
 use lib.Bits.{bit_xor}
-use borrow.Author.Rules.{rules}
 use Rattle.crc.specs.Crc.{crc_bits}
 use Rattle.crc.proofs.far.Goals as goal
 

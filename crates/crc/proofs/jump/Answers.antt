@@ -2,7 +2,6 @@
 -- Assumes nothing.
 use mathlib.Core.Path.{sym, ap₂, ◌∙◌}
 use lib.Bits.{bit_xor}
-use borrow.Author.Rules.{rules}
 use Rattle.crc.proofs.Words.{four_apart}
 use Rattle.crc.proofs.jump.Goals as goal
 

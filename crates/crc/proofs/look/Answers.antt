@@ -4,7 +4,6 @@ use mathlib.Core.Path.{ap, ◌∙◌}
 use Prim.Native.Nat.{ℕ, ◌-◌, ◌*◌}
 use native.Mathlib.Omega.{arith}
 use lib.Bits.{bit_and, and_mask, mask_lt}
-use borrow.Author.Rules.{rules}
 use Rattle.crc.specs.Crc.{crc_bits}
 use Rattle.crc.proofs.look.Goals as goal
 

@@ -1,10 +1,10 @@
 -- `crc::plain` meets its contract: in both loops what is left of the part, taken into the register as it is, comes to the whole.
 -- Assumes nothing.
-use mathlib.Core.Path.{◌≡◌, refl, sym, ap, ◌∙◌}
+use mathlib.Core.Path.{refl, sym, ap, ◌∙◌}
 use mathlib.Core.List.{List, foldl}
-use Prim.Native.Nat.{ℕ, ◌+◌, ◌-◌, ◌≤◌}
+use Prim.Native.Nat.{ℕ, ◌+◌}
 use native.Mathlib.Omega.{arith}
-use lib.ListN.{length, drop}
+use lib.ListN.{drop}
 use borrow.Author.Rules.{rules}
 use Rattle.buffer.proofs.Fold.{fold_more, fold_done}
 use Rattle.crc.specs.Crc.{crc_byte, crc_more}

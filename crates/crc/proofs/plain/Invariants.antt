@@ -1,14 +1,10 @@
 -- `crc::plain` meets its contract: in both loops what is left of the part, taken into the register as it is, comes to the whole.
 -- Assumes nothing.
-use mathlib.Core.Path.{◌≡◌, refl, sym, ap, ◌∙◌}
-use mathlib.Core.List.{List, foldl}
-use Prim.Native.Nat.{ℕ, ◌+◌, ◌-◌, ◌≤◌}
-use native.Mathlib.Omega.{arith}
+use mathlib.Core.Path.{◌≡◌}
+use mathlib.Core.List.{foldl}
+use Prim.Native.Nat.{◌-◌, ◌≤◌}
 use lib.ListN.{length, drop}
-use borrow.Author.Rules.{rules}
-use Rattle.buffer.proofs.Fold.{fold_more, fold_done}
-use Rattle.crc.specs.Crc.{crc_byte, crc_more}
-use Rattle.crc.proofs.Words.{fold_word}
+use Rattle.crc.specs.Crc.{crc_byte}
 use Rattle.crc.proofs.plain.Given as goal
 
 abbrev pub invariant-loop-i : goal.invariant-loop-i

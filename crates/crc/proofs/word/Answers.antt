@@ -7,7 +7,6 @@ use native.Mathlib.Omega.{arith}
 use lib.Bits.{bit_xor}
 use lib.ListN.{get_or}
 use lib.Pow.{shl_exact}
-use borrow.Author.Rules.{rules}
 use Rattle.crc.specs.Braid.{word_at}
 use Rattle.crc.proofs.word.Goals as goal
 
@@ -26,7 +25,6 @@ overflow_cast-d c = omega (arith, c.shared_slice_known-4-1.given (c.args.i + 3))
 pub returns : goal.returns
 unfolding word_at
 returns c =
-    
     let l : List ℕ = c.args.part.now in
     let i : ℕ = c.args.i in
     let up : (j k : ℕ) → k ≤ 24 → get_or l j 0 * 2 ^ k % 2 ^ 32 ≡ get_or l j 0 * 2 ^ k = λ j k h. shl_exact {a = get_or l j 0} 8 k 32 (omega (arith, c.shared_slice_known-4-1.given j)) (omega arith) in

@@ -4,7 +4,6 @@ use mathlib.Core.Path.{ap}
 use Prim.Native.Nat.{ℕ}
 use lib.Dec.{eqb}
 use Rattle.bank.specs.Sound.{body_good}
-use borrow.Author.Rules.{rules}
 use Rattle.bank.proofs.bodies.body_good.Goals as goal
 
 pub returns : goal.returns

@@ -2,10 +2,8 @@
 -- Assumes nothing.
 use mathlib.Core.Path.{sym, ◌∙◌}
 use native.Mathlib.Omega.{arith}
-use borrow.Author.Tests.{not-true, not-false}
 use Rattle.bank.specs.Sound.{entry_good}
 use Rattle.bank.proofs.Stretches.{fits}
-use borrow.Author.Rules.{rules}
 use Rattle.bank.proofs.bodies.entry_good.Goals as goal
 
 pub returns-then-not-fits_at : goal.returns-then-not-fits_at
@@ -26,14 +24,14 @@ slice_bounds-gap_good-end c =
 pub returns-then-not-gap_good : goal.returns-then-not-gap_good
 unfolding entry_good
 returns-then-not-gap_good c =
-        let fit = sym c.fits_at.ensures ∙ c.if-not-fits_at.false in
+    let fit = sym c.fits_at.ensures ∙ c.if-not-fits_at.false in
     rw (fit, sym c.gap_good.ensures ∙ c.if-not-gap_good.true)
 
 pub body_good-requires : goal.body_good-requires
-body_good-requires c =     (fits _ _ _ (sym c.fits_at.ensures ∙ c.if-not-fits_at.false)).within
+body_good-requires c = (fits _ _ _ (sym c.fits_at.ensures ∙ c.if-not-fits_at.false)).within
 
 pub returns : goal.returns
 unfolding entry_good
 returns c =
-        let fit = sym c.fits_at.ensures ∙ c.if-not-fits_at.false in
+    let fit = sym c.fits_at.ensures ∙ c.if-not-fits_at.false in
     rw (fit, sym c.gap_good.ensures ∙ c.if-not-gap_good.false) c.body_good.ensures

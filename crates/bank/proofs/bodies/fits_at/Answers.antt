@@ -1,7 +1,6 @@
 -- `bank::bodies::fits_at` meets its contract.
 -- Assumes nothing.
 use Rattle.bank.proofs.Stretches.{fits_empty, fits_early, fits_last}
-use borrow.Author.Rules.{rules}
 use Rattle.bank.proofs.bodies.fits_at.Goals as goal
 
 pub returns-then-stretch-lt1 : goal.returns-then-stretch-lt1

@@ -1,14 +1,8 @@
 -- `bank::bodies::listed_good` meets its contract: what is left holds just where all does.
 -- Assumes nothing.
-use mathlib.Core.Path.{◌≡◌, sym, ◌∙◌}
-use mathlib.Core.Bool.{◌&&◌}
+use mathlib.Core.Path.{sym, ◌∙◌}
 use native.Mathlib.Omega.{arith}
-use Prim.Native.Nat.{◌-◌, ◌≤◌}
-use lib.ListN.{length}
-use borrow.Author.Tests.{not-true, not-false}
-use borrow.Author.Rules.{rules}
-use Rattle.bank.specs.Sound.{listed_good, blank_good, asked}
-use Rattle.bank.proofs.Tables.{end_fits, good_from, good-not, good-next, good_done, good_within, good_start}
+use Rattle.bank.proofs.Tables.{end_fits, good-not, good-next, good_done, good_within, good_start}
 use Rattle.bank.proofs.bodies.listed_good.Goals as goal
 
 pub end-at-requires : goal.end-at-requires
@@ -27,7 +21,7 @@ entry_good-requires c = omega (arith, c.entry_at-entry.ensures.offset_small, c.e
 
 pub returns-then-not-entry_good : goal.returns-then-not-entry_good
 returns-then-not-entry_good c =
-        let count = c.requires.count in
+    let count = c.requires.count in
     let bad = sym c.entry_good.ensures ∙ c.if-not-entry_good.true in
     sym (c.loop-i.invariant.1 ∙ good-not _ _ _ _ _ c.entry_at-entry.ensures.is (omega arith) bad)
 
@@ -38,12 +32,12 @@ overflow_add-at c =
 
 pub loop-i-preserved : goal.loop-i-preserved
 loop-i-preserved c =
-        let count = c.requires.count in
+    let count = c.requires.count in
     let good = sym c.entry_good.ensures ∙ c.if-not-entry_good.false in
     let next = good-next _ _ _ _ _ c.entry_at-entry.ensures.is (omega arith) good in
     (good_within _ _ _ _ good, c.loop-i.invariant.1 ∙ next)
 
 pub returns : goal.returns
 returns c =
-        let done = good_done c.args.outside c.args.bank.now c.loop-i.at c.loop-i.i (omega (arith, c.requires.count)) in
+    let done = good_done c.args.outside c.args.bank.now c.loop-i.at c.loop-i.i (omega (arith, c.requires.count)) in
     c.gap_good.ensures ∙ sym (c.loop-i.invariant.1 ∙ done)

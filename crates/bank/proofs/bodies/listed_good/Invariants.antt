@@ -1,14 +1,11 @@
 -- `bank::bodies::listed_good` meets its contract: what is left holds just where all does.
 -- Assumes nothing.
-use mathlib.Core.Path.{◌≡◌, sym, ◌∙◌}
+use mathlib.Core.Path.{◌≡◌}
 use mathlib.Core.Bool.{◌&&◌}
-use native.Mathlib.Omega.{arith}
 use Prim.Native.Nat.{◌-◌, ◌≤◌}
 use lib.ListN.{length}
-use borrow.Author.Tests.{not-true, not-false}
-use borrow.Author.Rules.{rules}
 use Rattle.bank.specs.Sound.{listed_good, blank_good, asked}
-use Rattle.bank.proofs.Tables.{end_fits, good_from, good-not, good-next, good_done, good_within, good_start}
+use Rattle.bank.proofs.Tables.{good_from}
 use Rattle.bank.proofs.bodies.listed_good.Given as goal
 
 abbrev pub invariant-loop-i : goal.invariant-loop-i

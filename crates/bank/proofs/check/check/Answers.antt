@@ -3,7 +3,6 @@
 use mathlib.Core.Path.{sym, ◌∙◌}
 use Rattle.layout.proofs.Layouts.{counted_whole, refused_whole}
 use Rattle.bank.proofs.Cases.{check_refused, check_sound, check-unsound}
-use borrow.Author.Rules.{rules}
 use Rattle.bank.proofs.check.check.Goals as goal
 
 pub returns-in_default : goal.returns-in_default

@@ -1,10 +1,8 @@
 -- `bank::check::rules_kept` meets its contract: each way out is a case of the definition.
 -- Assumes nothing.
 use mathlib.Core.Path.{sym, ◌∙◌}
-use borrow.Author.Tests.{not-true, not-false}
 use Rattle.bank.proofs.Listed.{has_table}
 use Rattle.bank.proofs.Cases.{rules_none, rules-table, rules-listed}
-use borrow.Author.Rules.{rules}
 use Rattle.bank.proofs.check.rules_kept.Goals as goal
 
 pub returns-then-n-eq0 : goal.returns-then-n-eq0

@@ -1,10 +1,8 @@
 -- `bank::gaps::find` meets its contract: each turn fills in one start and one end.
 -- Assumes nothing.
-use Prim.Native.Nat.{◌-◌}
 use native.Mathlib.Omega.{arith}
 use Rattle.bank.proofs.Listed.{has_table}
-use Rattle.bank.proofs.Gapped.{Filled, found_none, filled-start, filled_more, found}
-use borrow.Author.Rules.{rules}
+use Rattle.bank.proofs.Gapped.{found_none, filled-start, filled_more, found}
 use Rattle.bank.proofs.gaps.find.Goals as goal
 
 pub returns-then-n-eq0 : goal.returns-then-n-eq0
@@ -21,8 +19,8 @@ overflow_add-starts c = omega (arith, c.entry_at-entry.ensures.offset_small, c.e
 
 pub loop-i-preserved : goal.loop-i-preserved
 loop-i-preserved c =
-        filled_more _ _ c.count-n.ensures c.if-n-eq0.false _ _ _ c.loop-i.invariant _ c.entry_at-entry.ensures.is
+    filled_more _ _ c.count-n.ensures c.if-n-eq0.false _ _ _ c.loop-i.invariant _ c.entry_at-entry.ensures.is
     c.loop-i-test.true
 
 pub returns : goal.returns
-returns c =     found _ _ c.count-n.ensures c.if-n-eq0.false _ _ _ c.loop-i.invariant c.loop-i-test.false
+returns c = found _ _ c.count-n.ensures c.if-n-eq0.false _ _ _ c.loop-i.invariant c.loop-i-test.false

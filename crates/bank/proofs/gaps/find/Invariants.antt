@@ -1,10 +1,7 @@
 -- `bank::gaps::find` meets its contract: each turn fills in one start and one end.
 -- Assumes nothing.
 use Prim.Native.Nat.{◌-◌}
-use native.Mathlib.Omega.{arith}
-use Rattle.bank.proofs.Listed.{has_table}
-use Rattle.bank.proofs.Gapped.{Filled, found_none, filled-start, filled_more, found}
-use borrow.Author.Rules.{rules}
+use Rattle.bank.proofs.Gapped.{Filled}
 use Rattle.bank.proofs.gaps.find.Given as goal
 
 abbrev pub invariant-loop-i : goal.invariant-loop-i

@@ -3,7 +3,6 @@
 use mathlib.Core.Path.{sym, ◌∙◌}
 use Rattle.layout.proofs.Layouts.{counted_whole, refused_whole}
 use Rattle.bank.proofs.Listed.{count_refused}
-use borrow.Author.Rules.{rules}
 use Rattle.bank.proofs.stretch.count.Goals as goal
 
 pub returns-in_default : goal.returns-in_default

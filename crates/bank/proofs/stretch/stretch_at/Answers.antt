@@ -2,7 +2,6 @@
 -- Assumes nothing.
 use native.Mathlib.Omega.{arith}
 use Rattle.bank.proofs.Listed.{count_small, stretch_is, stretch_none}
-use borrow.Author.Rules.{rules}
 use Rattle.bank.proofs.stretch.stretch_at.Goals as goal
 
 pub entry_at-entry-requires : goal.entry_at-entry-requires

@@ -1,13 +1,12 @@
 -- `bank::table::entry_at` meets its contract.
 -- Assumes nothing.
 use Rattle.bank.specs.Table.{entry_at}
-use borrow.Author.Rules.{rules}
 use Rattle.bank.proofs.table.entry_at.Goals as goal
 
 pub returns : goal.returns
 unfolding entry_at
 returns c =
-        let offset = c.wide4-offset.ensures in
+    let offset = c.wide4-offset.ensures in
     let length = c.wide4-length.ensures in
     let place = c.place-at.ensures in
     record {

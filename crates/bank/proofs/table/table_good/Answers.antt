@@ -4,7 +4,6 @@ use mathlib.Core.Path.{sym, ◌∙◌}
 use native.Mathlib.Omega.{arith}
 use lib.Seq.{length-take-le}
 use Rattle.bank.proofs.Tables.{crc_place_lem, end_fits, table_crc}
-use borrow.Author.Rules.{rules}
 use Rattle.bank.proofs.table.table_good.Goals as goal
 
 pub slice_bounds-crc32-end : goal.slice_bounds-crc32-end

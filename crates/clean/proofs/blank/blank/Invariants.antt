@@ -1,9 +1,7 @@
 -- `clean::blank::blank` meets its contract: behind each run those up to there are 0xFF, and all else is as it was.
 -- Assumes nothing.
-use mathlib.Core.Path.{◌≡◌}
 use Prim.Native.Nat.{◌-◌, ◌≤◌}
-use native.Mathlib.Omega.{arith}
-use Rattle.clean.proofs.Blanking.{BlankedTo, blanked_first, blanked-next, blanked_all, run_within, run_fits}
+use Rattle.clean.proofs.Blanking.{BlankedTo}
 use Rattle.clean.proofs.blank.blank.Given as goal
 
 abbrev pub invariant-loop-i : goal.invariant-loop-i

@@ -1,7 +1,6 @@
 -- `clean::blank::blank_run` meets its contract: what `fill` says of the part, said of the bank.
 -- Assumes nothing.
 use Rattle.clean.proofs.Blanking.{filled_back}
-use borrow.Author.Rules.{rules}
 use Rattle.clean.proofs.blank.blank_run.Goals as goal
 
 pub returns : goal.returns

@@ -1,13 +1,9 @@
 -- `clean::count::look` meets its contract: behind each byte it knows what the bytes up to there show.
 -- Assumes nothing.
-use mathlib.Core.Path.{◌≡◌}
 use Prim.Native.Nat.{◌+◌, ◌-◌, ◌/◌, ◌≤◌}
-use native.Mathlib.Omega.{arith}
-use borrow.Author.Rules.{rules}
 use Rattle.layout.specs.Layout.{sector_size}
 use Rattle.clean.specs.Old.{old}
-use Rattle.clean.proofs.Runs.{met_half}
-use Rattle.clean.proofs.Walking.{SeenIs, old_is, seen_whole, seen_first, seen_next}
+use Rattle.clean.proofs.Walking.{SeenIs}
 use Rattle.clean.proofs.count.look.Given as goal
 
 abbrev pub invariant-loop-at : goal.invariant-loop-at

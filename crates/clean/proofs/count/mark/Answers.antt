@@ -1,15 +1,12 @@
 -- `clean::count::mark` meets its contract: at the start of each gap the runs up to there were met, and the sectors marked.
 -- Assumes nothing.
 use mathlib.Core.Path.{◌≡◌, sym, ap, ◌∙◌}
-use Prim.Native.Nat.{◌-◌, ◌≤◌, ◌<◌}
+use Prim.Native.Nat.{◌<◌}
 use native.Mathlib.Omega.{arith}
 use lib.ListN.{length}
 use Rattle.bank.specs.Gaps.{gap_count}
 use Rattle.bank.proofs.Gapped.{gaps_few}
-use Rattle.clean.specs.Old.{old}
-use Rattle.clean.specs.Runs.{open_at, runs_at}
-use Rattle.clean.specs.Walk.{MarksAt}
-use Rattle.clean.proofs.Gaps.{reach, start_is, end_is, reach-is, at_gap, next-open, next-runs, next_marks, first_open, first_runs, first_marks, past-runs, past-marks}
+use Rattle.clean.proofs.Gaps.{start_is, end_is, reach-is, at_gap, next-open, next-runs, next_marks, first_open, first_runs, first_marks, past-runs, past-marks}
 use Rattle.clean.proofs.count.mark.Goals as goal
 
 pub loop-i-init : goal.loop-i-init

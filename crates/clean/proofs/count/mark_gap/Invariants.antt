@@ -1,15 +1,11 @@
 -- `clean::count::mark_gap` meets its contract: behind each piece the runs up to there were met, and the sectors marked.
 -- Assumes nothing.
-use mathlib.Core.Path.{◌≡◌, sym, ◌∙◌}
-use Prim.Native.Nat.{◌-◌, ◌/◌, ◌≤◌}
-use native.Mathlib.Omega.{arith}
-use Rattle.layout.specs.Layout.{sector_size}
+use mathlib.Core.Path.{◌≡◌}
+use Prim.Native.Nat.{◌-◌, ◌≤◌}
 use Rattle.clean.specs.Old.{old}
 use Rattle.clean.specs.Walk.{MarksAt}
 use Rattle.clean.specs.Walk.{met as met_at}
 use Rattle.clean.specs.Walk.{goes}
-use Rattle.clean.proofs.Runs.{met-none, goes_none}
-use Rattle.clean.proofs.Walking.{whole_small, piece_of, piece_marked, seen_parts, seen_whole}
 use Rattle.clean.proofs.count.mark_gap.Given as goal
 
 abbrev pub invariant-loop-at : goal.invariant-loop-at

@@ -2,7 +2,6 @@
 -- Assumes nothing.
 use native.Mathlib.Omega.{arith}
 use Rattle.clean.proofs.Putting.{close_none, close-one, close-some}
-use borrow.Author.Rules.{rules}
 use Rattle.clean.proofs.list.close.Goals as goal
 
 pub returns-then-listed-eq0 : goal.returns-then-listed-eq0

@@ -1,16 +1,13 @@
 -- `clean::list::list` meets its contract: at the start of each gap the runs up to there are listed.
 -- Assumes nothing.
-use mathlib.Core.Path.{◌≡◌, sym, ap, ◌∙◌}
-use Prim.Native.Nat.{◌-◌, ◌≤◌, ◌<◌}
-use native.Mathlib.Omega.{arith}
+use mathlib.Core.Path.{◌≡◌}
+use Prim.Native.Nat.{◌-◌, ◌≤◌}
 use lib.ListN.{length}
-use lib.Seq.{sets, length-sets}
+use lib.Seq.{sets}
 use Rattle.bank.specs.Gaps.{gap_count}
-use Rattle.bank.proofs.Gapped.{gaps_few}
 use Rattle.clean.specs.Old.{old}
 use Rattle.clean.specs.Runs.{open_at, runs_at, flat}
-use Rattle.clean.proofs.Gaps.{reach, start_is, end_is, reach-is, at_gap, next-open, next-runs, first_open, first_runs, past-runs, gap-room}
-use Rattle.clean.proofs.Putting.{flat_none}
+use Rattle.clean.proofs.Gaps.{reach}
 use Rattle.clean.proofs.list.list.Given as goal
 
 abbrev pub invariant-loop-i : goal.invariant-loop-i

@@ -2,7 +2,6 @@
 -- Assumes nothing.
 use Prim.Native.Nat.{◌+◌, ◌<◌}
 use native.Mathlib.Omega.{arith}
-use borrow.Author.Rules.{rules}
 use Rattle.clean.specs.Old.{old}
 use Rattle.clean.proofs.Runs.{met_on}
 use Rattle.clean.proofs.Walking.{piece_blank, piece_old}

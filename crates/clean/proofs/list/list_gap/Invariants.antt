@@ -1,14 +1,8 @@
 -- `clean::list::list_gap` meets its contract: behind each piece the runs up to there are listed.
 -- Assumes nothing.
-use mathlib.Core.Path.{◌≡◌, sym, ap, ◌∙◌}
 use Prim.Native.Nat.{◌-◌, ◌≤◌}
-use native.Mathlib.Omega.{arith}
-use Rattle.clean.specs.declared.list.Progress.{Progress}
 use Rattle.clean.specs.Old.{old}
 use Rattle.clean.specs.Walk.{Reached, ListsOn}
-use Rattle.clean.proofs.Runs.{met_on}
-use Rattle.clean.proofs.Walking.{whole_small, piece_of, mark_tells}
-use Rattle.clean.proofs.Putting.{closing_met, closing_small, lists_none, lists_more, lists_gap}
 use Rattle.clean.proofs.list.list_gap.Given as goal
 
 abbrev pub invariant-loop-at : goal.invariant-loop-at

@@ -4,7 +4,6 @@ use native.Mathlib.Omega.{arith}
 use Rattle.clean.specs.Old.{old}
 use Rattle.clean.proofs.Runs.{met_on}
 use Rattle.clean.proofs.Putting.{closing_met, closing_small, reached-quiet, lists-quiet}
-use borrow.Author.Rules.{rules}
 use Rattle.clean.proofs.list.list_marked.Goals as goal
 
 pub close-requires : goal.close-requires

@@ -1,10 +1,9 @@
 -- `clean::list::list_piece` meets its contract: behind each byte the runs up to there are listed.
 -- Assumes nothing.
 use mathlib.Core.Path.{◌≡◌}
-use Prim.Native.Nat.{◌+◌, ◌-◌, ◌≤◌}
+use Prim.Native.Nat.{◌+◌}
 use native.Mathlib.Omega.{arith}
 use Rattle.clean.specs.Old.{old}
-use Rattle.clean.specs.Walk.{Reached, ListsOn}
 use Rattle.clean.proofs.Runs.{met_on}
 use Rattle.clean.proofs.Walking.{byte_piece}
 use Rattle.clean.proofs.Putting.{lists_none, lists_more}

@@ -4,7 +4,6 @@ use Prim.Native.Nat.{◌*◌}
 use native.Mathlib.Numerals.{add-one}
 use native.Mathlib.Omega.{arith}
 use lib.ListN.{length-set}
-use borrow.Author.Rules.{rules}
 use Rattle.clean.proofs.list.put_run.Goals as goal
 
 pub bounds-runs-n-2 : goal.bounds-runs-n-2

@@ -1,11 +1,9 @@
 -- `clean::numbers::count` meets its contract: behind each sector those up to there are counted.
 -- Assumes nothing.
 use mathlib.Core.Path.{◌≡◌, sym, ap, ◌∙◌}
-use Prim.Native.Nat.{ℕ, ◌+◌, ◌-◌, ◌≤◌}
+use Prim.Native.Nat.{ℕ, ◌+◌}
 use native.Mathlib.Omega.{arith}
-use borrow.Author.Rules.{rules}
 use lib.ListN.{length}
-use Rattle.clean.specs.Sectors.{numbers_at}
 use Rattle.clean.specs.Walk.{mark_in}
 use Rattle.clean.proofs.Sectors.{numbers_none, numbers_more, numbers_few}
 use Rattle.clean.proofs.numbers.count.Goals as goal

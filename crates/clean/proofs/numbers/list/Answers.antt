@@ -1,10 +1,10 @@
 -- `clean::numbers::list` meets its contract: behind each sector the numbers up to there are listed.
 -- Assumes nothing.
 use mathlib.Core.Path.{◌≡◌, sym, ap, ◌∙◌}
-use Prim.Native.Nat.{◌+◌, ◌-◌, ◌≤◌}
+use Prim.Native.Nat.{◌+◌}
 use native.Mathlib.Omega.{arith}
 use lib.ListN.{length}
-use lib.Seq.{sets, length-sets}
+use lib.Seq.{length-sets}
 use Rattle.buffer.proofs.Places.{sets_next}
 use Rattle.clean.specs.Sectors.{numbers_at}
 use Rattle.clean.specs.Walk.{mark_in}

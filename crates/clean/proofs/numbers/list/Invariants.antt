@@ -1,14 +1,11 @@
 -- `clean::numbers::list` meets its contract: behind each sector the numbers up to there are listed.
 -- Assumes nothing.
-use mathlib.Core.Path.{◌≡◌, sym, ap, ◌∙◌}
-use Prim.Native.Nat.{◌+◌, ◌-◌, ◌≤◌}
-use native.Mathlib.Omega.{arith}
+use mathlib.Core.Path.{◌≡◌}
+use Prim.Native.Nat.{◌-◌, ◌≤◌}
 use lib.ListN.{length}
-use lib.Seq.{sets, length-sets}
-use Rattle.buffer.proofs.Places.{sets_next}
+use lib.Seq.{sets}
 use Rattle.clean.specs.Sectors.{numbers_at}
 use Rattle.clean.specs.Walk.{mark_in}
-use Rattle.clean.proofs.Sectors.{numbers_next, numbers_none, numbers_more, numbers_on}
 use Rattle.clean.proofs.numbers.list.Given as goal
 
 abbrev pub invariant-loop-i : goal.invariant-loop-i

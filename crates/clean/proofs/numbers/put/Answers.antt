@@ -2,7 +2,6 @@
 -- Assumes nothing.
 use mathlib.Core.Path.{refl}
 use native.Mathlib.Omega.{arith}
-use borrow.Author.Rules.{rules}
 use Rattle.clean.proofs.numbers.put.Goals as goal
 
 pub bounds-sectors-m : goal.bounds-sectors-m

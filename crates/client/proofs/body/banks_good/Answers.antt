@@ -1,9 +1,7 @@
 -- `client::body::banks_good` meets its contract.
 -- Assumes nothing.
 use mathlib.Core.Path.{sym, ◌∙◌}
-use borrow.Author.Tests.{not-true, not-false}
 use Rattle.client.proofs.Bodies.{banks_bad, banks-first, banks-second}
-use borrow.Author.Rules.{rules}
 use Rattle.client.proofs.body.banks_good.Goals as goal
 
 pub returns-then-not-good_n : goal.returns-then-not-good_n

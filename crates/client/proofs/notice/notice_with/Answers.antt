@@ -1,6 +1,5 @@
 -- `client::notice::notice_with` meets its contract.
 -- Assumes nothing.
-use borrow.Author.Rules.{rules}
 use Rattle.client.proofs.notice.notice_with.Goals as goal
 
 pub returns : goal.returns

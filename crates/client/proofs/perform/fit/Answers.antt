@@ -2,7 +2,6 @@
 -- Assumes nothing.
 use mathlib.Core.Path.{sym, ap, ◌∙◌}
 use Rattle.client.specs.Perform.{fit_by}
-use borrow.Author.Rules.{rules}
 use Rattle.client.proofs.perform.fit.Goals as goal
 
 pub returns-in-Refused : goal.returns-in-Refused

@@ -2,7 +2,6 @@
 -- Assumes nothing.
 use native.Mathlib.Omega.{arith}
 use Rattle.client.proofs.Performing.{starts, crc_part}
-use borrow.Author.Rules.{rules}
 use Rattle.client.proofs.perform.sector_crc.Goals as goal
 
 pub overflow_add-from : goal.overflow_add-from

@@ -2,7 +2,6 @@
 -- Assumes nothing.
 use mathlib.Core.Path.{◌∙◌}
 use Rattle.buffer.proofs.Places.{front_whole}
-use borrow.Author.Rules.{rules}
 use Rattle.client.proofs.record.address_of.Goals as goal
 
 pub returns : goal.returns

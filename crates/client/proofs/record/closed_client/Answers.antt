@@ -1,6 +1,5 @@
 -- `client::record::closed_client` meets its contract.
 -- Assumes nothing.
-use borrow.Author.Rules.{rules}
 use Rattle.client.proofs.record.closed_client.Goals as goal
 
 pub returns : goal.returns

@@ -4,7 +4,6 @@ use mathlib.Core.Path.{ap, ◌∙◌}
 use Prim.Native.Nat.{ℕ}
 use Rattle.client.specs.declared.notice.Kind.TheVariants.{Ended}
 use Rattle.client.specs.Notice.{notice_with}
-use borrow.Author.Rules.{rules}
 use Rattle.client.proofs.step.notice_for.Goals as goal
 
 pub notice_with-requires : goal.notice_with-requires

@@ -1,7 +1,6 @@
 -- `decision::plan::addresses_good` meets its contract.
 -- Assumes nothing.
 use Rattle.decision.proofs.Planning.{start_other, start_same}
-use borrow.Author.Rules.{rules}
 use Rattle.decision.proofs.plan.addresses_good.Goals as goal
 
 pub returns-then-start-start_address : goal.returns-then-start-start_address

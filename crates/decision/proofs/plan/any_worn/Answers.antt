@@ -1,11 +1,7 @@
 -- `decision::plan::any_worn` meets its contract.
 -- Assumes nothing.
-use mathlib.Core.Path.{◌≡◌, sym, ◌∙◌}
-use Prim.Native.Nat.{◌≤◌, ◌-◌}
+use mathlib.Core.Path.{sym, ◌∙◌}
 use native.Mathlib.Omega.{arith}
-use borrow.Author.Rules.{rules}
-use lib.ListN.{length, drop}
-use Rattle.decision.specs.Plan.{any_worn}
 use Rattle.decision.proofs.Planning.{worn_here, worn_later, worn_none}
 use Rattle.decision.proofs.plan.any_worn.Goals as goal
 
@@ -15,8 +11,7 @@ returns-then-marks-i-ne0 c =
     c.loop-i.i c.loop-i-test.true c.if-marks-i-ne0.true)
 
 pub loop-i-preserved : goal.loop-i-preserved
-loop-i-preserved c =
-    (
+loop-i-preserved c = (
   omega arith,
   c.loop-i.invariant.1 ∙ worn_later c.args.marks.now
       c.loop-i.i c.loop-i-test.true c.if-marks-i-ne0.false,

@@ -1,12 +1,9 @@
 -- `decision::plan::any_worn` meets its contract.
 -- Assumes nothing.
-use mathlib.Core.Path.{◌≡◌, sym, ◌∙◌}
+use mathlib.Core.Path.{◌≡◌}
 use Prim.Native.Nat.{◌≤◌, ◌-◌}
-use native.Mathlib.Omega.{arith}
-use borrow.Author.Rules.{rules}
 use lib.ListN.{length, drop}
 use Rattle.decision.specs.Plan.{any_worn}
-use Rattle.decision.proofs.Planning.{worn_here, worn_later, worn_none}
 use Rattle.decision.proofs.plan.any_worn.Given as goal
 
 abbrev pub invariant-loop-i : goal.invariant-loop-i

@@ -1,7 +1,6 @@
 -- `decision::plan::lent_good` meets its contract.
 -- Assumes nothing.
 use Rattle.decision.proofs.Planning.{lent-target, lent-marks, lent-address, lent-buffer}
-use borrow.Author.Rules.{rules}
 use Rattle.decision.proofs.plan.lent_good.Goals as goal
 
 pub returns-then-target-bank_size : goal.returns-then-target-bank_size

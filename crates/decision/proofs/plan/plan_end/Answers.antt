@@ -1,7 +1,6 @@
 -- `decision::plan::plan_end` meets its contract.
 -- Assumes nothing.
 use Rattle.decision.proofs.Planning.{end_worn, end_whole}
-use borrow.Author.Rules.{rules}
 use Rattle.decision.proofs.plan.plan_end.Goals as goal
 
 pub returns-then-any_worn : goal.returns-then-any_worn

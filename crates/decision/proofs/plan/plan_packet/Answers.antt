@@ -2,9 +2,7 @@
 -- Assumes nothing.
 use mathlib.Core.Path.{sym, ◌∙◌}
 use native.Mathlib.Omega.{arith}
-use borrow.Author.Tests.{not-true, not-false}
 use Rattle.decision.proofs.Planning.{values_low, values-high, packet-bad, packet_worn, packet-good}
-use borrow.Author.Rules.{rules}
 use Rattle.decision.proofs.plan.plan_packet.Goals as goal
 
 pub returns-then-not-values_good : goal.returns-then-not-values_good

@@ -1,7 +1,6 @@
 -- `decision::plan::plan_start` meets its contract.
 -- Assumes nothing.
 use Rattle.decision.proofs.Planning.{start_good, start_bad}
-use borrow.Author.Rules.{rules}
 use Rattle.decision.proofs.plan.plan_start.Goals as goal
 
 pub returns-then-addresses_good : goal.returns-then-addresses_good

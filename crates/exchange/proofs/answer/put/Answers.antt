@@ -2,7 +2,6 @@
 -- Assumes nothing.
 use Rattle.exchange.specs.Answer.{answer_bytes}
 use Rattle.exchange.proofs.Saying.{put_refused, put_error}
-use borrow.Author.Rules.{rules}
 use Rattle.exchange.proofs.answer.put.Goals as goal
 
 pub returns-in-Refused : goal.returns-in-Refused
@@ -17,7 +16,7 @@ returns-in-ParameterError c = rw c.in-ParameterError.is c.put_result.ensures
 
 pub returns-in-Response : goal.returns-in-Response
 unfolding answer_bytes
-returns-in-Response c =     rw (c.in-Response.is, ← c.response_code.ensures) c.put_result-in-Response.ensures
+returns-in-Response c = rw (c.in-Response.is, ← c.response_code.ensures) c.put_result-in-Response.ensures
 
 pub returns-in-BankIs : goal.returns-in-BankIs
 returns-in-BankIs c = rw c.in-BankIs.is c.put_bank.ensures

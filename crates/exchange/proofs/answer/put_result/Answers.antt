@@ -1,7 +1,6 @@
 -- `exchange::answer::put_result` meets its contract.
 -- Assumes nothing.
 use Rattle.exchange.proofs.Saying.{put-result}
-use borrow.Author.Rules.{rules}
 use Rattle.exchange.proofs.answer.put_result.Goals as goal
 
 pub returns : goal.returns

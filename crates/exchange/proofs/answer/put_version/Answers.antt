@@ -1,11 +1,10 @@
 -- `exchange::answer::put_version` meets its contract.
 -- Assumes nothing.
 use Rattle.exchange.proofs.Saying.{put-version}
-use borrow.Author.Rules.{rules}
 use Rattle.exchange.proofs.answer.put_version.Goals as goal
 
 pub returns : goal.returns
 returns c =
-        let args = c.args in
+    let args = c.args in
     put-version args.buffer.now _ args.major args.minor args.revision
     c.put_number4.ensures c.response_code.ensures c.put_control.ensures

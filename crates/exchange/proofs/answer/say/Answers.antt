@@ -1,7 +1,6 @@
 -- `exchange::answer::say` meets its contract.
 -- Assumes nothing.
 use Rattle.exchange.proofs.Saying.{say-whole, say-none}
-use borrow.Author.Rules.{rules}
 use Rattle.exchange.proofs.answer.say.Goals as goal
 
 pub returns-then-length-room : goal.returns-then-length-room

@@ -3,7 +3,6 @@
 use mathlib.Core.Path.{sym, ap, ◌∙◌}
 use Rattle.commands.specs.declared.Coded.{Coded}
 use Rattle.exchange.specs.Request.{asked_by_code}
-use borrow.Author.Rules.{rules}
 use Rattle.exchange.proofs.request.by_code.Goals as goal
 
 pub returns-in-Unknown : goal.returns-in-Unknown
@@ -13,6 +12,6 @@ returns-in-Unknown c =
 
 pub returns-in-Is : goal.returns-in-Is
 returns-in-Is c =
-        let args = c.args in
+    let args = c.args in
     c.counted_as.ensures
     ∙ ap (λ (x : Coded). asked_by_code x args.n args.parameters.now) (sym c.in-Is.is ∙ c.requested.ensures)

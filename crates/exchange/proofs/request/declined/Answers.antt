@@ -1,6 +1,5 @@
 -- `exchange::request::declined` meets its contract.
 -- Assumes nothing.
-use borrow.Author.Rules.{rules}
 use Rattle.exchange.proofs.request.declined.Goals as goal
 
 pub returns-in-Control : goal.returns-in-Control

@@ -3,7 +3,6 @@
 use mathlib.Core.Path.{ap, ap₂, ◌∙◌}
 use lib.Dec.{eqb}
 use Rattle.exchange.specs.State.{state_number}
-use borrow.Author.Rules.{rules}
 use Rattle.exchange.proofs.request.fits_state.Goals as goal
 
 pub returns : goal.returns

@@ -3,7 +3,6 @@
 use mathlib.Core.Path.{sym, ap, ◌∙◌}
 use Rattle.exchange.specs.Request.{asked_by}
 use Rattle.exchange.proofs.Requests.{asked_control}
-use borrow.Author.Rules.{rules}
 use Rattle.exchange.proofs.request.read_request.Goals as goal
 
 pub returns-in-Fault : goal.returns-in-Fault
@@ -11,7 +10,7 @@ unfolding asked_by
 returns-in-Fault c = ap (asked_by _) (sym c.in-Fault.is ∙ c.read_frame.ensures)
 
 pub returns-in-Control : goal.returns-in-Control
-returns-in-Control c =     asked_control _ _ _ c.by_code.ensures c.parameters.ensures (sym c.in-Control.is ∙ c.read_frame.ensures)
+returns-in-Control c = asked_control _ _ _ c.by_code.ensures c.parameters.ensures (sym c.in-Control.is ∙ c.read_frame.ensures)
 
 pub returns-in-Write : goal.returns-in-Write
 unfolding asked_by

@@ -2,8 +2,6 @@
 -- Assumes nothing.
 use mathlib.Core.Path.{sym, ◌∙◌}
 use native.Mathlib.Omega.{arith}
-use borrow.Author.Rules.{rules}
-use borrow.Author.Tests.{not-true, not-false}
 use Rattle.layout.proofs.Layouts.{good_high}
 use Rattle.flash.proofs.Sectors.{has_bad, has_ends}
 use Rattle.flash.proofs.bank.has_sector.Goals as goal

@@ -1,12 +1,9 @@
 -- `flash::bank::put_words` meets its contract: at each turn the first i words are stored.
 -- Assumes nothing.
-use mathlib.Core.Path.{◌≡◌, refl, ◌∙◌}
+use mathlib.Core.Path.{◌≡◌}
 use Prim.Native.Nat.{◌≤◌, ◌-◌}
-use native.Mathlib.Omega.{arith}
 use lib.ListN.{length}
-use borrow.Author.Rules.{rules}
 use Rattle.flash.specs.Store.{StoresLeave, word_stores}
-use Rattle.flash.proofs.Words.{words_none, words_next}
 use Rattle.flash.proofs.bank.put_words.Given as goal
 
 abbrev pub invariant-loop-i : goal.invariant-loop-i

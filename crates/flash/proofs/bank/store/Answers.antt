@@ -5,7 +5,6 @@ use mathlib.Core.Bool.{true}
 use Prim.Native.Nat.{◌+◌, ◌≤◌}
 use lib.ListN.{length}
 use borrow.Author.Rules.{rules}
-use borrow.Author.Tests.{not-true, not-false}
 use Rattle.layout.specs.Layout.{sector_size}
 use Rattle.flash.specs.Bank.{has_sector}
 use Rattle.flash.specs.Sector.{stored_in}
@@ -34,6 +33,6 @@ slice_bounds-make-end c =
 
 pub returns : goal.returns
 returns c =
-        let a = c.args in
+    let a = c.args in
     let h : has_sector (length a.bank.now) a.k ≡ true = sym c.has_sector.ensures ∙ c.if-not-has_sector.false in
     at_lent (stored_in a.store) a.k a.bank.now h c.sector_offset-from.ensures c.make.ensures

@@ -1,11 +1,8 @@
 -- `flash::bank::sweep` meets its contract: at each turn the stores of the first j sectors are made.
 -- Assumes nothing.
 use mathlib.Core.Path.{◌≡◌, refl, ◌∙◌}
-use Prim.Native.Nat.{◌≤◌, ◌-◌}
 use native.Mathlib.Omega.{arith}
-use lib.ListN.{length}
 use borrow.Author.Rules.{rules}
-use Rattle.flash.specs.Store.{StoresLeave, sweep_stores}
 use Rattle.flash.proofs.Sweeps.{sweep_none, sweep_next, sweep_end}
 use Rattle.flash.proofs.bank.sweep.Goals as goal
 

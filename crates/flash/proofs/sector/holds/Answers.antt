@@ -3,8 +3,6 @@
 use mathlib.Core.Path.{◌∙◌, ap, sym}
 use native.Mathlib.Omega.{arith}
 use lib.Seq.{length-take-le}
-use borrow.Author.Rules.{rules}
-use borrow.Author.Tests.{not-true, not-false}
 use Rattle.buffer.specs.Compare.{blank_of}
 use Rattle.buffer.proofs.Parts.{rest_out}
 use Rattle.flash.proofs.Words.{holds_not, holds_rest}
@@ -20,7 +18,7 @@ returns-then-not-same c =
 
 pub returns : goal.returns
 returns c =
-        let a = c.args in
+    let a = c.args in
     c.blank.ensures
     ∙ ap blank_of (rest_out a.sector.now _)
     ∙ holds_rest a.sector.now a.bytes.now (omega arith) (omega arith) c.same.ensures c.if-not-same.false

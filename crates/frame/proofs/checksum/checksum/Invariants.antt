@@ -1,8 +1,7 @@
 -- `frame::checksum::checksum` meets its contract: what is left of the bytes, taken away from the sum so far, is the whole's checksum.
 -- Assumes nothing.
-use Rattle.std.proofs.Common.{◌≡◌, ℕ, ◌+◌, ◌-◌, ◌%◌, ◌<◌, ◌≤◌, List, length, get_or, drop, sym, refl, ap, ◌∙◌, arith, rules}
+use Rattle.std.proofs.Common.{◌≡◌, ◌-◌, ◌<◌, ◌≤◌, length, drop}
 use mathlib.Core.List.{foldl}
-use Rattle.buffer.proofs.Fold.{fold_more, fold_done}
 use Rattle.frame.specs.Checksum.{taken_away, checksum_of}
 use Rattle.frame.proofs.checksum.checksum.Given as goal
 

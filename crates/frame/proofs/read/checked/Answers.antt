@@ -1,6 +1,6 @@
 -- `frame::read::checked` meets its contract.
 -- Assumes nothing.
-use Rattle.std.proofs.Common.{eqb, get_or, ap, rules}
+use Rattle.std.proofs.Common.{eqb, get_or, ap}
 use Rattle.frame.specs.Read.{checked_at}
 use Rattle.frame.proofs.read.checked.Goals as goal
 

@@ -1,8 +1,7 @@
 -- `frame::read::control` meets its contract: each way out is a case of the definition.
 -- Assumes nothing.
-use Rattle.std.proofs.Common.{ℕ, List, get_or, sym, refl, ◌∙◌, arith, rules, eq-eqb, ne_eqb}
+use Rattle.std.proofs.Common.{ℕ, List, get_or, sym, refl, ◌∙◌, arith, eq-eqb, ne_eqb}
 use lib.ListN.{get_or-eq_default}
-use borrow.Author.Tests.{not-true, not-false}
 use Rattle.frame.proofs.Cases.{control_empty, control_length, control_checksum, control_footer, control_good}
 use Rattle.frame.proofs.read.control.Goals as goal
 

@@ -1,7 +1,6 @@
 -- `frame::read::data` meets its contract.
 -- Assumes nothing.
 use Rattle.frame.specs.Read.{data_in}
-use Rattle.std.proofs.Common.{rules}
 use Rattle.frame.proofs.read.data.Goals as goal
 
 pub returns : goal.returns

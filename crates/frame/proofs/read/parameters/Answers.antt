@@ -1,7 +1,6 @@
 -- `frame::read::parameters` meets its contract.
 -- Assumes nothing.
 use Rattle.frame.specs.Read.{parameters_in}
-use Rattle.std.proofs.Common.{rules}
 use Rattle.frame.proofs.read.parameters.Goals as goal
 
 pub returns : goal.returns

@@ -1,7 +1,6 @@
 -- `frame::read::part_from` meets its contract: each way out is a case of the definition.
 -- Assumes nothing.
 use Rattle.frame.proofs.Parts.{part_short, part_other, part_lies}
-use Rattle.std.proofs.Common.{rules}
 use Rattle.frame.proofs.read.part_from.Goals as goal
 
 pub returns-then-datagram-at : goal.returns-then-datagram-at

@@ -1,6 +1,6 @@
 -- `frame::read::read_frame` meets its contract: each way out is a case of the definition.
 -- Assumes nothing.
-use Rattle.std.proofs.Common.{◌∙◌, arith, rules, eq-eqb, ne_eqb}
+use Rattle.std.proofs.Common.{◌∙◌, arith, eq-eqb, ne_eqb}
 use Rattle.frame.proofs.Cases.{read_empty, read_control_lem, read_write_lem, read_other}
 use Rattle.frame.proofs.read.read_frame.Goals as goal
 

@@ -1,7 +1,6 @@
 -- `frame::read::write` meets its contract: each way out is a case of the definition.
 -- Assumes nothing.
-use Rattle.std.proofs.Common.{ℕ, sym, ap, ◌∙◌, rules, eq-eqb, ne_eqb}
-use borrow.Author.Tests.{not-true, not-false}
+use Rattle.std.proofs.Common.{ℕ, sym, ap, ◌∙◌, eq-eqb, ne_eqb}
 use Rattle.frame.specs.declared.read.Footer.TheVariants.{End, Continued}
 use Rattle.frame.specs.declared.read.Read.TheVariants.{Write}
 use Rattle.frame.proofs.Cases.{write_length, write_checksum, write_end, write_continued, write_footer}

@@ -1,6 +1,6 @@
 -- `frame::write::close` meets its contract.
 -- Assumes nothing.
-use Rattle.std.proofs.Common.{ℕ, [], ◌∷◌, ap, ◌∙◌, rules}
+use Rattle.std.proofs.Common.{ℕ, [], ◌∷◌, ap, ◌∙◌}
 use Rattle.buffer.specs.Place.{place_of}
 use Rattle.frame.specs.Write.{closed_at}
 use Rattle.frame.proofs.write.close.Goals as goal

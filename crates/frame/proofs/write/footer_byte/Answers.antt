@@ -1,7 +1,6 @@
 -- `frame::write::footer_byte` meets its contract.
 -- Assumes nothing.
 use Rattle.frame.specs.Frame.{footer_byte}
-use Rattle.std.proofs.Common.{rules}
 use Rattle.frame.proofs.write.footer_byte.Goals as goal
 
 pub returns-in-End : goal.returns-in-End

@@ -1,7 +1,6 @@
 -- `frame::write::put_error` meets its contract.
 -- Assumes nothing.
 use Rattle.frame.specs.Frame.{frame_error}
-use Rattle.std.proofs.Common.{rules}
 use Rattle.frame.proofs.write.put_error.Goals as goal
 
 pub returns : goal.returns

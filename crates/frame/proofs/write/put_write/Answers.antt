@@ -1,6 +1,6 @@
 -- `frame::write::put_write` meets its contract: piece by piece the buffer's front becomes the frame.
 -- Assumes nothing.
-use Rattle.std.proofs.Common.{arith, rules}
+use Rattle.std.proofs.Common.{arith}
 use Rattle.frame.proofs.Writing.{write_too_long, write_no_room, write_put}
 use Rattle.frame.proofs.write.put_write.Goals as goal
 
@@ -15,7 +15,6 @@ returns c =
     let footer_byte = c.footer_byte in
     let put-at = c.put_at in
     let put_front = c.put_front in
-    
     let put-number22 = c.put_number2-2 in
     let put-number2 = c.put_number2 in
     let c20 = c in

@@ -4,7 +4,6 @@ use mathlib.Core.Path.{sym, ◌∙◌}
 use native.Mathlib.Omega.{arith}
 use Rattle.night.proofs.Calling.{stands_there, hand_refused, hand_moved}
 use Rattle.night.proofs.Lending.{looked_for, lent, sector_good, sector_inside}
-use borrow.Author.Rules.{rules}
 use Rattle.night.proofs.call.at_hand.Goals as goal
 
 pub judge-verdict-requires : goal.judge-verdict-requires

@@ -6,7 +6,6 @@ use Rattle.sender.specs.Packet.{packet_count}
 use Rattle.night.specs.declared.record.Stand.{Stand}
 use Rattle.night.specs.Call.{stands_at}
 use Rattle.night.proofs.Calling.{gone_end, gone_out}
-use borrow.Author.Rules.{rules}
 use Rattle.night.proofs.call.goes_on.Goals as goal
 
 pub make-requires : goal.make-requires

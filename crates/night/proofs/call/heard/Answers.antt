@@ -1,7 +1,6 @@
 -- `night::call::heard` meets its contract: the response is judged as it reads.
 -- Assumes nothing.
 use Rattle.night.proofs.Calling.{step_heard}
-use borrow.Author.Rules.{rules}
 use Rattle.night.proofs.call.heard.Goals as goal
 
 pub returns : goal.returns

@@ -2,7 +2,6 @@
 -- Assumes nothing.
 use mathlib.Core.Path.{sym, ◌∙◌}
 use Rattle.night.proofs.Calling.{over_refused, over_told}
-use borrow.Author.Rules.{rules}
 use Rattle.night.proofs.call.over.Goals as goal
 
 pub returns-in-Refused : goal.returns-in-Refused

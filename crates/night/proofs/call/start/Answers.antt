@@ -3,7 +3,6 @@
 use mathlib.Core.Path.{sym, ◌∙◌}
 use Rattle.night.proofs.Calling.{start_refused, start_gone}
 use Rattle.night.proofs.Lending.{lent}
-use borrow.Author.Rules.{rules}
 use Rattle.night.proofs.call.start.Goals as goal
 
 pub goes_on-requires : goal.goes_on-requires

@@ -1,7 +1,6 @@
 -- `night::call::step` meets its contract: each stand has a case of the definition.
 -- Assumes nothing.
 use Rattle.night.proofs.Calling.{step_unbegun, step_hand, step_finished, step_gave_up}
-use borrow.Author.Rules.{rules}
 use Rattle.night.proofs.call.step.Goals as goal
 
 pub returns-in-NotBegun : goal.returns-in-NotBegun

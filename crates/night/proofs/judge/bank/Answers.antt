@@ -1,7 +1,6 @@
 -- `night::judge::bank` meets its contract: each way out is a case of the definition.
 -- Assumes nothing.
 use Rattle.night.proofs.Judging.{bank_ours, bank_another}
-use borrow.Author.Rules.{rules}
 use Rattle.night.proofs.judge.bank.Goals as goal
 
 pub returns-then-bank_number : goal.returns-then-bank_number

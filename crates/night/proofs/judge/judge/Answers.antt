@@ -2,7 +2,6 @@
 -- Assumes nothing.
 use Rattle.night.specs.declared.name.Name.TheVariants.{ModeStart, VersionInfo, BankInfo, WriteStart, Packet, WriteEnd, ModeEnd}
 use Rattle.night.proofs.Judging.{judged_as}
-use borrow.Author.Rules.{rules}
 use Rattle.night.proofs.judge.judge.Goals as goal
 
 pub returns-in-ModeStart : goal.returns-in-ModeStart

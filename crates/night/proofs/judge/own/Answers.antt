@@ -1,7 +1,6 @@
 -- `night::judge::own` meets its contract: each way out is a case of the definition.
 -- Assumes nothing.
 use Rattle.night.proofs.Judging.{own_settled, own_declined, own_spent}
-use borrow.Author.Rules.{rules}
 use Rattle.night.proofs.judge.own.Goals as goal
 
 pub returns-then-result-eq6 : goal.returns-then-result-eq6

@@ -1,7 +1,6 @@
 -- `night::judge::own_result` meets its contract: each way out is a case of the definition.
 -- Assumes nothing.
 use Rattle.night.proofs.Judging.{own_code, other_code}
-use borrow.Author.Rules.{rules}
 use Rattle.night.proofs.judge.own_result.Goals as goal
 
 pub returns-then-response_code : goal.returns-then-response_code

@@ -2,7 +2,6 @@
 -- Assumes nothing.
 use mathlib.Core.Path.{sym, ap, ◌∙◌}
 use Rattle.night.specs.Judge.{packet_verdict}
-use borrow.Author.Rules.{rules}
 use Rattle.night.proofs.judge.packet.Goals as goal
 
 pub returns-in-Written : goal.returns-in-Written

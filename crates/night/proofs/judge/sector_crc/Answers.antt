@@ -4,7 +4,6 @@ use mathlib.Core.Path.{sym, ap, ◌∙◌}
 use native.Mathlib.Omega.{arith}
 use Rattle.crc.specs.Crc.{crc_of}
 use Rattle.layout.proofs.Layouts.{good_low, offset_good, lent_out}
-use borrow.Author.Rules.{rules}
 use Rattle.night.proofs.judge.sector_crc.Goals as goal
 
 pub overflow_add-to : goal.overflow_add-to

@@ -1,8 +1,6 @@
 -- `night::judge::written` meets its contract: each way out is a case of the definition.
 -- Assumes nothing.
-use borrow.Author.Tests.{not-true, not-false}
 use Rattle.night.proofs.Judging.{fields_other, crc_same, crc_other}
-use borrow.Author.Rules.{rules}
 use Rattle.night.proofs.judge.written.Goals as goal
 
 pub returns-then-not-fields_awaited : goal.returns-then-not-fields_awaited

@@ -2,7 +2,6 @@
 -- Assumes nothing.
 use mathlib.Core.Path.{sym, ◌∙◌}
 use Rattle.night.proofs.Lending.{looked_by}
-use borrow.Author.Rules.{rules}
 use Rattle.night.proofs.lent.look.Goals as goal
 
 pub returns-in-BadN : goal.returns-in-BadN

@@ -8,7 +8,6 @@ use Rattle.night.specs.declared.name.Name.{Name}
 use Rattle.night.specs.declared.name.Name.TheVariants.{ModeStart, VersionInfo, BankInfo, WriteStart, WriteEnd, ModeEnd}
 use Rattle.night.specs.Name.{number_of}
 use Rattle.night.proofs.Making.{request_sent, packet_sent}
-use borrow.Author.Rules.{rules}
 use Rattle.night.proofs.make.make.Goals as goal
 
 pub returns-in-ModeStart : goal.returns-in-ModeStart

@@ -2,7 +2,6 @@
 -- Assumes nothing.
 use mathlib.Core.Path.{sym, ap}
 use Rattle.night.specs.Call.{sent_by}
-use borrow.Author.Rules.{rules}
 use Rattle.night.proofs.make.sent.Goals as goal
 
 pub returns-in-Frame : goal.returns-in-Frame

@@ -1,7 +1,6 @@
 -- `night::record::again` meets its contract: each way out is a case of the definition.
 -- Assumes nothing.
 use Rattle.night.proofs.Moving.{goes_again, given_up}
-use borrow.Author.Rules.{rules}
 use Rattle.night.proofs.record.again.Goals as goal
 
 pub returns-then-gone-tries : goal.returns-then-gone-tries

@@ -2,7 +2,6 @@
 -- Assumes nothing.
 use mathlib.Core.Path.{◌∙◌}
 use Rattle.night.proofs.Moving.{next_packet, last_packet}
-use borrow.Author.Rules.{rules}
 use Rattle.night.proofs.record.behind_packet.Goals as goal
 
 pub returns-then-p-count : goal.returns-then-p-count

@@ -6,7 +6,6 @@ use Rattle.night.specs.declared.name.Name.{Name}
 use Rattle.night.specs.declared.name.Name.TheVariants.{ModeStart, VersionInfo, BankInfo, WriteStart, Packet, WriteEnd}
 use Rattle.night.specs.Name.{number_of}
 use Rattle.night.proofs.Moving.{followed_as}
-use borrow.Author.Rules.{rules}
 use Rattle.night.proofs.record.following.Goals as goal
 
 pub behind_packet-requires : goal.behind_packet-requires

@@ -2,7 +2,6 @@
 -- Assumes nothing.
 use mathlib.Core.Path.{sym, ap, ◌∙◌}
 use Rattle.night.specs.Record.{moved_of}
-use borrow.Author.Rules.{rules}
 use Rattle.night.proofs.record.moved.Goals as goal
 
 pub returns-in-Settled : goal.returns-in-Settled

@@ -10,7 +10,6 @@ use Rattle.commands.specs.declared.Command.TheVariants.{ModeStart, BankInfo, Ver
 use Rattle.response.specs.declared.read.Response.TheVariants.{Firmware}
 use Rattle.response.specs.Response.{accepted_of}
 use Rattle.response.proofs.Responses.{adds_six, command_alone}
-use borrow.Author.Rules.{rules}
 use Rattle.response.proofs.read.accepted.Goals as goal
 
 pub bounds-parameters-1 : goal.bounds-parameters-1
@@ -32,7 +31,7 @@ returns-in-BankInfo c =
 
 pub returns-in-VersionInfo : goal.returns-in-VersionInfo
 returns-in-VersionInfo c =
-        let args = c.args in
+    let args = c.args in
     let l : List ℕ = args.parameters.now in
     ap₂ (λ (x y : ℕ). Firmware x (byte_at l 3) (byte_at l 4) y) c.number2.ensures c.number4.ensures
     ∙ sym (ap (λ (k : Command). accepted_of k l) c.in-VersionInfo.is)

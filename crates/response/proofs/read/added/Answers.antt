@@ -3,7 +3,6 @@
 use mathlib.Core.Path.{◌∙◌}
 use borrow.Author.Tests.{eq-eqb, ne_eqb}
 use Rattle.response.proofs.Responses.{adds_none, adds_some}
-use borrow.Author.Rules.{rules}
 use Rattle.response.proofs.read.added.Goals as goal
 
 pub returns-then-res-ne6 : goal.returns-then-res-ne6

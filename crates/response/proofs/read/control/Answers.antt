@@ -2,7 +2,6 @@
 -- Assumes nothing.
 use mathlib.Core.Path.{sym, ◌∙◌}
 use Rattle.response.proofs.Responses.{by_error, no_response, by_command}
-use borrow.Author.Rules.{rules}
 use Rattle.response.proofs.read.control.Goals as goal
 
 pub returns-then-code-eq-ERROR : goal.returns-then-code-eq-ERROR
@@ -12,4 +11,4 @@ pub returns-in-Unknown : goal.returns-in-Unknown
 returns-in-Unknown c = no_response _ _ c.if-code-eq-ERROR.false (sym c.in-Unknown.is ∙ c.answered.ensures)
 
 pub returns-in-Is : goal.returns-in-Is
-returns-in-Is c =     c.own.ensures ∙ by_command _ _ _ c.if-code-eq-ERROR.false (sym c.in-Is.is ∙ c.answered.ensures)
+returns-in-Is c = c.own.ensures ∙ by_command _ _ _ c.if-code-eq-ERROR.false (sym c.in-Is.is ∙ c.answered.ensures)

@@ -4,7 +4,6 @@ use mathlib.Core.Path.{ap₂}
 use mathlib.Core.Bool.{Bool, ◌&&◌, ◌||◌}
 use lib.Dec.{eqb}
 use Rattle.response.specs.Response.{crc_fits}
-use borrow.Author.Rules.{rules}
 use Rattle.response.proofs.read.crc_fits.Goals as goal
 
 pub returns : goal.returns

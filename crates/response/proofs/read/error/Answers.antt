@@ -1,9 +1,7 @@
 -- `response::read::error` meets its contract: each way out is a case of the definition.
 -- Assumes nothing.
 use mathlib.Core.Path.{sym, ◌∙◌}
-use borrow.Author.Tests.{not-true, not-false}
 use Rattle.response.proofs.Responses.{error_length, error_result, is_error}
-use borrow.Author.Rules.{rules}
 use Rattle.response.proofs.read.error.Goals as goal
 
 pub returns-then-parameters-ne1 : goal.returns-then-parameters-ne1

@@ -1,7 +1,6 @@
 -- `response::read::may_carry` meets its contract: the test is the definition.
 -- Assumes nothing.
 use Rattle.response.specs.Response.{may_carry}
-use borrow.Author.Rules.{rules}
 use Rattle.response.proofs.read.may_carry.Goals as goal
 
 pub returns : goal.returns

@@ -4,10 +4,9 @@ use mathlib.Core.Path.{refl, sym, ap, ◌∙◌}
 use Prim.Native.Nat.{ℕ, ◌+◌}
 use native.Mathlib.Omega.{arith}
 use lib.ListN.{get_or}
-use borrow.Author.Tests.{eq-eqb, ne_eqb, not-true, not-false}
+use borrow.Author.Tests.{eq-eqb, ne_eqb}
 use Rattle.response.specs.Response.{added_of}
 use Rattle.response.proofs.Responses.{added_small, no_result, bad-result, bad_length, is_plain, is-accepted}
-use borrow.Author.Rules.{rules}
 use Rattle.response.proofs.read.own.Goals as goal
 
 pub returns-then-parameters-eq0 : goal.returns-then-parameters-eq0
@@ -28,7 +27,7 @@ returns-then-parameters-added c =
 
 pub returns-then-result-ne6 : goal.returns-then-result-ne6
 returns-then-result-ne6 c =
-        is_plain _ _ _ refl (sym c.may_carry.ensures ∙ c.if-not-may_carry.false)
+    is_plain _ _ _ refl (sym c.may_carry.ensures ∙ c.if-not-may_carry.false)
     (c.if-parameters-added.false ∙ ap (λ (x : ℕ). x + 1) c.added.ensures) (ne_eqb _ _ c.if-result-ne6.true)
 
 pub accepted-requires : goal.accepted-requires
@@ -39,5 +38,5 @@ accepted-requires c =
 
 pub returns : goal.returns
 returns c =
-        c.accepted.ensures ∙ is-accepted _ _ _ refl (sym c.may_carry.ensures ∙ c.if-not-may_carry.false)
+    c.accepted.ensures ∙ is-accepted _ _ _ refl (sym c.may_carry.ensures ∙ c.if-not-may_carry.false)
     (c.if-parameters-added.false ∙ ap (λ (x : ℕ). x + 1) c.added.ensures) (eq-eqb _ _ c.if-result-ne6.false)

@@ -2,10 +2,8 @@
 -- Assumes nothing.
 use mathlib.Core.Path.{sym, ◌∙◌}
 use native.Mathlib.Omega.{arith}
-use borrow.Author.Tests.{not-true, not-false}
 use Rattle.layout.proofs.Layouts.{good_high}
 use Rattle.sender.proofs.Packets.{seen-count, tally_bad_n, tally_bad_image, tally_packets}
-use borrow.Author.Rules.{rules}
 use Rattle.sender.proofs.packet.count.Goals as goal
 
 pub returns-then-not-good_n : goal.returns-then-not-good_n

@@ -2,7 +2,6 @@
 -- Assumes nothing.
 use borrow.Author.Tests.{eq-eqb, ne_eqb}
 use Rattle.sender.specs.Packet.{footer_of}
-use borrow.Author.Rules.{rules}
 use Rattle.sender.proofs.packet.footer.Goals as goal
 
 pub returns-then-p-count : goal.returns-then-p-count

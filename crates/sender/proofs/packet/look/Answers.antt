@@ -4,7 +4,6 @@ use mathlib.Core.Path.{sym, ◌∙◌}
 use native.Mathlib.Omega.{arith}
 use Rattle.layout.proofs.Layouts.{offset_good}
 use Rattle.sender.proofs.Packets.{looked_at, sent_few, seen-count, seen-blank, seen_here, seen_other}
-use borrow.Author.Rules.{rules}
 use Rattle.sender.proofs.packet.look.Goals as goal
 
 pub overflow_add-to : goal.overflow_add-to

@@ -3,7 +3,6 @@
 use mathlib.Core.Path.{refl, sym, ap, ◌∙◌}
 use Prim.Native.Nat.{ℕ}
 use native.Mathlib.Omega.{arith}
-use borrow.Author.Tests.{not-true, not-false}
 use Rattle.layout.proofs.Layouts.{good_high}
 use Rattle.sender.specs.Packet.{footer_of}
 use Rattle.sender.proofs.Packets.{
@@ -18,7 +17,6 @@ use Rattle.sender.proofs.Packets.{
   packet_refused,
   packet_put,
 }
-use borrow.Author.Rules.{rules}
 use Rattle.sender.proofs.packet.packet.Goals as goal
 
 pub returns-then-not-good_n : goal.returns-then-not-good_n

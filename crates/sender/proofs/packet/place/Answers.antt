@@ -2,10 +2,8 @@
 -- Assumes nothing.
 use mathlib.Core.Path.{sym, ◌∙◌}
 use native.Mathlib.Omega.{arith}
-use borrow.Author.Tests.{not-true, not-false}
 use Rattle.layout.proofs.Layouts.{good_high}
 use Rattle.sender.proofs.Packets.{seen-count, seen-sector, place_bad_n, place_bad_image, place_past, place_found}
-use borrow.Author.Rules.{rules}
 use Rattle.sender.proofs.packet.place.Goals as goal
 
 pub returns-then-not-good_n : goal.returns-then-not-good_n

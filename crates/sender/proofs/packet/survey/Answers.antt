@@ -1,7 +1,7 @@
 -- `sender::packet::survey` meets its contract. The loop's invariant: what was seen is what the first k sectors show.
 -- Assumes nothing.
 use mathlib.Core.Path.{◌≡◌, ap, ◌∙◌}
-use Prim.Native.Nat.{ℕ, ◌-◌, ◌≤◌}
+use Prim.Native.Nat.{ℕ}
 use native.Mathlib.Omega.{arith}
 use Rattle.layout.proofs.Layouts.{good_below}
 use Rattle.sender.specs.Packet.{seen_of}

@@ -1,11 +1,8 @@
 -- `sender::packet::survey` meets its contract. The loop's invariant: what was seen is what the first k sectors show.
 -- Assumes nothing.
-use mathlib.Core.Path.{◌≡◌, ap, ◌∙◌}
-use Prim.Native.Nat.{ℕ, ◌-◌, ◌≤◌}
-use native.Mathlib.Omega.{arith}
-use Rattle.layout.proofs.Layouts.{good_below}
+use mathlib.Core.Path.{◌≡◌}
+use Prim.Native.Nat.{◌-◌, ◌≤◌}
 use Rattle.sender.specs.Packet.{seen_of}
-use Rattle.sender.proofs.Packets.{seen_none}
 use Rattle.sender.proofs.packet.survey.Given as goal
 
 abbrev pub invariant-loop-k : goal.invariant-loop-k

@@ -2,7 +2,6 @@
 -- Assumes nothing.
 use native.Mathlib.Omega.{arith}
 use Rattle.sender.proofs.Making.{control_refused, control_made}
-use borrow.Author.Rules.{rules}
 use Rattle.sender.proofs.request.control.Goals as goal
 
 pub returns-then-buffer-lt-ROOM : goal.returns-then-buffer-lt-ROOM

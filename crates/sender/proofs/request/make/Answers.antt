@@ -5,7 +5,6 @@ use Rattle.commands.specs.Command.{request_code}
 use Rattle.sender.specs.declared.request.Request.TheVariants.{ModeStart, BankInfo, VersionInfo, WriteEnd, ModeEnd}
 use Rattle.sender.specs.Request.{command_of}
 use Rattle.sender.proofs.Making.{request_told, request_bare}
-use borrow.Author.Rules.{rules}
 use Rattle.sender.proofs.request.make.Goals as goal
 
 pub write_start-requires : goal.write_start-requires

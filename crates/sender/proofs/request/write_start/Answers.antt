@@ -1,10 +1,8 @@
 -- `sender::request::write_start` meets its contract: the parameters are the two addresses.
 -- Assumes nothing.
 use mathlib.Core.Path.{refl, sym, ◌∙◌}
-use borrow.Author.Tests.{not-true, not-false}
 use Rattle.sender.specs.declared.request.Request.TheVariants.{WriteStart}
 use Rattle.sender.proofs.Making.{request_control, start_refused, start_parameters}
-use borrow.Author.Rules.{rules}
 use Rattle.sender.proofs.request.write_start.Goals as goal
 
 pub returns-then-not-good_n : goal.returns-then-not-good_n

@@ -2,7 +2,6 @@
 -- Assumes nothing.
 use mathlib.Core.Path.{ap, ◌∙◌}
 use Rattle.client.specs.Record.{begun}
-use borrow.Author.Rules.{rules}
 use Rattle.client.proofs.record.Client.begin.Goals as goal
 
 pub returns : goal.returns

@@ -1,6 +1,5 @@
 -- `client::record::Client::begun` meets its contract.
 -- Assumes nothing.
-use borrow.Author.Rules.{rules}
 use Rattle.client.proofs.record.Client.begun.Goals as goal
 
 pub returns : goal.returns

@@ -1,9 +1,7 @@
 -- `client::step::Client::beside` meets its contract.
 -- Assumes nothing.
 use mathlib.Core.Path.{sym, ◌∙◌}
-use borrow.Author.Tests.{not-true, not-false}
 use Rattle.client.proofs.Stepping.{beside-bad, beside-wrong, beside-right}
-use borrow.Author.Rules.{rules}
 use Rattle.client.proofs.record.Client.beside.Goals as goal
 
 pub returns-then-not-good_n : goal.returns-then-not-good_n

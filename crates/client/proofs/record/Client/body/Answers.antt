@@ -2,7 +2,6 @@
 -- Assumes nothing.
 use Rattle.layout.specs.declared.Bank.TheVariants.{Zero, One}
 use Rattle.client.proofs.Bodies.{body_none, body_there}
-use borrow.Author.Rules.{rules}
 use Rattle.client.proofs.record.Client.body.Goals as goal
 
 pub returns-in-Zero : goal.returns-in-Zero

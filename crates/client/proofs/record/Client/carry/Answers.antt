@@ -1,7 +1,6 @@
 -- `client::step::Client::carry` meets its contract.
 -- Assumes nothing.
 use Rattle.client.proofs.Stepping.{carry_is}
-use borrow.Author.Rules.{rules}
 use Rattle.client.proofs.record.Client.carry.Goals as goal
 
 pub returns : goal.returns

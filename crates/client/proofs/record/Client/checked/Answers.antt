@@ -1,7 +1,6 @@
 -- `client::perform::Client::checked` meets its contract.
 -- Assumes nothing.
 use Rattle.client.proofs.Performing.{checked_good, checked_bad}
-use borrow.Author.Rules.{rules}
 use Rattle.client.proofs.record.Client.checked.Goals as goal
 
 pub returns-then-fit : goal.returns-then-fit

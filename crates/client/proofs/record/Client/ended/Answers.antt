@@ -1,6 +1,5 @@
 -- `client::record::Client::ended` meets its contract.
 -- Assumes nothing.
-use borrow.Author.Rules.{rules}
 use Rattle.client.proofs.record.Client.ended.Goals as goal
 
 pub returns : goal.returns

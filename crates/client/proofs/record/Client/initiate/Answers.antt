@@ -1,9 +1,7 @@
 -- `client::host::Client::initiate` meets its contract.
 -- Assumes nothing.
 use mathlib.Core.Path.{sym, ◌∙◌}
-use borrow.Author.Tests.{not-true, not-false}
 use Rattle.client.proofs.Hosting.{initiate_bad, initiate_vain, initiate_done}
-use borrow.Author.Rules.{rules}
 use Rattle.client.proofs.record.Client.initiate.Goals as goal
 
 pub returns-then-not-good_n : goal.returns-then-not-good_n

@@ -1,7 +1,6 @@
 -- `client::step::Client::kept` meets its contract.
 -- Assumes nothing.
 use Rattle.client.proofs.Stepping.{kept_is}
-use borrow.Author.Rules.{rules}
 use Rattle.client.proofs.record.Client.kept.Goals as goal
 
 pub returns : goal.returns

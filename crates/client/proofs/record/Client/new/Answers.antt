@@ -2,7 +2,6 @@
 -- Assumes nothing.
 use mathlib.Core.Path.{sym, ◌∙◌}
 use Rattle.client.proofs.Hosting.{new_good, new_bad}
-use borrow.Author.Rules.{rules}
 use Rattle.client.proofs.record.Client.new.Goals as goal
 
 pub returns-then-good_n : goal.returns-then-good_n

@@ -1,6 +1,5 @@
 -- `client::record::Client::opened` meets its contract.
 -- Assumes nothing.
-use borrow.Author.Rules.{rules}
 use Rattle.client.proofs.record.Client.opened.Goals as goal
 
 pub returns : goal.returns

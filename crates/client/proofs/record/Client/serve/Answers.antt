@@ -3,7 +3,6 @@
 use mathlib.Core.Path.{refl}
 use Rattle.client.specs.Perform.{served_of}
 use Rattle.client.proofs.Performing.{responded}
-use borrow.Author.Rules.{rules}
 use Rattle.client.proofs.record.Client.serve.Goals as goal
 
 pub opened-requires : goal.opened-requires

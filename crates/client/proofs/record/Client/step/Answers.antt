@@ -1,7 +1,6 @@
 use Rattle.layout.specs.declared.Bank.TheVariants.{Zero, One}
 use Rattle.layout.specs.Pair.{banks}
 use Rattle.client.proofs.Stepping.{step_is}
-use borrow.Author.Rules.{rules}
 use Rattle.client.proofs.record.Client.step.Goals as goal
 
 -- src/step.rt:120:5

@@ -1,7 +1,6 @@
 -- `client::perform::Client::store` meets its contract.
 -- Assumes nothing.
 use Rattle.client.proofs.Performing.{store_is}
-use borrow.Author.Rules.{rules}
 use Rattle.client.proofs.record.Client.store.Goals as goal
 
 pub returns : goal.returns

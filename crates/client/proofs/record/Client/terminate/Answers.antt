@@ -1,9 +1,7 @@
 -- `client::host::Client::terminate` meets its contract.
 -- Assumes nothing.
 use mathlib.Core.Path.{sym, ◌∙◌}
-use borrow.Author.Tests.{not-true, not-false}
 use Rattle.client.proofs.Hosting.{terminate_bad, terminate_vain, terminate_done}
-use borrow.Author.Rules.{rules}
 use Rattle.client.proofs.record.Client.terminate.Goals as goal
 
 pub returns-then-not-good_n : goal.returns-then-not-good_n

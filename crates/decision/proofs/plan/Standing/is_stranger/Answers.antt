@@ -3,7 +3,6 @@
 use Rattle.decision.proofs.Planning.{no_mode, in_mode_lem}
 use mathlib.Core.Bool.{not}
 use mathlib.Core.Path.{ap}
-use borrow.Author.Rules.{rules}
 use Rattle.decision.proofs.plan.Standing.is_stranger.Goals as goal
 
 pub returns-then-not-is_open : goal.returns-then-not-is_open

@@ -1,9 +1,7 @@
 -- `decision::plan::Standing::plan` meets its contract.
 -- Assumes nothing.
 use mathlib.Core.Path.{sym, ◌∙◌}
-use borrow.Author.Tests.{not-true, not-false}
 use Rattle.decision.proofs.Planning.{lent, plan_3, plan-2, plan-1, plan-rest}
-use borrow.Author.Rules.{rules}
 use Rattle.decision.proofs.plan.Standing.plan.Goals as goal
 
 pub returns-then-not-good_n : goal.returns-then-not-good_n

@@ -1,7 +1,6 @@
 -- `decision::plan::Standing::plan_asked` meets its contract.
 -- Assumes nothing.
 use Rattle.decision.specs.Plan.{plan_asked}
-use borrow.Author.Rules.{rules}
 use Rattle.decision.proofs.plan.Standing.plan_asked.Goals as goal
 
 pub returns-in-Fault : goal.returns-in-Fault

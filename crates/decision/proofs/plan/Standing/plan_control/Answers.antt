@@ -1,7 +1,6 @@
 -- `decision::plan::Standing::plan_control` meets its contract.
 -- Assumes nothing.
 use Rattle.decision.specs.Plan.{plan_control}
-use borrow.Author.Rules.{rules}
 use Rattle.decision.proofs.plan.Standing.plan_control.Goals as goal
 
 pub returns-in-ModeStart : goal.returns-in-ModeStart

@@ -4,7 +4,6 @@ use Rattle.decision.proofs.Planning.{request_strange, request-unfit, request-fit
 use Rattle.decision.specs.Plan.{plan_good}
 use mathlib.Core.Bool.{not}
 use mathlib.Core.Path.{ap}
-use borrow.Author.Rules.{rules}
 use Rattle.decision.proofs.plan.Standing.plan_request.Goals as goal
 
 pub returns-then-is_stranger : goal.returns-then-is_stranger
