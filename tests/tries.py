@@ -171,15 +171,14 @@ class Tries:
 
     def stated(self, name, files, functions):
         """{function: the names of the places and goals that rattle makes of it, in the order of its code}."""
-        key = self.key(name, files, ("stated", sorted(functions)))
+        key = self.key(name, files, ("named", sorted(functions)))
         said = self.store.get(key)
         if said is None:
             words = [word for function in sorted(functions) for word in ("--start", function.partition("::")[2])]
 
             def outcome(_, crate):
-                goals = {function: crate / f"out/generated/Rattle-{name}-proofs" / "/".join(function.split("::")[1:]) / "Goals.antt" for function in functions}
-                found = {function: re.findall(r"^(?:abbrev )?pub (\S+) ?:", f.read_text(), re.M) for function, f in goals.items() if f.is_file()}
-                return "\n".join(" ".join([function, *names]) for function, names in sorted(found.items()) if names)
+                made = {function: crate / f"out/generated/Rattle-{name}-proofs" / "/".join(function.split("::")[1:]) for function in functions}
+                return "\n".join(" ".join([function, *named(folder)]) for function, folder in sorted(made.items()) if (folder / "Lts/View.antt").is_file())
 
             said = self.run(name, files, [*words, "--generated", "out/generated"], outcome)
             if len(said.split("\n")) == len(functions):
@@ -189,6 +188,13 @@ class Tries:
     def side_by_side(self, call, things):
         with concurrent.futures.ThreadPoolExecutor(self.jobs) as pool:
             return list(pool.map(call, things))
+
+
+def named(folder):
+    """The places and then the goals of a function, in the order of its code, by the modules that rattle makes of it."""
+    places = re.findall(r"^ *pub record In-(\S+) :", (folder / "Lts/View.antt").read_text(), re.M)
+    offered = folder / "AnswersOffered.antt"
+    return places + (re.findall(r"^pub (\S+) : goal\.", offered.read_text(), re.M) if offered.is_file() else [])
 
 
 def linked(one, other):
