@@ -6,7 +6,7 @@ ghost use Rattle.rows.specs.Text.{upper_text, row_text, rows_text, all_rows, tex
 ghost use Rattle.rows.specs.Places.{RowFits, ImageFits, Room, reached_at};
 
 use crate::record::{BESIDE, DATA, END, UPPER, put_line};
-use layout::{Bank, Counted};
+use layout::Bank;
 
 // The longest text: room for it is enough for every image.
 pub const LONGEST: usize = 707_121;
@@ -132,8 +132,8 @@ pub fn length(image: &[u8], bank: Bank) -> Written
     ensures { IsLength image.now bank result }
 {
     match layout::sectors(image.len()) {
-        Counted::Refused => Written::BadLength,
-        Counted::Sectors(_) => {
+        None => Written::BadLength,
+        Some(_) => {
             let base = layout::start_address(bank) as usize;
             Written::Text(measure(image, base) + BESIDE)
         }

@@ -4,7 +4,7 @@ ghost use Rattle.io.specs.Counts.{IsPrefixLen};
 
 use crate::{lists, sums};
 use bank::check::Verdict;
-use layout::{Bank, Counted};
+use layout::Bank;
 use script::{say, text};
 use std::env::Env;
 
@@ -53,8 +53,8 @@ pub(crate) fn sectors(rt: &impl Env, fields: &[u8]) -> bool {
         return false;
     }
     match layout::sectors(length) {
-        Counted::Refused => say::text(rt, b"refused\n"),
-        Counted::Sectors(n) => say_sectors(rt, n),
+        None => say::text(rt, b"refused\n"),
+        Some(n) => say_sectors(rt, n),
     }
     true
 }
