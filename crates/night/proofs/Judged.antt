@@ -1,5 +1,6 @@
 -- For the crates above: what settles a request, how an event moves the record, and what a call does to a record that may be any.
 -- Assumes nothing.
+use Rattle.std.proofs.Common.{Some}
 use mathlib.Core.Path.{◌≡◌, refl, sym, ap, subst, ◌∙◌}
 use mathlib.Core.Bool.{Bool, true, false, ◌&&◌, ◌||◌, cond, false≢true}
 use mathlib.Core.List.{List}
@@ -10,7 +11,6 @@ use lib.Dec.{eqb, leb, ltb}
 use lib.ListN.{length}
 use borrow.Author.Tests.{eqb-true, eq-eqb, ltb-true, ltb-false, le-ltb}
 use Rattle.buffer.proofs.Bools.{split, and_left, and_right, and_false, no_way}
-use Rattle.commands.specs.declared.Coded.TheVariants.{Is}
 use Rattle.commands.specs.declared.Command.{Command}
 use Rattle.commands.specs.declared.Command.TheVariants as command
 use Rattle.commands.specs.Command.{response_code, answered_by}
@@ -70,7 +70,7 @@ Settling name repeated bank image sector response = judge_of name repeated bank 
 -- no two commands are answered by one code
 same_command : (a b : Command) → response_code a ≡ response_code b → a ≡ b
 same_command a b e =
-    let p : Is a ≡ Is b = sym (response_known a) ∙ ap answered_by e ∙ response_known b in cc
+    let p : Some a ≡ Some b = sym (response_known a) ∙ ap answered_by e ∙ response_known b in cc
 
 same_bank : (a b : Bank) → bank_number a ≡ bank_number b → a ≡ b
 same_bank Zero Zero e = refl

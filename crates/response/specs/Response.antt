@@ -1,10 +1,8 @@
 -- A response read (01, 'What comes back when it is no', "Number 6"; 'Frames', "Write response"; the table of codes; 02 §3).
 -- Assumes nothing.
-use Rattle.std.specs.Prelude.{Bool, true, false, not, ◌&&◌, ◌||◌, cond, List, ℕ, ◌+◌, eqb, length}
+use Rattle.std.specs.Prelude.{Bool, true, false, not, ◌&&◌, ◌||◌, cond, List, ℕ, ◌+◌, eqb, length, Option, Some, None}
 use Rattle.buffer.specs.Number.{byte_at, number_at}
 use Rattle.commands.specs.Command.{error_code, added_bytes, answered_by}
-use Rattle.commands.specs.declared.Coded.{Coded}
-use Rattle.commands.specs.declared.Coded.TheVariants.{Unknown, Is}
 use Rattle.commands.specs.declared.Command.{Command}
 use Rattle.commands.specs.declared.Command.TheVariants.{ModeStart, BankInfo, VersionInfo, WriteStart, WriteEnd, ModeEnd}
 use Rattle.frame.specs.Read.{read_of, parameters_in, data_in}
@@ -59,9 +57,9 @@ error_of parameters =
     cond (may_carry true (byte_at parameters 0)) (cond (eqb (length parameters) 1) (Error (byte_at parameters 0)) Unreadable) Unreadable
 
 -- a code that is a response
-abbrev pub answer_of : Coded → List ℕ → Response
-answer_of Unknown parameters = Unreadable
-answer_of (Is command) parameters = own_of command parameters
+abbrev pub answer_of : Option Command → List ℕ → Response
+answer_of None parameters = Unreadable
+answer_of (Some command) parameters = own_of command parameters
 
 unfoldable pub control_of : ℕ → List ℕ → Response
 control_of code parameters = cond (eqb code error_code) (error_of parameters) (answer_of (answered_by code) parameters)

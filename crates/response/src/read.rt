@@ -4,7 +4,7 @@ ghost use Rattle.response.specs.Response.{in_table9, may_carry, added_of, target
 ghost use Rattle.response.specs.Response.{repeats_of, stored_of, crc_fits, write_of};
 ghost use Rattle.response.specs.Said.{IsResponseNumber, IsResponse};
 
-use commands::{Coded, Command};
+use commands::Command;
 use frame::read::{Footer, Read};
 use layout::Bank;
 
@@ -180,8 +180,8 @@ fn control(code: u8, parameters: &[u8]) -> Response
         return error(parameters);
     }
     match commands::answered(code) {
-        Coded::Unknown => Response::Unreadable,
-        Coded::Is(command) => own(command, parameters),
+        None => Response::Unreadable,
+        Some(command) => own(command, parameters),
     }
 }
 
