@@ -48,7 +48,6 @@ determined =
       );
       value = λ byte. once _;
       digit = λ value. once _;
-      ahead = λ text at. once _;
       reader_at = λ text at r s p q. λ k. record { text = (p.text_is ∙ sym q.text_is) k; at = (p.at_is ∙ sym q.at_is) k };
       next_line = λ reader. once _;
       kind_number = λ kind. once _;

@@ -48,7 +48,7 @@ use Rattle.bank.specs.Listed.{IsBodyCount, IsStretchAt}
 use Rattle.bank.specs.Said.{IsContents, IsCheck}
 use Rattle.bank.specs.Sound.{IsBody}
 use Rattle.clean.specs.Clean.{IsCleanedNumber, IsClean}
-use Rattle.lines.specs.Places.{IsAhead, IsReader, IsNext}
+use Rattle.lines.specs.Places.{IsReader, IsNext}
 use Rattle.hex_text.specs.Read.{IsKindNumber, IsAnswerNumber}
 use Rattle.hex_text.specs.Read.{IsRead as IsReadText}
 use Rattle.rows.specs.Text.{IsWrittenNumber, IsLength, IsWrite}
@@ -119,7 +119,6 @@ pub record Determined : Type 0 where
   -- hex text
   pub value : (byte : ℕ) → Once (IsValue byte)
   pub digit : (value : ℕ) → Once (IsDigit value)
-  pub ahead : (text : List ℕ) (at : ℕ) → Once (IsAhead text at)
   pub reader_at : (text : Bor (List ℕ)) (at : ℕ) → Once (IsReader text at)
   pub next_line : (reader : LineReader) → Once (IsNext reader)
   pub kind_number : (kind : Kind) → Once (IsKindNumber kind)

@@ -7,7 +7,7 @@ ghost use Rattle.hex_text.specs.Places.{LookFits, Took, Came};
 use crate::fault::{Kind, Refusal};
 use crate::record::{Found, State};
 use layout::Bank;
-use lines::line::Ahead;
+use lines::line::LineReader;
 
 // What comes back of a text.
 #[derive(Clone, Copy)]
@@ -104,26 +104,15 @@ fn read_lines(text: &[u8], base: usize, image: &mut [u8]) -> Outcome
         last: 0,
         over: false,
     };
-    let mut at = 0;
     let mut line: usize = 1;
-    loop {
-        let found = lines::line::ahead_of(text, at);
-        match found {
-            Ahead::Nothing => return finish(state, line),
-            Ahead::One(l) => {
-                let end = l.end;
-                let step = take_line(&text[at..end], base, state, image);
-                match step {
-                    Step::Stop(kind, byte) => {
-                        return Outcome::Stopped(Refusal { kind, line, byte })
-                    }
-                    Step::On(s) => state = s,
-                }
-                at = l.next;
-                line += 1;
-            }
+    for bytes in LineReader::new(text, 0) {
+        match take_line(bytes, base, state, image) {
+            Step::Stop(kind, byte) => return Outcome::Stopped(Refusal { kind, line, byte }),
+            Step::On(s) => state = s,
         }
+        line += 1;
     }
+    finish(state, line)
 }
 
 fn wide4(number: u32) -> usize

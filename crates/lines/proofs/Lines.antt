@@ -11,10 +11,12 @@ use lib.ListN.{length, get_or, take, drop, drop_of_length-le, length-drop}
 use lib.Seq.{drop-cons, drop-drop}
 use borrow.Author.Tests.{eq-eqb, ne_eqb, eqb-false, ltb-true, ltb-false, leb-true}
 use Rattle.buffer.proofs.Bools.{and_left, and_right, and_false, no_way}
+use Rattle.std.specs.Borrow.{Bor}
 use Rattle.lines.specs.declared.line.Line.{Line}
-use Rattle.lines.specs.declared.line.Ahead.TheVariants.{One, Nothing}
+use Rattle.lines.specs.declared.line.LineReader.{LineReader}
+use Rattle.std.specs.Prelude.{Some, None}
 use Rattle.lines.specs.Line.{front, lf_next, lines}
-use Rattle.lines.specs.Places.{end_len, line_len, line_all, quiet_at, LineAt, ahead_at}
+use Rattle.lines.specs.Places.{end_len, line_len, line_all, quiet_at, LineAt, ahead_at, IsReader, lines_left}
 
 pub lf_here : (t : List ℕ) (i : ℕ) → i < length t → lf_next (drop i t) ≡ eqb (get_or t i 0) 0x0A
 lf_here t i h = rw (drop-cons t i 0 h)
@@ -158,7 +160,7 @@ all_some c t = by (eqb (end_len (c ∷ t)) 0) refl
     by true e = omega arith
     by false e = let n = eqb-false (end_len (c ∷ t)) 0 e in omega arith
 
-pub ahead_line : (t : List ℕ) (at : ℕ) (l : Line) → ahead_at t at ≡ One l → (at < length t) × LineAt t at l.end l.next
+pub ahead_line : (t : List ℕ) (at : ℕ) (l : Line) → ahead_at t at ≡ Some l → (at < length t) × LineAt t at l.end l.next
 unfolding ahead_at
 ahead_line t at l e = by (ltb at (length t)) refl
   where
@@ -175,10 +177,31 @@ ahead_line t at l e = by (ltb at (length t)) refl
         let w = length-drop at t in
         (h, record { end_is = x; next_is = y; after = omega arith; before = omega arith; on = omega arith; within = omega arith })
 
-pub ahead_none : (t : List ℕ) (at : ℕ) → ahead_at t at ≡ Nothing → length t ≤ at
+pub ahead_none : (t : List ℕ) (at : ℕ) → ahead_at t at ≡ None → length t ≤ at
 unfolding ahead_at
 ahead_none t at e = by (ltb at (length t)) refl
   where
     by : (b : Bool) → ltb at (length t) ≡ b → length t ≤ at
     by true f = let g = rw f at e in no_way (cc)
     by false f = ltb-false _ _ f
+
+-- ---- the lines that a line reader gives
+
+-- from its start on, those of the text
+pub left_first : {text : Bor (List ℕ)} {r : LineReader} → IsReader text 0 r → lines_left r ≡ lines text.now
+left_first r = rw (r.at_is, r.text_is)
+
+front_few : (c : ℕ) (ls : List (List ℕ)) → length (front c ls) ≤ suc (length ls)
+front_few c [] = omega arith
+front_few c (l ∷ ls) = omega arith
+
+-- no more than bytes
+pub lines_few : (t : List ℕ) → length (lines t) ≤ length t
+unfolding lines
+lines_few [] = omega arith
+lines_few (c ∷ t) = by (eqb c 0x0A) (eqb c 0x0D && lf_next t) (lines_few t)
+  where
+    by : (a b : Bool) → length (lines t) ≤ length t → length (cond a ([] ∷ lines t) (cond b (lines t) (front c (lines t)))) ≤ suc (length t)
+    by true b h = omega arith
+    by false true h = omega arith
+    by false false h = omega (arith, front_few c (lines t))
