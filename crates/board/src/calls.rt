@@ -3,17 +3,16 @@ use crate::state::Board;
 use crate::word::Call;
 use crate::wrong::Wrong;
 use crate::{send, state};
-use client::host::{Hosted, Told};
+use client::host::{Hosted, NotDone};
 use client::record::Client;
 use layout::Bank;
 use script::{say, text};
 use std::env::Env;
 
-fn say_told(rt: &impl Env, told: Told) {
-    if let Told::Done = told {
-        say::text(rt, b"done\n");
-    } else {
-        send::say_refused(rt, client::host::told_number(told) as usize);
+fn say_told(rt: &impl Env, told: Result<(), NotDone>) {
+    match told {
+        Ok(()) => say::text(rt, b"done\n"),
+        Err(why) => send::say_refused(rt, u8::from(why) as usize),
     }
 }
 

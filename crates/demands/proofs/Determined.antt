@@ -83,6 +83,7 @@ determined =
       refusal_number = λ why. once _;
       say = λ answer before x y u v p q. (p.said ∙ sym q.said, p.told ∙ sym q.told);
       plan = λ standing target marks address buffer asked. once _;
+      reason_number = λ why. once _;
       told_number = λ told. once _;
       notice_code = λ kind. once _;
       new = λ n running major minor revision x y p q. p.is ∙ sym q.is;

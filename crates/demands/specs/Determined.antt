@@ -26,7 +26,7 @@ use Rattle.exchange.specs.declared.request.Request.{Request as Received}
 use Rattle.exchange.specs.declared.state.State.{State}
 use Rattle.decision.specs.declared.plan.Standing.{Standing}
 use Rattle.client.specs.declared.record.Client.{Client}
-use Rattle.client.specs.declared.host.Told.{Told}
+use Rattle.client.specs.declared.host.NotDone.{NotDone}
 use Rattle.client.specs.declared.notice.Kind.{Kind as NoticeKind}
 use Rattle.script.specs.declared.line.Turn.{Turn}
 use Rattle.buffer.specs.Compare.{IsSame, IsBlank}
@@ -67,7 +67,7 @@ use Rattle.exchange.specs.State.{IsClosed, IsOpen}
 use Rattle.exchange.specs.Request.{IsAsked, IsFitsState, IsDeclined}
 use Rattle.decision.specs.Plan.{IsPlan}
 use Rattle.client.specs.Body.{IsBody as IsNextBody}
-use Rattle.client.specs.Host.{IsTold, IsNew, IsInitiate, IsTerminate}
+use Rattle.client.specs.Host.{Told, IsReasonNumber, IsTold, IsNew, IsInitiate, IsTerminate}
 use Rattle.client.specs.Notice.{IsNoticeCode}
 use Rattle.client.specs.Step.{IsTake, IsStep}
 use Rattle.script.specs.Text.{IsFirst, IsRest, IsEndsInBlank}
@@ -159,6 +159,7 @@ pub record Determined : Type 0 where
   pub say : (answer : Answer) (before : List ℕ) → Twice (IsSay answer before)
   -- the client
   pub plan : (standing : Standing) (target : ℕ) (marks address : List ℕ) (buffer : ℕ) (asked : Asked) → Once (IsPlan standing target marks address buffer asked)
+  pub reason_number : (why : NotDone) → Once (IsReasonNumber why)
   pub told_number : (told : Told) → Once (IsTold told)
   pub notice_code : (kind : NoticeKind) → Once (IsNoticeCode kind)
   pub new : (n : ℕ) (running : Bank) (major minor revision : ℕ) → Once (IsNew n running major minor revision)
