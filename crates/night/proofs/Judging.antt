@@ -6,18 +6,16 @@ use mathlib.Core.List.{List}
 use Prim.Native.Nat.{ℕ}
 use lib.Dec.{eqb}
 use borrow.Author.Tests.{eq-eqb, ne_eqb}
-use Rattle.commands.specs.Command.{response_code}
 use Rattle.commands.specs.declared.Command.{Command}
 use Rattle.crc.specs.Crc.{crc_of}
-use Rattle.layout.specs.Layout.{bank_number, sector_of}
+use Rattle.layout.specs.Layout.{sector_of}
 use Rattle.layout.specs.declared.Bank.{Bank}
 use Rattle.response.specs.declared.read.Response.{Response}
-use Rattle.response.specs.declared.read.Response.TheVariants.{Plain, Target, Written}
+use Rattle.response.specs.declared.read.Response.TheVariants.{Written}
 use Rattle.night.specs.declared.judge.Verdict.{Verdict}
-use Rattle.night.specs.declared.judge.Verdict.TheVariants.{Settled, Spent, Stops}
+use Rattle.night.specs.declared.judge.Verdict.TheVariants.{Settled, Spent}
 use Rattle.night.specs.declared.name.Name.{Name}
-use Rattle.night.specs.declared.record.Why.TheVariants.{WrongBank}
-use Rattle.night.specs.Judge.{own_result, own_verdict, bank_verdict, fields_awaited, packet_verdict, judge_of}
+use Rattle.night.specs.Judge.{own_result, own_verdict, fields_awaited, packet_verdict, judge_of}
 
 -- ---- by the request at hand
 
@@ -26,13 +24,6 @@ pub judged_as : (name k : Name) (repeated : Bool) (bank : Bank) (image : List �
 judged_as name k repeated bank image sector response r e q = q ∙ ap (λ (x : Name). judge_of x repeated bank image sector response) (sym e)
 
 -- ---- a command's own response
-
-module _ (command other : Command) (result a b : ℕ) (response : Response) (e : response ≡ Plain other result) (p : a ≡ response_code other) (q : b ≡ response_code command) where
-  pub own_code : a ≡ b → result ≡ own_result command response
-  own_code t = rw (e, eq-eqb _ _ (sym p ∙ t ∙ q))
-
-  pub other_code : (a ≡ b → ⊥) → 0 ≡ own_result command response
-  other_code t = rw (e, ne_eqb _ _ (λ s. t (p ∙ s ∙ sym q)))
 
 module _ (command : Command) (repeated : Bool) (declined : Verdict) (response : Response) (r : ℕ) (e : r ≡ own_result command response) where
   pub own_settled : r ≡ 0x06 → Settled ≡ own_verdict command repeated declined response
@@ -52,15 +43,6 @@ module _ (command : Command) (repeated : Bool) (declined : Verdict) (response : 
   pub own_spent : (r ≡ 0x06 → ⊥) → (repeated && eqb r 0x15) ≡ false → Spent ≡ own_verdict command repeated declined response
   unfolding own_verdict
   own_spent n t = rw (unsettled n, tested t)
-
--- ---- the bank
-
-module _ (ours target : Bank) (response : Response) (a b : ℕ) (e : response ≡ Target target) (p : a ≡ bank_number target) (q : b ≡ bank_number ours) where
-  pub bank_ours : a ≡ b → Settled ≡ bank_verdict ours response
-  bank_ours t = rw (e, eq-eqb _ _ (sym p ∙ t ∙ q))
-
-  pub bank_another : (a ≡ b → ⊥) → Stops WrongBank ≡ bank_verdict ours response
-  bank_another t = rw (e, ne_eqb _ _ (λ s. t (p ∙ s ∙ sym q)))
 
 -- ---- a packet
 

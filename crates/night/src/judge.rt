@@ -28,7 +28,7 @@ fn own_result(command: Command, response: Response) -> u8
             command: other,
             result,
         } => {
-            if commands::response_code(other) == commands::response_code(command) {
+            if other == command {
                 result
             } else {
                 0
@@ -103,7 +103,7 @@ fn bank(ours: Bank, response: Response) -> Verdict
         } => Verdict::Spent,
         Response::Error { result: _ } => Verdict::Spent,
         Response::Target { bank: target } => {
-            if layout::bank_number(target) == layout::bank_number(ours) {
+            if target == ours {
                 Verdict::Settled
             } else {
                 Verdict::Stops(Why::WrongBank)
