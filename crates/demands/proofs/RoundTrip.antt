@@ -22,7 +22,9 @@ use Rattle.lines.specs.Line.{lines}
 use Rattle.hex_text.specs.declared.record.State.{State}
 use Rattle.hex_text.specs.declared.record.Found.TheVariants.{Data, Upper}
 use Rattle.hex_text.specs.declared.read.Outcome.TheVariants.{Through}
-use Rattle.hex_text.specs.Read.{state_after, read_lines, at_start}
+use Rattle.hex_text.specs.Spell.{line_bytes}
+use Rattle.hex_text.specs.Record.{record_data}
+use Rattle.hex_text.specs.Read.{state_after, image_after, read_lines, at_start}
 use Rattle.rows.specs.Text.{row_size, row_of, row_address, row_upper, data_line, upper_line, end_line, told_before, upper_text, row_text, rows_text, text_of}
 use Rattle.rows.proofs.Rows.{upper_same, upper_other, text_blank, text_told, told_next, row_length, told_stays}
 use Rattle.demands.specs.Written.{AreBytes}
@@ -111,7 +113,13 @@ module _ (image : List ℕ) (bank : Bank) (n : ℕ) (long : length image ≡ sec
         let l : length row ≡ row_size = row_length image base k inside in
         let found = found_data base size s goes address row (row_bytes k) (omega arith) (omega arith) u (omega arith) (omega arith) after in
         let e : address - base ≡ k * row_size = omega arith in
-        rw (line_first address 0 row text, found, data_is address 0 row (omega arith) (omega arith) (row_bytes k), e, l)
+        let stored : record_data (length row) (line_bytes (line_in address 0 row)) ≡ row = data_is address 0 row (omega arith) (omega arith) (row_bytes k) in
+        let put : image_after base (line_in address 0 row) (Data address (length row)) held ≡ sets held (k * row_size) row = rw (stored, e) in
+        let go :
+        read_lines base size s m held (line_in address 0 row ∷ lines text)
+        ≡ read_lines base size (state_after (Data address (length row)) s) (m + 1)
+        (image_after base (line_in address 0 row) (Data address (length row)) held) (lines text) = rw found in
+        rw (line_first address 0 row text) (go ∙ rw (put, l))
 
   -- and an upper half told before, or not if it was told last
   record Told (upper : ℕ) (s : State) (m : ℕ) (held text more : List ℕ) : Type 0 where

@@ -10,16 +10,15 @@ use Rattle.layout.specs.declared.Bank.{Bank}
 use Rattle.layout.specs.Layout.{good_n, start_of, sector_size}
 use Rattle.layout.specs.Said.{number, fault, accepted}
 use Rattle.lines.specs.Line.{lines}
-use Rattle.hex_text.specs.declared.fault.Kind.{Kind}
 use Rattle.hex_text.specs.declared.record.State.{State}
 use Rattle.hex_text.specs.declared.record.Found.{Found}
-use Rattle.hex_text.specs.declared.record.Found.TheVariants.{Fault, Data, Upper, End, Other}
+use Rattle.hex_text.specs.declared.record.Found.TheVariants.{Data, Upper, End, Other}
 use Rattle.hex_text.specs.declared.read.Answer.TheVariants.{BadN, BadLength}
 use Rattle.hex_text.specs.declared.read.Outcome.{Outcome}
 use Rattle.hex_text.specs.declared.read.Outcome.TheVariants.{Stopped, Through}
 use Rattle.hex_text.specs.Spell.{line_bytes}
-use Rattle.hex_text.specs.Record.{record_data, found_of}
-use Rattle.hex_text.specs.Read.{state_after, image_after, LinesRead, goes, read_lines, after_last, at_start, reading_of, lines_read, text_read}
+use Rattle.hex_text.specs.Record.{record_data}
+use Rattle.hex_text.specs.Read.{state_after, image_after, LinesRead, read_lines, after_last, at_start, reading_of, lines_read, text_read}
 use Rattle.hex_text.specs.Read.{answer_said, lines_say, read_says}
 use Rattle.hex_text.specs.Meaning.{line_type, line_at, NotEnded, Keeps, Breaks, KeepsAll, FirstBroken, at_line, no_end, Leaves}
 use Rattle.hex_text.proofs.Images.{leaves_same, leaves-data}
@@ -53,18 +52,10 @@ module _ (base size : ℕ) (ls : List (List ℕ)) where
       }
 
   image_length : (line image : List ℕ) (d : Found) → length (image_after base line d image) ≡ length image
-  image_length line image (Fault k byte) = refl
   image_length line image (Data start n) = length-sets image (start - base) (record_data n (line_bytes line))
   image_length line image (Upper u) = refl
   image_length line image End = refl
   image_length line image Other = refl
-
-  -- a line that keeps the rules is gone on behind
-  goes_on : {i : ℕ} {d : Found} → KeptAs ls i d → (x : Kind → ℕ → LinesRead) (y : LinesRead) → goes d x y ≡ y
-  goes_on (data_line h) x y = refl
-  goes_on (upper_line t) x y = refl
-  goes_on (end_line t) x y = refl
-  goes_on (other_line h u t) x y = refl
 
   leaves_next :
       {i : ℕ} {d : Found} (image : List ℕ) → Leaves base size ls i image → length image ≡ size → ((m : ℕ) → m < i → Keeps base size ls m)
@@ -81,16 +72,16 @@ module _ (base size : ℕ) (ls : List (List ℕ)) where
     next : ((m : ℕ) → m < i → Keeps base size ls m) → Keeps base size ls i → Reached (suc i)
     unfolding read_lines
     next each k =
-        let d : Found = found_of base size r.state (line_at ls i) in
         let says = keeps_as base size ls i r.state r.fits k in
+        let d : Found = says.found in
         let e : suc i + 1 ≡ i + 1 + 1 = omega arith in
         record {
           state = state_after d r.state;
           image = image_after base (line_at ls i) d r.image;
-          fits = state_next r.fits k says;
-          reads = here ∙ goes_on says _ _ ∙ rw e;
+          fits = state_next r.fits k says.kept;
+          reads = here ∙ rw (says.is, e);
           sized = image_length (line_at ls i) r.image d ∙ r.sized;
-          leaves = leaves_next r.image r.leaves r.sized each k says;
+          leaves = leaves_next r.image r.leaves r.sized each k says.kept;
         }
 
     -- one that breaks a rule stops it

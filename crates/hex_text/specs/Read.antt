@@ -1,16 +1,17 @@
 -- A text read into the image of a bank (01, 'Hex text'), and what comes back.
 -- Assumes nothing.
-use Rattle.std.specs.Prelude.{◌≡◌, ℕ, ◌+◌, ◌-◌, ◌*◌, true, false, cond, List, [], ◌∷◌, length, replicate, ◌==◌}
+use Rattle.std.specs.Prelude.{◌≡◌, ℕ, ◌+◌, ◌-◌, ◌*◌, true, false, cond, List, [], ◌∷◌, length, replicate, ◌==◌, Result, Ok, Err}
 use Rattle.std.proofs.lemmas.List.Edits.{sets}
 use Rattle.layout.specs.declared.Bank.{Bank}
 use Rattle.layout.specs.Layout.{sector_size, good_n, start_of}
 use Rattle.layout.specs.Said.{Said, number, fault, accepted, code}
 use Rattle.lines.specs.Line.{lines}
 use Rattle.hex_text.specs.declared.fault.Kind.{Kind}
+use Rattle.hex_text.specs.declared.fault.Fault.{Fault}
 use Rattle.hex_text.specs.declared.fault.Kind.TheVariants.{H1, H2, H3, H4, H5, H6}
 use Rattle.hex_text.specs.declared.record.State.{State}
 use Rattle.hex_text.specs.declared.record.Found.{Found}
-use Rattle.hex_text.specs.declared.record.Found.TheVariants.{Fault, Data, Upper, End, Other}
+use Rattle.hex_text.specs.declared.record.Found.TheVariants.{Data, Upper, End, Other}
 use Rattle.hex_text.specs.declared.read.Answer.{Answer}
 use Rattle.hex_text.specs.declared.read.Answer.TheVariants.{BadN, BadLength, Refused, Accepted}
 use Rattle.hex_text.specs.declared.read.Outcome.{Outcome}
@@ -20,7 +21,6 @@ use Rattle.hex_text.specs.Record.{record_data, found_of}
 
 -- WHAT A LINE CHANGES: the upper half, the end of the data, whether the end record was seen
 abbrev pub state_after : Found → State → State
-state_after (Fault k byte) s = s
 state_after (Data start n) s = record { upper = s.upper; last = start + n; over = s.over }
 state_after (Upper u) s = record { upper = u; last = s.last; over = s.over }
 state_after End s = record { upper = s.upper; last = s.last; over = true }
@@ -28,7 +28,6 @@ state_after Other s = s
 
 -- and the image: the data go to their addresses
 abbrev pub image_after : ℕ → List ℕ → Found → List ℕ → List ℕ
-image_after base line (Fault k byte) image = image
 image_after base line (Data start n) image = sets image (start - base) (record_data n (line_bytes line))
 image_after base line (Upper u) image = image
 image_after base line End image = image
@@ -39,26 +38,23 @@ pub record LinesRead : Type 0 where
   pub outcome : Outcome
   pub image : List ℕ
 
-abbrev pub stopped_at : Kind → ℕ → ℕ → List ℕ → LinesRead
-stopped_at k line byte image = record { outcome = Stopped (record { kind = k; line = line; byte = byte }); image = image }
+abbrev pub stopped_at : Fault → ℕ → List ℕ → LinesRead
+stopped_at f line image = record { outcome = Stopped (record { kind = f.0; line = line; byte = f.1 }); image = image }
 
 -- behind the last line: no end record, told with the number "one past the last" and byte 1
 abbrev pub after_last : State → ℕ → Outcome
 after_last s line = cond s.over Through (Stopped (record { kind = H6; line = line; byte = 1 }))
 
-abbrev pub goes : Found → (Kind → ℕ → LinesRead) → LinesRead → LinesRead
-goes (Fault k byte) stop d = stop k byte
-goes (Data start n) stop d = d
-goes (Upper u) stop d = d
-goes End stop d = d
-goes Other stop d = d
+abbrev pub goes : Result Found Fault → (Fault → LinesRead) → (Found → LinesRead) → LinesRead
+goes (Err f) stop on = stop f
+goes (Ok d) stop on = on d
 
 -- from line number k on, up to the first fault
 unfoldable pub read_lines : ℕ → ℕ → State → ℕ → List ℕ → List (List ℕ) → LinesRead
 read_lines base size s k image [] = record { outcome = after_last s k; image = image }
 read_lines base size s k image (l ∷ ls) =
-    goes (found_of base size s l) (λ f byte. stopped_at f k byte image)
-    (read_lines base size (state_after (found_of base size s l) s) (k + 1) (image_after base l (found_of base size s l) image) ls)
+    goes (found_of base size s l) (λ f. stopped_at f k image)
+    (λ d. read_lines base size (state_after d s) (k + 1) (image_after base l d image) ls)
 
 -- the upper half is 0 at first
 abbrev pub at_start : State

@@ -2,7 +2,7 @@
 ghost use Rattle.hex_text.specs.Read.{IsKindNumber};
 
 // The fault of a line, by the paper's letters.
-#[derive(Clone, Copy)]
+#[derive(Clone, Copy, PartialEq, Eq)]
 pub enum Kind {
     H1,
     H2,
@@ -25,8 +25,12 @@ pub fn kind_number(kind: Kind) -> u8
     }
 }
 
+// The fault of a line, and the byte in the line at which it stands, counted from 1.
+#[derive(Clone, Copy, PartialEq, Eq)]
+pub struct Fault(pub Kind, pub usize);
+
 // The first faulty line, its fault, and the byte in the line at which it stands; line and byte are counted from 1.
-#[derive(Clone, Copy)]
+#[derive(Clone, Copy, PartialEq, Eq)]
 pub struct Refusal {
     pub kind: Kind,
     pub line: usize,

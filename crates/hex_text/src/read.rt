@@ -4,7 +4,7 @@ ghost use Rattle.lines.specs.Line.{lines};
 ghost use Rattle.hex_text.specs.Read.{read_lines, at_start, after_last, IsAnswerNumber, IsRead};
 ghost use Rattle.hex_text.specs.Places.{LookFits, Took, Came};
 
-use crate::fault::{Kind, Refusal};
+use crate::fault::{Fault, Kind, Refusal};
 use crate::record::{Found, State};
 use layout::Bank;
 use lines::line::LineReader;
@@ -42,41 +42,27 @@ pub enum Outcome {
     Through,
 }
 
-// What came of a line.
-#[derive(Clone, Copy)]
-pub(crate) enum Step {
-    Stop(Kind, usize),
-    On(State),
-}
-
 // One line: looked at, and what it says done.
-fn take_line(line: &[u8], base: usize, state: State, image: &mut [u8]) -> Step
+fn take_line(line: &[u8], base: usize, state: State, image: &mut [u8]) -> Result<State, Fault>
     requires { LookFits base (length image.old) state }
     ensures { Took base state line.now image.old image.new result }
 {
     let mut bytes = [0u8; crate::record::LONGEST];
-    let seen = crate::record::look(line, base, image.len(), state, &mut bytes);
-    match seen {
-        Found::Fault(kind, byte) => Step::Stop(kind, byte),
+    let found = crate::record::look(line, base, image.len(), state, &mut bytes)?;
+    match found {
         Found::Data { start, n } => {
             buffer::place::put_at(image, start - base, &bytes[4..4 + n]);
-            Step::On(State {
-                upper: state.upper,
+            Ok(State {
                 last: start + n,
-                over: state.over,
+                ..state
             })
         }
-        Found::Upper(upper) => Step::On(State {
-            upper,
-            last: state.last,
-            over: state.over,
-        }),
-        Found::End => Step::On(State {
-            upper: state.upper,
-            last: state.last,
+        Found::Upper(upper) => Ok(State { upper, ..state }),
+        Found::End => Ok(State {
             over: true,
+            ..state
         }),
-        Found::Other => Step::On(state),
+        Found::Other => Ok(state),
     }
 }
 
@@ -107,8 +93,8 @@ fn read_lines(text: &[u8], base: usize, image: &mut [u8]) -> Outcome
     let mut line: usize = 1;
     for bytes in LineReader::new(text, 0) {
         match take_line(bytes, base, state, image) {
-            Step::Stop(kind, byte) => return Outcome::Stopped(Refusal { kind, line, byte }),
-            Step::On(s) => state = s,
+            Err(Fault(kind, byte)) => return Outcome::Stopped(Refusal { kind, line, byte }),
+            Ok(s) => state = s,
         }
         line += 1;
     }

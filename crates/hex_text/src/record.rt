@@ -3,7 +3,7 @@ ghost use Rattle.std.specs.Prelude.{◌≡◌, ◌+◌, ◌*◌, ◌<◌, ◌≤
 ghost use Rattle.hex_text.specs.Record.{record_count, data_at, typed};
 ghost use Rattle.hex_text.specs.Places.{bytes_at, SpelledAt, Summed, LookFits, Looked};
 
-use crate::fault::Kind;
+use crate::fault::{Fault, Kind};
 use crate::pair::{pair_at, value_at, wide};
 use buffer::number::number2;
 
@@ -24,11 +24,9 @@ pub struct State {
     pub over: bool,
 }
 
-// What a line says.
-#[derive(Clone, Copy)]
+// What a line says that has no fault.
+#[derive(Clone, Copy, PartialEq, Eq)]
 pub enum Found {
-    // and the byte, counted from 1, at which it stands
-    Fault(Kind, usize),
     Data { start: usize, n: usize },
     Upper(usize),
     End,
@@ -92,27 +90,33 @@ fn record_sum(line: &[u8], bytes: &mut [u8]) -> usize
 }
 
 // `count` data bytes from `start` on: inside the bank, and not below the end of earlier data.
-fn data_at(base: usize, size: usize, last: usize, start: usize, count: usize) -> Found
+fn data_at(
+    base: usize,
+    size: usize,
+    last: usize,
+    start: usize,
+    count: usize,
+) -> Result<Found, Fault>
     requires { (base + size < 8589934592) × (start + count < 8589934592) }
     ensures { result ≡ data_at base size last start count }
 {
     if count == 0 {
-        return Found::Other;
+        return Ok(Found::Other);
     }
     if start < base {
-        return Found::Fault(Kind::H4, COLON);
+        return Err(Fault(Kind::H4, COLON));
     }
     if base + size < start + count {
-        return Found::Fault(Kind::H4, COLON);
+        return Err(Fault(Kind::H4, COLON));
     }
     if start < last {
-        return Found::Fault(Kind::H5, COLON);
+        return Err(Fault(Kind::H5, COLON));
     }
-    Found::Data { start, n: count }
+    Ok(Found::Data { start, n: count })
 }
 
 // What a record of these bytes says.
-fn typed_at(bytes: &[u8], base: usize, size: usize, state: State) -> Found
+fn typed_at(bytes: &[u8], base: usize, size: usize, state: State) -> Result<Found, Fault>
     requires { (record_count bytes.now + 5 ≤ length bytes.now) × ((state.upper < 65536) × ((base < 4294967296) × (size < 4294967296))) }
     ensures { result ≡ typed base size state.upper state.last bytes.now }
 {
@@ -129,43 +133,49 @@ fn typed_at(bytes: &[u8], base: usize, size: usize, state: State) -> Found
         );
     }
     if address != 0 {
-        return Found::Fault(Kind::H3, COLON);
+        return Err(Fault(Kind::H3, COLON));
     }
     if kind == 1 {
         if n == 0 {
-            return Found::End;
+            return Ok(Found::End);
         }
-        return Found::Fault(Kind::H3, COLON);
+        return Err(Fault(Kind::H3, COLON));
     }
     if kind == 4 {
         if n == 2 {
-            return Found::Upper(number2(bytes, 4) as usize);
+            return Ok(Found::Upper(number2(bytes, 4) as usize));
         }
-        return Found::Fault(Kind::H3, COLON);
+        return Err(Fault(Kind::H3, COLON));
     }
     if kind == 5 {
         if n == 4 {
-            return Found::Other;
+            return Ok(Found::Other);
         }
     }
-    Found::Fault(Kind::H3, COLON)
+    Err(Fault(Kind::H3, COLON))
 }
 
 // What a line says; its record's bytes go to the front of `bytes`. Where a line that is no record goes wrong is looked for only then, so that good
 // text is not read twice. A checksum is a record's last two digits.
-pub(crate) fn look(line: &[u8], base: usize, size: usize, state: State, bytes: &mut [u8]) -> Found
+pub(crate) fn look(
+    line: &[u8],
+    base: usize,
+    size: usize,
+    state: State,
+    bytes: &mut [u8],
+) -> Result<Found, Fault>
     requires { LookFits base size state × (260 ≤ length bytes.old) }
     ensures { Looked line.now base size state bytes.new result }
 {
     if state.over {
-        return Found::Fault(Kind::H6, 1);
+        return Err(Fault(Kind::H6, 1));
     }
     let sum = record_sum(line, bytes);
     if sum == NO_SUM {
-        return Found::Fault(Kind::H1, crate::place::place_of(line));
+        return Err(Fault(Kind::H1, crate::place::place_of(line)));
     }
     if sum != 0 {
-        return Found::Fault(Kind::H2, line.len() - 1);
+        return Err(Fault(Kind::H2, line.len() - 1));
     }
     let k = line.len() / 2;
     typed_at(&bytes[..k], base, size, state)

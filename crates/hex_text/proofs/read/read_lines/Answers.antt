@@ -12,14 +12,14 @@ loop-bytes-init c =
     let few = lines_few c.args.text.now in
     rw all (omega arith, refl, omega arith, refl)
 
-pub returns-in-Stop : goal.returns-in-Stop
-returns-in-Stop c =
+pub returns-in-Err : goal.returns-in-Err
+returns-in-Err c =
     let a = c.args in
     let l = c.loop-bytes in
     let v = l.invariant in
     let k = c.take_line.ensures in
-    let e = rw v.1 at (sym k.is ∙ c.in-Stop.is) in
-    read-stop a.base (length a.image.now) l.state l.line l.image c.in-Some.ensures.steps _ _ e v.3 (rw v.1 at k.image)
+    let e = rw v.1 at (sym k.is ∙ c.in-Err.is) in
+    read-stop a.base (length a.image.now) l.state l.line l.image c.in-Some.ensures.steps _ e v.3 (rw v.1 at k.image)
 
 pub loop-bytes-preserved : goal.loop-bytes-preserved
 loop-bytes-preserved c =
@@ -29,7 +29,7 @@ loop-bytes-preserved c =
     let k = c.take_line.ensures in
     let here = c.in-Some.ensures.steps in
     let one = ap length here in
-    let e = sym k.is ∙ c.in-On.is in
+    let e = sym k.is ∙ c.in-Ok.is in
     let on = read-on a.base (length a.image.now) l.state l.line l.image here _ (rw v.1 at e) in (
       omega arith,
       c.take_line.auto.image ∙ v.1,
