@@ -1,5 +1,6 @@
 -- What the deciding tells of record, target and datagram where a session begins, a sector is stored, a session ends.
 -- Assumes nothing.
+use Rattle.std.specs.Prelude.{Some}
 use mathlib.Core.Path.{◌≡◌, ap, subst, ◌∙◌}
 use mathlib.Core.Bool.{true}
 use mathlib.Core.List.{List}
@@ -8,7 +9,7 @@ use native.Mathlib.Omega.{arith}
 use lib.ListN.{length}
 use Rattle.frame.specs.Read.{read_of, parameters_in, data_in}
 use Rattle.frame.specs.declared.read.Footer.{Footer}
-use Rattle.frame.specs.declared.read.Read.TheVariants.{Write}
+use Rattle.frame.specs.declared.read.Frame.TheVariants.{Write}
 use Rattle.flash.proofs.Writes.{FitsAt}
 use Rattle.layout.specs.Layout.{good_n, bank_size}
 use Rattle.layout.proofs.Layouts.{good_below}
@@ -76,7 +77,7 @@ module _ (c : Client) (target marks address buffer datagram : List ℕ) where
   leads = led (planned c target marks address buffer datagram) (decides c target marks address buffer datagram)
 
 -- a packet that is stored, from how its datagram is read
-pub storing : (c : Client) (target : ℕ) (d : List ℕ) (sector m : ℕ) (footer : Footer) → read_of d ≡ Write sector m footer → c.state ≡ state.Write
+pub storing : (c : Client) (target : ℕ) (d : List ℕ) (sector m : ℕ) (footer : Footer) → read_of d ≡ Some (Write sector m footer) → c.state ≡ state.Write
     → good_n c.fixed.n ≡ true → target ≡ bank_size c.fixed.n → values_good c.fixed.n sector m ≡ true → Storing c target d sector
 unfolding asked_by
 storing c target d sector m footer e s g w v =

@@ -1,9 +1,9 @@
 -- What comes of a datagram on any board, whatever it lends: it is refused, or the first row behind the frame's whose test holds decides.
 -- Assumes nothing.
+use Rattle.std.specs.Prelude.{Option, None, Some}
 use mathlib.Core.Path.{◌≡◌, refl, sym, ap, subst, ◌∙◌}
 use mathlib.Core.Bool.{Bool, true, false, not, ◌&&◌, cond, false≢true}
 use mathlib.Core.List.{List, [], ◌∷◌}
-use mathlib.Core.Option.{Option, none, some}
 use Prim.Native.Nat.{ℕ, zero, suc, ◌≤◌}
 use lib.Dec.{eqb}
 use lib.ListN.{length, drop}
@@ -51,17 +51,17 @@ pub decides : {P : Outcome → Type 0} {r : Row} {rows : List Row} → r.when �
 decides e h = first (λ _. h) (λ t. absurd (false≢true (sym t ∙ e)))
 
 is_some : Option Outcome → Bool
-is_some none = false
-is_some (some o) = true
+is_some None = false
+is_some (Some o) = true
 
-pub first_of_lem : (P : Outcome → Type 0) (rows : List Row) (o : Outcome) → First P rows → first_of rows ≡ some o → P o
+pub first_of_lem : (P : Outcome → Type 0) (rows : List Row) (o : Outcome) → First P rows → first_of rows ≡ Some o → P o
 unfolding is_some
 first_of_lem P [] o last e = absurd (false≢true (ap is_some e))
 first_of_lem P (r ∷ rows) o (first h hs) e = by r.when refl (λ f. first_of_lem P rows o (hs f))
   where
-    by : (t : Bool) → r.when ≡ t → (r.when ≡ false → first_of rows ≡ some o → P o) → P o
-    by true t rest = subst P (ap (given o) (sym (ap (λ (x : Bool). cond x (some r.comes) (first_of rows)) t) ∙ e)) (h t)
-    by false t rest = rest t (sym (ap (λ (x : Bool). cond x (some r.comes) (first_of rows)) t) ∙ e)
+    by : (t : Bool) → r.when ≡ t → (r.when ≡ false → first_of rows ≡ Some o → P o) → P o
+    by true t rest = subst P (ap (given o) (sym (ap (λ (x : Bool). cond x (Some r.comes) (first_of rows)) t) ∙ e)) (h t)
+    by false t rest = rest t (sym (ap (λ (x : Bool). cond x (Some r.comes) (first_of rows)) t) ∙ e)
 
 -- a host command, by its own rows
 pub hosted : (P : Outcome → Type 0) (b : Board) (i : Input) → First P (table_of b i) → P (step_machine b i)
@@ -86,7 +86,7 @@ module _ (b : Board) (call : LentCall) where
       → P (step_machine b (Datagram call))
   came P r fault rows = by (good_n b.client.fixed.n) runs lengths (is_closed b.client.state) (is_fault (read_of call.datagram)) refl refl refl refl refl
     where
-      refuses : (k : ℕ) → first_of (call_rows b call) ≡ some (refused b call.buffer k) → P (step_machine b (Datagram call))
+      refuses : (k : ℕ) → first_of (call_rows b call) ≡ Some (refused b call.buffer k) → P (step_machine b (Datagram call))
       refuses k e = subst P (sym (comes b (Datagram call) (refused b call.buffer k) e)) (r k)
 
       by : (g u l c f : Bool) → good_n b.client.fixed.n ≡ g → runs ≡ u → lengths ≡ l → is_closed b.client.state ≡ c

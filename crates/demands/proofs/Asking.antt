@@ -1,5 +1,6 @@
 -- The sender's requests as the client reads them.
 -- Assumes nothing.
+use Rattle.std.specs.Prelude.{Some}
 use mathlib.Core.Path.{◌≡◌, refl, sym, ap, ap₂, ◌∙◌}
 use mathlib.Core.Bool.{Bool, true}
 use mathlib.Core.List.{List, ◌++◌}
@@ -13,7 +14,7 @@ use Rattle.buffer.specs.Number.{number_of, bytes_of, number_at}
 use Rattle.buffer.proofs.Bools.{and_left, and_right}
 use Rattle.buffer.proofs.Numbers.{number_inside, number_bytes, length_bytes}
 use Rattle.frame.specs.Read.{read_of, parameters_in}
-use Rattle.frame.specs.declared.read.Read.TheVariants.{Control}
+use Rattle.frame.specs.declared.read.Frame.TheVariants.{Control}
 use Rattle.frame.proofs.RoundTrip.{control_back, control_parameters}
 use Rattle.layout.specs.declared.Bank.{Bank}
 use Rattle.layout.specs.declared.Bank.TheVariants.{Zero, One}
@@ -26,7 +27,7 @@ use Rattle.sender.specs.Request.{command_of, asks_for, request_frame}
 use Rattle.decision.specs.declared.plan.Fixed.{Fixed}
 use Rattle.decision.specs.Plan.{addresses_good}
 
-pub request_read : (request : Request) → read_of (request_frame request) ≡ Control (request_code (command_of request)) (length (asks_for request))
+pub request_read : (request : Request) → read_of (request_frame request) ≡ Some (Control (request_code (command_of request)) (length (asks_for request)))
 request_read request = sym (control_back (request_code (command_of request)) (asks_for request))
 
 -- two numbers of four bytes, one behind the other
@@ -48,8 +49,8 @@ module _ (a b : ℕ) where
       ∙ ap number_of (take_all 4 (bytes_of 4 b) (omega (arith, length_bytes 4 b)))
       ∙ number_bytes 4 b h
 
-pub start_read : (bank : Bank) (n : ℕ) → read_of (request_frame (WriteStart bank n)) ≡ Control 0x40 8
-start_read bank n = request_read (WriteStart bank n) ∙ ap (Control 0x40) (eight (start_of bank) (end_of bank n))
+pub start_read : (bank : Bank) (n : ℕ) → read_of (request_frame (WriteStart bank n)) ≡ Some (Control 0x40 8)
+start_read bank n = request_read (WriteStart bank n) ∙ ap (λ (x : ℕ). Some (Control 0x40 x)) (eight (start_of bank) (end_of bank n))
 
 -- what a datagram's parameters say, as a pair of addresses
 abbrev pub pair_good : Fixed → List ℕ → Type 0

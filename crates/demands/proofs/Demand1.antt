@@ -1,9 +1,9 @@
 -- Demand 1 is met: each way through the deciding ends in the first row of the table whose test holds.
 -- Assumes nothing.
+use Rattle.std.specs.Prelude.{Option, Some, None}
 use mathlib.Core.Path.{◌≡◌, refl, sym, ap, ap₂, subst, ◌∙◌}
 use mathlib.Core.Bool.{Bool, true, false, cond, false≢true}
 use mathlib.Core.List.{List, [], ◌∷◌, ◌++◌}
-use mathlib.Core.Option.{some}
 use Prim.Native.Nat.{ℕ, ◌-◌, ◌≤◌}
 use native.Mathlib.Omega.{arith}
 use lib.Dec.{eqb}
@@ -18,8 +18,8 @@ use Rattle.frame.specs.Checksum.{taken_away, checksum_of}
 use Rattle.frame.specs.Frame.{framed, control_frame, frame_error}
 use Rattle.frame.specs.Read.{read_of, parameters_in, data_in}
 use Rattle.frame.specs.declared.read.Footer.{Footer}
-use Rattle.frame.specs.declared.read.Read.{Read}
-use Rattle.frame.specs.declared.read.Read.TheVariants.{Fault, Control, Write}
+use Rattle.frame.specs.declared.read.Frame.{Frame}
+use Rattle.frame.specs.declared.read.Frame.TheVariants.{Control, Write}
 use Rattle.flash.specs.Bank.{with_sector}
 use Rattle.flash.specs.Sector.{padded_of}
 use Rattle.flash.proofs.Writes.{FitsAt, written_with, written_here, already_same}
@@ -151,13 +151,13 @@ module _ (fixed : Fixed) (next : Bank) (latest : Latest) (opener : List ℕ) (re
   abbrev d : List ℕ
   d = call.datagram
 
-  abbrev comesOf : State → Read → Outcome
+  abbrev comesOf : State → Option Frame → Outcome
   comesOf s r =
       call_outcome (at s) call
       (carried_of (c s) (plan_asked (standing_of (c s)) (asked_by (parameters_in d) r) call.marks call.address) (lent_target (at s) call) call.address call.buffer (data_in d))
 
-  abbrev Holds : State → Read → Type 0
-  Holds s r = first_of (after_frame (at s) call r) ≡ some (comesOf s r)
+  abbrev Holds : State → Option Frame → Type 0
+  Holds s r = first_of (after_frame (at s) call r) ≡ Some (comesOf s r)
 
   closed_not : {A : Type 0} → is_closed state.Closed ≡ false → A
   closed_not e = absurd (false≢true (sym e))
@@ -176,24 +176,24 @@ module _ (fixed : Fixed) (next : Bank) (latest : Latest) (opener : List ℕ) (re
 
     -- what was said of a target that was left alone, and of one that was not
     kept : (s : State) (answer : Answer) (r : Carried) → r.answer ≡ answer → Tells r → r.target ≡ lent_target (at s) call → answer_number answer ≡ 0
-        → some (changed (at s) call r.client r.notice (answer_bytes answer)) ≡ some (call_outcome (at s) call r)
-    kept s answer r a f t z = ap some (sym (changed_is (at s) call r r.client r.notice answer (says s r answer a f) refl t refl z))
+        → Some (changed (at s) call r.client r.notice (answer_bytes answer)) ≡ Some (call_outcome (at s) call r)
+    kept s answer r a f t z = ap Some (sym (changed_is (at s) call r r.client r.notice answer (says s r answer a f) refl t refl z))
 
     -- E0 with 05
     faulty : (s : State) (r : Carried) → r.answer ≡ ParameterError → Tells r → r.target ≡ lent_target (at s) call
-        → some (changed (at s) call r.client r.notice parameter_error) ≡ some (call_outcome (at s) call r)
+        → Some (changed (at s) call r.client r.notice parameter_error) ≡ Some (call_outcome (at s) call r)
     unfolding answer_bytes
-    faulty s r a f t = ap (λ (x : List ℕ). some (changed (at s) call r.client r.notice x)) (sym parameter_bytes) ∙ kept s ParameterError r a f t refl
+    faulty s r a f t = ap (λ (x : List ℕ). Some (changed (at s) call r.client r.notice x)) (sym parameter_bytes) ∙ kept s ParameterError r a f t refl
 
     left : (s : State) (answer : Answer) (r : Carried) → r.answer ≡ answer → Tells r → r.notice ≡ no_notice → answer_number answer ≡ 0
-        → some (stored (at s) call r.client r.target (answer_bytes answer)) ≡ some (call_outcome (at s) call r)
-    left s answer r a f n z = ap some (sym (stored_is (at s) call r r.client r.target answer (says s r answer a f) refl refl n z))
+        → Some (stored (at s) call r.client r.target (answer_bytes answer)) ≡ Some (call_outcome (at s) call r)
+    left s answer r a f n z = ap Some (sym (stored_is (at s) call r r.client r.target answer (says s r answer a f) refl refl n z))
 
     -- from the address that opened the mode, or while none is open
     abbrev strange : State → Bool
     strange s = from_stranger (c s) call.address
 
-    code-61 : (m : ℕ) (t x : Bool) (s : State) → eqb m 0 ≡ t → strange s ≡ x → is_closed s ≡ false → Holds s (Control 0x61 m)
+    code-61 : (m : ℕ) (t x : Bool) (s : State) → eqb m 0 ≡ t → strange s ≡ x → is_closed s ≡ false → Holds s (Some (Control 0x61 m))
     unfolding Tells asked_by coded_by counted plan_asked plan_request is_stranger plan_good plan_control carried_of served_of answer_bytes
     code-61 m false x s z y l = rw z (faulty s _ refl (refl, refl) refl)
     code-61 m true true s z y l = rw (z, y) (kept s (Response ModeStart 0x15) _ refl (refl, refl) refl refl)
@@ -202,7 +202,7 @@ module _ (fixed : Fixed) (next : Bank) (latest : Latest) (opener : List ℕ) (re
     code-61 m true false state.Control z y l = rw (z, y) (kept state.Control (Response ModeStart 0x15) _ refl (refl, refl) refl refl)
     code-61 m true false state.Write z y l = rw (z, y) (kept state.Write (Response ModeStart 0x15) _ refl (refl, refl) refl refl)
 
-    code-62 : (m : ℕ) (t x : Bool) (s : State) → eqb m 0 ≡ t → strange s ≡ x → is_closed s ≡ false → Holds s (Control 0x62 m)
+    code-62 : (m : ℕ) (t x : Bool) (s : State) → eqb m 0 ≡ t → strange s ≡ x → is_closed s ≡ false → Holds s (Some (Control 0x62 m))
     unfolding Tells asked_by coded_by counted plan_asked plan_request is_stranger plan_good plan_control carried_of served_of answer_bytes
     code-62 m false x s z y l = rw z (faulty s _ refl (refl, refl) refl)
     code-62 m true true s z y l = rw (z, y) (kept s (Response BankInfo 0x15) _ refl (refl, refl) refl refl)
@@ -211,7 +211,7 @@ module _ (fixed : Fixed) (next : Bank) (latest : Latest) (opener : List ℕ) (re
     code-62 m true false state.Control z y l = rw (z, y) (kept state.Control (BankIs (other_of fixed.running)) _ refl (refl, refl) refl refl)
     code-62 m true false state.Write z y l = rw (z, y) (kept state.Write (Response BankInfo 0x15) _ refl (refl, refl) refl refl)
 
-    code-68 : (m : ℕ) (t x : Bool) (s : State) → eqb m 0 ≡ t → strange s ≡ x → is_closed s ≡ false → Holds s (Control 0x68 m)
+    code-68 : (m : ℕ) (t x : Bool) (s : State) → eqb m 0 ≡ t → strange s ≡ x → is_closed s ≡ false → Holds s (Some (Control 0x68 m))
     unfolding Tells asked_by coded_by counted plan_asked plan_request is_stranger plan_good plan_control carried_of served_of answer_bytes
     code-68 m false x s z y l = rw z (faulty s _ refl (refl, refl) refl)
     code-68 m true true s z y l = rw (z, y) (kept s (Response VersionInfo 0x15) _ refl (refl, refl) refl refl)
@@ -220,7 +220,7 @@ module _ (fixed : Fixed) (next : Bank) (latest : Latest) (opener : List ℕ) (re
     code-68 m true false state.Control z y l = rw (z, y) (kept state.Control (VersionIs fixed.major fixed.minor fixed.revision) _ refl (refl, refl) refl refl)
     code-68 m true false state.Write z y l = rw (z, y) (kept state.Write (Response VersionInfo 0x15) _ refl (refl, refl) refl refl)
 
-    code-64 : (m : ℕ) (t x : Bool) (s : State) → eqb m 0 ≡ t → strange s ≡ x → is_closed s ≡ false → Holds s (Control 0x64 m)
+    code-64 : (m : ℕ) (t x : Bool) (s : State) → eqb m 0 ≡ t → strange s ≡ x → is_closed s ≡ false → Holds s (Some (Control 0x64 m))
     unfolding Tells asked_by coded_by counted plan_asked plan_request is_stranger plan_good plan_control carried_of served_of answer_bytes
     code-64 m false x s z y l = rw z (faulty s _ refl (refl, refl) refl)
     code-64 m true true s z y l = rw (z, y) (kept s (Response ModeEnd 0x15) _ refl (refl, refl) refl refl)
@@ -233,7 +233,7 @@ module _ (fixed : Fixed) (next : Bank) (latest : Latest) (opener : List ℕ) (re
     abbrev pair-good : Bool
     pair-good = addresses_good fixed.n fixed.running (number_at 4 (parameters_in d) 0) (number_at 4 (parameters_in d) 4)
 
-    code-40 : (m : ℕ) (t x : Bool) (s : State) (v : Bool) → eqb m 8 ≡ t → strange s ≡ x → pair-good ≡ v → is_closed s ≡ false → Holds s (Control 0x40 m)
+    code-40 : (m : ℕ) (t x : Bool) (s : State) (v : Bool) → eqb m 8 ≡ t → strange s ≡ x → pair-good ≡ v → is_closed s ≡ false → Holds s (Some (Control 0x40 m))
     unfolding Tells asked_by coded_by counted plan_asked plan_request is_stranger plan_good plan_control carried_of served_of answer_bytes plan_start
     code-40 m false x s v z y a l = rw z (faulty s _ refl (refl, refl) refl)
     code-40 m true true s v z y a l = rw (z, y) (kept s (Response WriteStart 0x15) _ refl (refl, refl) refl refl)
@@ -245,7 +245,7 @@ module _ (fixed : Fixed) (next : Bank) (latest : Latest) (opener : List ℕ) (re
 
     -- the worn marks, and then what the sweep left
     code-45 : (m : ℕ) (t x : Bool) (s : State) (w f : Bool) → eqb m 0 ≡ t → strange s ≡ x → any_worn call.marks ≡ w
-        → fit_of fixed (swept_target (at state.Write) call) ≡ f → is_closed s ≡ false → Holds s (Control 0x45 m)
+        → fit_of fixed (swept_target (at state.Write) call) ≡ f → is_closed s ≡ false → Holds s (Some (Control 0x45 m))
     unfolding Tells asked_by coded_by counted plan_asked plan_request is_stranger plan_good plan_control carried_of served_of answer_bytes plan_end checked_of
     code-45 m false x s w f z y a e l = rw z (faulty s _ refl (refl, refl) refl)
     code-45 m true true s w f z y a e l = rw (z, y) (kept s (Response WriteEnd 0x15) _ refl (refl, refl) refl refl)
@@ -258,45 +258,45 @@ module _ (fixed : Fixed) (next : Bank) (latest : Latest) (opener : List ℕ) (re
 
     -- none of the six
     code_other : (code m : ℕ) (s : State) → eqb code 0x61 ≡ false → eqb code 0x62 ≡ false → eqb code 0x68 ≡ false → eqb code 0x40 ≡ false
-        → eqb code 0x45 ≡ false → eqb code 0x64 ≡ false → Holds s (Control code m)
+        → eqb code 0x45 ≡ false → eqb code 0x64 ≡ false → Holds s (Some (Control code m))
     unfolding Tells asked_by coded_by plan_asked carried_of served_of answer_bytes
     code_other code m s e f g h i j = rw (e, f, g, h, i, j) (faulty s _ refl (refl, refl) refl)
 
-    control : (code m : ℕ) (s : State) → is_closed s ≡ false → Holds s (Control code m)
+    control : (code m : ℕ) (s : State) → is_closed s ≡ false → Holds s (Some (Control code m))
     control code m s l = by61 (eqb code 0x61) refl
       where
-        one_of : (known : ℕ) → eqb code known ≡ true → Holds s (Control known m) → Holds s (Control code m)
-        one_of known e h = subst (λ (x : ℕ). Holds s (Control x m)) (sym (eqb-true code known e)) h
+        one_of : (known : ℕ) → eqb code known ≡ true → Holds s (Some (Control known m)) → Holds s (Some (Control code m))
+        one_of known e h = subst (λ (x : ℕ). Holds s (Some (Control x m))) (sym (eqb-true code known e)) h
 
         by64 : (a : Bool) → eqb code 0x64 ≡ a → eqb code 0x61 ≡ false → eqb code 0x62 ≡ false → eqb code 0x68 ≡ false → eqb code 0x40 ≡ false
-            → eqb code 0x45 ≡ false → Holds s (Control code m)
+            → eqb code 0x45 ≡ false → Holds s (Some (Control code m))
         by64 true j e f g h i = one_of 0x64 j (code-64 m _ _ s refl refl l)
         by64 false j e f g h i = code_other code m s e f g h i j
 
         by45 : (a : Bool) → eqb code 0x45 ≡ a → eqb code 0x61 ≡ false → eqb code 0x62 ≡ false → eqb code 0x68 ≡ false → eqb code 0x40 ≡ false
-            → Holds s (Control code m)
+            → Holds s (Some (Control code m))
         by45 true i e f g h = one_of 0x45 i (code-45 m _ _ s _ _ refl refl refl refl l)
         by45 false i e f g h = by64 (eqb code 0x64) refl e f g h i
 
-        by40 : (a : Bool) → eqb code 0x40 ≡ a → eqb code 0x61 ≡ false → eqb code 0x62 ≡ false → eqb code 0x68 ≡ false → Holds s (Control code m)
+        by40 : (a : Bool) → eqb code 0x40 ≡ a → eqb code 0x61 ≡ false → eqb code 0x62 ≡ false → eqb code 0x68 ≡ false → Holds s (Some (Control code m))
         by40 true h e f g = one_of 0x40 h (code-40 m _ _ s _ refl refl refl l)
         by40 false h e f g = by45 (eqb code 0x45) refl e f g h
 
-        by68 : (a : Bool) → eqb code 0x68 ≡ a → eqb code 0x61 ≡ false → eqb code 0x62 ≡ false → Holds s (Control code m)
+        by68 : (a : Bool) → eqb code 0x68 ≡ a → eqb code 0x61 ≡ false → eqb code 0x62 ≡ false → Holds s (Some (Control code m))
         by68 true g e f = one_of 0x68 g (code-68 m _ _ s refl refl l)
         by68 false g e f = by40 (eqb code 0x40) refl e f g
 
-        by62 : (a : Bool) → eqb code 0x62 ≡ a → eqb code 0x61 ≡ false → Holds s (Control code m)
+        by62 : (a : Bool) → eqb code 0x62 ≡ a → eqb code 0x61 ≡ false → Holds s (Some (Control code m))
         by62 true f e = one_of 0x62 f (code-62 m _ _ s refl refl l)
         by62 false f e = by68 (eqb code 0x68) refl e f
 
-        by61 : (a : Bool) → eqb code 0x61 ≡ a → Holds s (Control code m)
+        by61 : (a : Bool) → eqb code 0x61 ≡ a → Holds s (Some (Control code m))
         by61 true e = one_of 0x61 e (code-61 m _ _ s refl refl l)
         by61 false e = by62 (eqb code 0x62) refl e
 
     -- ---- a packet
 
-    module _ (sector m : ℕ) (footer : Footer) (reads : read_of d ≡ Write sector m footer) (good : good_n fixed.n ≡ true)
+    module _ (sector m : ℕ) (footer : Footer) (reads : read_of d ≡ Some (Write sector m footer)) (good : good_n fixed.n ≡ true)
         (whole : length (lent_target (at state.Write) call) ≡ bank_size fixed.n) where
       abbrev bytes : List ℕ
       bytes = data_in d
@@ -309,7 +309,7 @@ module _ (fixed : Fixed) (next : Bank) (latest : Latest) (opener : List ℕ) (re
           fits_stored (c state.Write) before d sector (storing (c state.Write) (length before) d sector m footer reads refl good whole v)
 
       packet : (s : State) (x v w : Bool) → strange s ≡ x → values_good fixed.n sector m ≡ v → is_worn (get_or call.marks (sector - 1) 0) ≡ w → is_closed s ≡ false
-          → Holds s (Write sector m footer)
+          → Holds s (Some (Write sector m footer))
       unfolding Tells asked_by plan_asked plan_request is_stranger plan_good plan_packet carried_of served_of store_of answer_bytes
       packet s true v w y a e l = rw y (kept s (Written sector 0x15 0x15 0) _ refl (refl, refl) refl refl)
       packet state.Closed false v w y a e l = closed_not l
@@ -321,7 +321,7 @@ module _ (fixed : Fixed) (next : Bank) (latest : Latest) (opener : List ℕ) (re
           let answer : Answer =
           Written sector 0x06 (store_result (blank_of bytes) (same_of (sector_of before sector) (padded_of bytes))) (crc_of (padded_of bytes)) in
           rw (y, a, e)
-          (ap some
+          (ap Some
           (sym
           (stored_is (at state.Write) call _ (marked sector (c state.Write)) (with_sector before sector (padded_of bytes)) answer
           (says state.Write _ answer
@@ -333,12 +333,12 @@ module _ (fixed : Fixed) (next : Bank) (latest : Latest) (opener : List ℕ) (re
     -- ---- the whole table
 
     module _ (good : good_n fixed.n ≡ true) (s : State) (live : is_closed s ≡ false) (whole : length (lent_target (at s) call) ≡ bank_size fixed.n) where
-      read-on : (r : Read) → read_of d ≡ r
-          → cond (is_fault r) (some (answered (at s) call frame_error)) (first_of (after_frame (at s) call r)) ≡ some (comesOf s r)
+      read-on : (r : Option Frame) → read_of d ≡ r
+          → cond (is_fault r) (Some (answered (at s) call frame_error)) (first_of (after_frame (at s) call r)) ≡ Some (comesOf s r)
       unfolding Tells asked_by plan_asked carried_of served_of answer_bytes
-      read-on Fault e = kept s FrameError _ refl (refl, refl) refl refl
-      read-on (Control code m) e = control code m s live
-      read-on (Write sector m footer) e = packet sector m footer e good whole s _ _ _ refl refl refl live
+      read-on None e = kept s FrameError _ refl (refl, refl) refl refl
+      read-on (Some (Control code m)) e = control code m s live
+      read-on (Some (Write sector m footer)) e = packet sector m footer e good whole s _ _ _ refl refl refl live
 
   abbrev runs-good : Bool
   runs-good = eqb (length (bank_in fixed.running (lent_of call.lent pair))) (bank_size fixed.n)
@@ -352,13 +352,13 @@ module _ (fixed : Fixed) (next : Bank) (latest : Latest) (opener : List ℕ) (re
   silent why = told_whole (Refused why) (length call.buffer) (omega arith)
 
   refuses : (s : State) (why : Refusal) (bytes : List ℕ)
-      → some (refused (at s) call.buffer (refusal_number why))
-      ≡ some (call_outcome (at s) call (carried_of (c s) (Keep (Refused why)) (lent_target (at s) call) call.address call.buffer bytes))
+      → Some (refused (at s) call.buffer (refusal_number why))
+      ≡ Some (call_outcome (at s) call (carried_of (c s) (Keep (Refused why)) (lent_target (at s) call) call.address call.buffer bytes))
   unfolding carried_of served_of answer_bytes
-  refuses s why bytes = ap some (sym (refused_is (at s) call _ why refl refl refl refl (silent why) (front_none call.buffer)))
+  refuses s why bytes = ap Some (sym (refused_is (at s) call _ why refl refl refl refl (silent why) (front_none call.buffer)))
 
   call_table : (g e l : Bool) (s : State) (o : Bool) → good_n fixed.n ≡ g → runs-good ≡ e → lengths-good s ≡ l → is_closed s ≡ o
-      → first_of (call_rows (at s) call) ≡ some (step_machine (at s) (Datagram call))
+      → first_of (call_rows (at s) call) ≡ Some (step_machine (at s) (Datagram call))
   unfolding beside_of take_of plan_of
   call_table false e l s o g r f q = rw g (refuses s BadN _)
   call_table true false l s o g r f q = rw (g, r) (refuses s BadLength _)
@@ -369,13 +369,13 @@ module _ (fixed : Fixed) (next : Bank) (latest : Latest) (opener : List ℕ) (re
       rw (g, r, f, q) (read-on t.roomy g s q t.whole_target (read_of d) refl)
 
 host_table : (b : Board) (g o : Bool) → good_n b.client.fixed.n ≡ g → is_closed b.client.state ≡ o
-    → (first_of (table_of b Initiate) ≡ some (step_machine b Initiate)) × (first_of (table_of b Terminate) ≡ some (step_machine b Terminate))
+    → (first_of (table_of b Initiate) ≡ Some (step_machine b Initiate)) × (first_of (table_of b Terminate) ≡ Some (step_machine b Terminate))
 unfolding initiate_of terminate_of
 host_table b false o e d = (rw e, rw e)
 host_table b true false e d = (rw (e, d), rw (e, d))
 host_table b true true e d = (rw (e, d), rw (e, d))
 
-pub table : (b : Board) (i : Input) → first_of (table_of b i) ≡ some (step_machine b i)
+pub table : (b : Board) (i : Input) → first_of (table_of b i) ≡ Some (step_machine b i)
 table b Initiate = (host_table b _ _ refl refl).0
 table b Terminate = (host_table b _ _ refl refl).1
 table b (Datagram call) =

@@ -1,5 +1,6 @@
 -- Demand 2 is met: a sector of the session's image is the image's already, or its packet is still to come.
 -- Assumes nothing.
+use Rattle.std.specs.Prelude.{Some}
 use mathlib.Core.Path.{◌≡◌, refl, sym, ap, subst, ◌∙◌}
 use mathlib.Core.Logic.{◌⊎◌, inl, inr}
 use mathlib.Core.Bool.{Bool, true, false}
@@ -20,7 +21,7 @@ use Rattle.frame.specs.Frame.{framed, control_frame, write_frame}
 use Rattle.frame.specs.Read.{read_of, data_in}
 use Rattle.frame.proofs.Writing.{length_control}
 use Rattle.frame.specs.declared.read.Footer.TheVariants.{End}
-use Rattle.frame.specs.declared.read.Read.TheVariants.{Write}
+use Rattle.frame.specs.declared.read.Frame.TheVariants.{Write}
 use Rattle.flash.specs.Bank.{with_sector}
 use Rattle.flash.specs.Sector.{padded_of}
 use Rattle.flash.proofs.Blanks.{blank_whole, sector_blanks}
@@ -210,7 +211,7 @@ module _ (address : List ℕ) (fixed : Fixed) (good : good_n fixed.n ≡ true) (
     l : Lends n call
     l = comes.lends
 
-    reads : read_of call.datagram ≡ Write k 512 (footer_of (packet_count image n) p)
+    reads : read_of call.datagram ≡ Some (Write k 512 (footer_of (packet_count image n) p))
     reads = ap read_of brings ∙ sym (packet_read image n p good by_sectors h)
 
     bytes_are : data_in call.datagram ≡ sector_of image k
@@ -225,7 +226,7 @@ module _ (address : List ℕ) (fixed : Fixed) (good : good_n fixed.n ≡ true) (
         let high = sent.high in
         ap (λ (m : List ℕ). is_worn (get_or m (k - 1) 0)) l.marks ∙ ap is_worn (get_or-replicate {A = ℕ} n (k - 1) 0 0 (omega arith))
 
-    pub stored_is : step_machine b (Datagram call) ≡ packet_stored b call (Write k 512 (footer_of (packet_count image n) p))
+    pub stored_is : step_machine b (Datagram call) ≡ packet_stored b call (Some (Write k 512 (footer_of (packet_count image n) p)))
     stored_is =
         packet b call
         (heard b call (ap (λ (f : Fixed). good_n f.n) busy.stays ∙ good) (own_lends fixed b call busy.stays l) (own_whole fixed b busy.stays busy.whole)

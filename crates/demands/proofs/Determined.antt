@@ -21,6 +21,7 @@ determined =
       parameters_in = λ datagram. once _;
       data_in = λ datagram. once _;
       footer_byte = λ footer. once _;
+      footer_in = λ byte. once _;
       put_control = λ before code parameters. once _;
       put_write = λ before sector bytes footer. once _;
       put_error = λ before. once _;

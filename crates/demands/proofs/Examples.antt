@@ -1,5 +1,6 @@
 -- The worked examples hold.
 -- Assumes nothing.
+use Rattle.std.specs.Prelude.{Some, None}
 use mathlib.Core.Path.{◌≡◌, refl, sym, ap, ap₂, subst, ◌∙◌}
 use mathlib.Core.Bool.{Bool, true, false, false≢true}
 use mathlib.Core.List.{List, [], ◌∷◌, ◌++◌}
@@ -18,7 +19,7 @@ use Rattle.frame.specs.Frame.{framed, control_frame, write_frame, frame_error}
 use Rattle.frame.specs.Read.{read_of, data_in, read_control, checked_at}
 use Rattle.frame.specs.declared.read.Footer.{Footer}
 use Rattle.frame.specs.declared.read.Footer.TheVariants.{End}
-use Rattle.frame.specs.declared.read.Read.TheVariants.{Fault, Control, Write}
+use Rattle.frame.specs.declared.read.Frame.TheVariants.{Control, Write}
 use Rattle.frame.proofs.Writing.{length_error}
 use Rattle.flash.specs.Bank.{with_sector}
 use Rattle.flash.specs.Sector.{padded_of}
@@ -70,15 +71,15 @@ sum_2 : (footer : Footer) → byte_at (write_frame 1 (0xFF ∷ 0x80 ∷ 0x40 ∷
 unfolding write_frame framed bytes_of checksum_of taken_away
 sum_2 footer = refl
 
-reads_1 : read_of (0x01 ∷ 0x01 ∷ 0x61 ∷ 0x9E ∷ 0x03 ∷ []) ≡ Control 0x61 0
+reads_1 : read_of (0x01 ∷ 0x01 ∷ 0x61 ∷ 0x9E ∷ 0x03 ∷ []) ≡ Some (Control 0x61 0)
 unfolding read_of read_control checked_at checksum_of taken_away
 reads_1 = refl
 
-reads_3 : read_of (0x01 ∷ 0x01 ∷ 0x60 ∷ 0x9F ∷ 0x03 ∷ []) ≡ Control 0x60 0
+reads_3 : read_of (0x01 ∷ 0x01 ∷ 0x60 ∷ 0x9F ∷ 0x03 ∷ []) ≡ Some (Control 0x60 0)
 unfolding read_of read_control checked_at checksum_of taken_away
 reads_3 = refl
 
-reads_6 : read_of [] ≡ Fault
+reads_6 : read_of [] ≡ None
 unfolding read_of
 reads_6 = refl
 
@@ -124,7 +125,7 @@ parameter_said : (b : Board) (call : LentCall) → 14 ≤ length call.buffer
     → said (answered b call parameter_error) ≡ 0x01 ∷ 0x02 ∷ 0xE0 ∷ 0x05 ∷ 0x19 ∷ 0x03 ∷ []
 parameter_said b call room = said_back call parameter_error (omega arith) room
 
-example_3_any : (b : Board) (call : LentCall) (m : ℕ) → Calls b call → live b.client.state ≡ true → read_of call.datagram ≡ Control 0x60 m
+example_3_any : (b : Board) (call : LentCall) (m : ℕ) → Calls b call → live b.client.state ≡ true → read_of call.datagram ≡ Some (Control 0x60 m)
     → said (step_machine b (Datagram call)) ≡ 0x01 ∷ 0x02 ∷ 0xE0 ∷ 0x05 ∷ 0x19 ∷ 0x03 ∷ []
 example_3_any b call m c s r =
     ap said (no_request_is b call (calling b call c (not-true (is_closed b.client.state) s)) 0x60 m r refl)
@@ -162,7 +163,7 @@ module _ (b : Board) (call : LentCall) (sector m : ℕ) (p : Brings b call secto
       ap (λ (l : List ℕ). is_worn (get_or l (sector - 1) 0)) p.calls.lends.marks
       ∙ ap is_worn (get_or-replicate {A = ℕ} b.client.fixed.n (sector - 1) 0 0 h)
 
-  stored_is : values_good b.client.fixed.n sector m ≡ true → step_machine b (Datagram call) ≡ packet_stored b call (Write sector m p.footer)
+  stored_is : values_good b.client.fixed.n sector m ≡ true → step_machine b (Datagram call) ≡ packet_stored b call (Some (Write sector m p.footer))
   stored_is v =
       let low = values_low b.client.fixed.n sector m v in
       let high = values-high b.client.fixed.n sector m v in

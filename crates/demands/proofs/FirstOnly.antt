@@ -2,6 +2,7 @@
 -- Two fit images of two sectors are alike in the second and not in the first. The second is sent first, so the machine leaves the same bank for
 -- both, and demand 2 wants each of them there.
 -- Assumes nothing.
+use Rattle.std.specs.Prelude.{Some}
 use mathlib.Core.Path.{◌≡◌, refl, sym, ap, subst, ◌∙◌}
 use mathlib.Core.Bool.{true}
 use mathlib.Core.List.{List, [], ◌∷◌, ◌++◌}
@@ -12,7 +13,7 @@ use Rattle.buffer.specs.Compare.{blank_of}
 use Rattle.buffer.specs.Number.{number_at, number_of}
 use Rattle.crc.specs.Crc.{feed, crc_bit, crc_bits, crc_byte, crc_more, crc_of}
 use Rattle.frame.specs.Read.{read_of}
-use Rattle.frame.specs.declared.read.Read.TheVariants.{Write}
+use Rattle.frame.specs.declared.read.Frame.TheVariants.{Write}
 use Rattle.frame.specs.declared.read.Footer.TheVariants.{End, Continued}
 use Rattle.layout.specs.declared.Bank.TheVariants.{Zero, One}
 use Rattle.layout.specs.Layout.{good_n, whole_length, sector_of}
@@ -77,11 +78,11 @@ not_same e = absurd (omega (arith, ap (λ (l : List ℕ). get_or l 11 0) e))
 
 -- what the packets of an image of two packets, in its sectors 1 and 2, are read as
 module _ (img : List ℕ) (size : length img ≡ 1024) (two : packet_count img 2 ≡ 2) (sectors : (packet_sector img 2 0 ≡ 1) × (packet_sector img 2 1 ≡ 2)) where
-  reads_0 : read_of (packet_frame img 2 0) ≡ Write 1 512 Continued
+  reads_0 : read_of (packet_frame img 2 0) ≡ Some (Write 1 512 Continued)
   unfolding footer_of
   reads_0 = sym (packet_read img 2 0 two_good size (omega (arith, two))) ∙ rw (sectors.0, two)
 
-  reads_1 : read_of (packet_frame img 2 1) ≡ Write 2 512 End
+  reads_1 : read_of (packet_frame img 2 1) ≡ Some (Write 2 512 End)
   unfolding footer_of
   reads_1 = sym (packet_read img 2 1 two_good size (omega (arith, two))) ∙ rw (sectors.1, two)
 

@@ -1,6 +1,7 @@
 -- What is shut out by the strangers' sentence alone: every machine that heeds a stranger. Four of them, each the client but for whom it takes for
 -- the opener.
 -- Assumes nothing.
+use Rattle.std.specs.Prelude.{Some}
 use mathlib.Core.Path.{◌≡◌, refl, sym, ap, subst, ◌∙◌}
 use mathlib.Core.Bool.{Bool, true, false, false≢true}
 use mathlib.Core.List.{List, [], ◌∷◌, ◌++◌}
@@ -10,7 +11,7 @@ use lib.Dec.{eqb}
 use lib.ListN.{length, get_or, set, replicate}
 use Rattle.buffer.specs.Compare.{same_of}
 use Rattle.frame.specs.Read.{read_of}
-use Rattle.frame.specs.declared.read.Read.TheVariants.{Control, Write}
+use Rattle.frame.specs.declared.read.Frame.TheVariants.{Control, Write}
 use Rattle.layout.specs.declared.Bank.TheVariants.{Zero, One}
 use Rattle.layout.specs.Layout.{good_n, bank_size}
 use Rattle.sender.specs.declared.request.Request.TheVariants.{WriteStart, WriteEnd}
@@ -139,7 +140,7 @@ unworn : any_worn (calling (request_frame WriteEnd)).marks ≡ false
 unfolding calling
 unworn = no_mark 2
 
-end_read : read_of (calling (request_frame WriteEnd)).datagram ≡ Control 0x45 0
+end_read : read_of (calling (request_frame WriteEnd)).datagram ≡ Some (Control 0x45 0)
 unfolding calling
 end_read = request_read WriteEnd
 
@@ -176,7 +177,7 @@ first_packet : 0 < packet_count image 2
 first_packet = omega (arith, two_packets)
 
 packet_is : step_machine in_session (Datagram (calling (packet_frame image 2 0)))
-    ≡ packet_stored in_session (calling (packet_frame image 2 0)) (Write (packet_sector image 2 0) 512 (footer_of (packet_count image 2) 0))
+    ≡ packet_stored in_session (calling (packet_frame image 2 0)) (Some (Write (packet_sector image 2 0) 512 (footer_of (packet_count image 2) 0)))
 unfolding calling
 packet_is =
     stored_is witness_board.client.opener (fixed_of 2 Zero 1 0 0) two_good image image_size 0 first_packet in_session (all_blank 2) writing

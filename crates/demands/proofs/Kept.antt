@@ -1,5 +1,6 @@
 -- Who is kept, and how long: the address that opened the mode, until it ends the mode or the host terminates.
 -- Assumes nothing.
+use Rattle.std.specs.Prelude.{Option, Some, None}
 use mathlib.Core.Path.{◌≡◌, refl, sym, ap, ◌∙◌}
 use mathlib.Core.Logic.{◌⊎◌, inl, inr}
 use mathlib.Core.Bool.{Bool, true, false, not, false≢true}
@@ -16,8 +17,8 @@ use Rattle.frame.specs.Frame.{framed, control_frame, write_frame, frame_error}
 use Rattle.frame.specs.Read.{read_of, data_in}
 use Rattle.frame.specs.declared.read.Footer.{Footer}
 use Rattle.frame.specs.declared.read.Footer.TheVariants.{End}
-use Rattle.frame.specs.declared.read.Read.{Read}
-use Rattle.frame.specs.declared.read.Read.TheVariants.{Fault, Control, Write}
+use Rattle.frame.specs.declared.read.Frame.{Frame}
+use Rattle.frame.specs.declared.read.Frame.TheVariants.{Control, Write}
 use Rattle.frame.proofs.Writing.{length_error}
 use Rattle.flash.specs.Bank.{swept_of}
 use Rattle.layout.specs.declared.Bank.{Bank}
@@ -67,13 +68,13 @@ module _ (address : List ℕ) (b : Board) (open_for : OpenFor address b) where
       (first (λ _. inl open_for) (λ _. first (λ _. inl open_for) (λ _. first (λ _. inr refl) (λ _. last))))
 
   module _ (call : LentCall) where
-    abbrev LeftSo : Read → List ℕ → Type 0
-    LeftSo r answer = (call.address ≡ address) × ((r ≡ Control 0x64 0) × (answer ≡ 0x01 ∷ 0x02 ∷ 0x74 ∷ 0x06 ∷ 0x84 ∷ 0x03 ∷ []))
+    abbrev LeftSo : Option Frame → List ℕ → Type 0
+    LeftSo r answer = (call.address ≡ address) × ((r ≡ Some (Control 0x64 0)) × (answer ≡ 0x01 ∷ 0x02 ∷ 0x74 ∷ 0x06 ∷ 0x84 ∷ 0x03 ∷ []))
 
-    abbrev Keeps : Read → Outcome → Type 0
+    abbrev Keeps : Option Frame → Outcome → Type 0
     Keeps r o = OpenFor address o.board ⊎ LeftSo r (said o)
 
-    of_control : (code m : ℕ) → Heard b call → First (Keeps (Control code m)) (after_frame b call (Control code m))
+    of_control : (code m : ℕ) → Heard b call → First (Keeps (Some (Control code m))) (after_frame b call (Some (Control code m)))
     of_control code m h =
         first (λ _. inl open_for)
         (λ _.
@@ -106,17 +107,17 @@ module _ (address : List ℕ) (b : Board) (open_for : OpenFor address b) where
         first (λ _. inl (record { mode = refl; opener = open_for.opener }))
         (λ _. first (λ _. inl (record { mode = refl; opener = open_for.opener })) (λ _. last)))))))))))))))
       where
-        left_so : code ≡ 0x64 → wrong_length (Control code m) ≡ false → from_stranger b.client call.address ≡ false
-            → LeftSo (Control code m) (take (length (control_frame 0x74 (0x06 ∷ []))) (front_of call.buffer (control_frame 0x74 (0x06 ∷ []))))
+        left_so : code ≡ 0x64 → wrong_length (Some (Control code m)) ≡ false → from_stranger b.client call.address ≡ false
+            → LeftSo (Some (Control code m)) (take (length (control_frame 0x74 (0x06 ∷ []))) (front_of call.buffer (control_frame 0x74 (0x06 ∷ []))))
         left_so is l f = (
           own_mode b.client call.address f open_for.mode ∙ open_for.opener,
           (
-            rw is (ap (Control 0x64) (eqb-true m 0 (not-false _ (rw is at l)))),
+            rw is (ap (λ (x : ℕ). Some (Control 0x64 x)) (eqb-true m 0 (not-false _ (rw is at l)))),
             said_back call (control_frame 0x74 (0x06 ∷ [])) (control_short 0x74 0x06) (roomy b call h) ∙ ended_bytes,
           ),
         )
 
-    of_packet : (sector m : ℕ) (footer : Footer) → First (Keeps (Write sector m footer)) (after_frame b call (Write sector m footer))
+    of_packet : (sector m : ℕ) (footer : Footer) → First (Keeps (Some (Write sector m footer))) (after_frame b call (Some (Write sector m footer)))
     of_packet sector m footer =
         skips 2 refl
         (first (λ _. inl open_for)
@@ -134,10 +135,10 @@ module _ (address : List ℕ) (b : Board) (open_for : OpenFor address b) where
     datagram-keeps =
         came b call (Keeps (read_of call.datagram)) (λ _. inl open_for) (λ _ _. inl open_for) (λ e h. by (read_of call.datagram) e h)
       where
-        by : (r : Read) → is_fault r ≡ false → Heard b call → First (Keeps r) (after_frame b call r)
-        by Fault e h = absurd (false≢true (sym e))
-        by (Control code m) e h = of_control code m h
-        by (Write sector m footer) e h = of_packet sector m footer
+        by : (r : Option Frame) → is_fault r ≡ false → Heard b call → First (Keeps r) (after_frame b call r)
+        by None e h = absurd (false≢true (sym e))
+        by (Some (Control code m)) e h = of_control code m h
+        by (Some (Write sector m footer)) e h = of_packet sector m footer
 
 pub keeps_open : (address : List ℕ) (b : Board) (i : Input) → OpenFor address b → OpenFor address (step_machine b i).board ⊎ Leaves step_machine address b i
 keeps_open address b Initiate o = inl (initiate_keeps address b o)
@@ -200,7 +201,7 @@ module _ (b : Board) (call : LentCall) (c : ℕ) (Q : Board → Type 0) (error :
         by true t = f t
         by false t = another (control_frame code (0x06 ∷ [])) (control_short code 0x06) (other_code code (0x06 ∷ []) t) e
 
-    of-command : (code m : ℕ) → First Tells (after_frame b call (Control code m))
+    of-command : (code m : ℕ) → First Tells (after_frame b call (Some (Control code m)))
     of-command code m =
         let x : Client = b.client in
         first (λ _ e. mistaken e)
@@ -239,7 +240,7 @@ module _ (b : Board) (call : LentCall) (c : ℕ) (Q : Board → Type 0) (error :
         first (λ _ e. another (control_frame 0x75 (0x1E ∷ [])) (control_short 0x75 0x1E) (other_code 0x75 (0x1E ∷ []) ended) e)
         (λ _. last)))))))))))))))
 
-    of-write : (sector m : ℕ) (footer : Footer) → First Tells (after_frame b call (Write sector m footer))
+    of-write : (sector m : ℕ) (footer : Footer) → First Tells (after_frame b call (Some (Write sector m footer)))
     of-write sector m footer =
         skips 2 refl
         (first (λ _ e. none_said sector 0x15 0x15 0 e)
@@ -261,10 +262,10 @@ module _ (b : Board) (call : LentCall) (c : ℕ) (Q : Board → Type 0) (error :
       came b call Tells (λ _ e. absurd (false≢true e))
       (λ _ h e. another (roomy b call h) frame_error (omega (arith, length_error)) (and_false (eqb 0xE0 c)) e) (λ f h. by (read_of call.datagram) f h)
     where
-      by : (r : Read) → is_fault r ≡ false → Heard b call → First Tells (after_frame b call r)
-      by Fault f h = absurd (false≢true (sym f))
-      by (Control code m) f h = of-command (roomy b call h) code m
-      by (Write sector m footer) f h = of-write (roomy b call h) sector m footer
+      by : (r : Option Frame) → is_fault r ≡ false → Heard b call → First Tells (after_frame b call r)
+      by None f h = absurd (false≢true (sym f))
+      by (Some (Control code m)) f h = of-command (roomy b call h) code m
+      by (Some (Write sector m footer)) f h = of-write (roomy b call h) sector m footer
 
 -- ---- nobody while no mode is open
 

@@ -1,6 +1,7 @@
 -- What a board does with the requests of a night, whatever is lent with them, and with its host's commands: a session that shows nothing but sectors of the
 -- image stays one, and what an answer says to the night sender is so.
 -- Assumes nothing.
+use Rattle.std.specs.Prelude.{Option, Some}
 use mathlib.Core.Path.{◌≡◌, refl, sym, ap, subst, ◌∙◌}
 use mathlib.Core.Logic.{◌⊎◌, inl, inr}
 use mathlib.Core.Bool.{Bool, true, false, not, ◌&&◌, ◌||◌, or-true, false≢true}
@@ -22,8 +23,8 @@ use Rattle.frame.specs.Frame.{framed, control_frame, write_frame}
 use Rattle.frame.specs.Read.{read_of, data_in}
 use Rattle.frame.specs.declared.read.Footer.{Footer}
 use Rattle.frame.specs.declared.read.Footer.TheVariants.{End}
-use Rattle.frame.specs.declared.read.Read.{Read}
-use Rattle.frame.specs.declared.read.Read.TheVariants.{Control, Write}
+use Rattle.frame.specs.declared.read.Frame.{Frame}
+use Rattle.frame.specs.declared.read.Frame.TheVariants.{Control, Write}
 use Rattle.flash.specs.Bank.{with_sector, blank_sector}
 use Rattle.flash.specs.Sector.{padded_of}
 use Rattle.flash.proofs.Blanks.{blank_whole, sector_blanks}
@@ -234,7 +235,7 @@ other_stored : (s r w crc : ℕ) → (eqb r 0x06 && (eqb w 0x06 || eqb w 0x1D)) 
 unfolding write_frame framed bytes_of
 other_stored s r w crc e = e
 
-stored_shows : (n : ℕ) (g datagram : List ℕ) (s w crc : ℕ) (footer : Footer) → Accepted w → read_of datagram ≡ Write s 512 footer
+stored_shows : (n : ℕ) (g datagram : List ℕ) (s w crc : ℕ) (footer : Footer) → Accepted w → read_of datagram ≡ Some (Write s 512 footer)
     → exchanged n g datagram (write_frame s (written_bytes 0x06 w crc) End) ≡ with_sector g s (padded_of (data_in datagram))
 unfolding answer_bytes
 stored_shows n g datagram s w crc footer a e = rw (written_begin s 0x06 w crc, written_stored s w crc a, e)
@@ -362,23 +363,23 @@ module _ (image : List ℕ) (bank : Bank) (n : ℕ) (P : List ℕ → Type 0) wh
     abbrev Arrived : Name → Type 0
     Arrived k = Moves image bank n P k b g (step_machine b (Datagram call)) (shown k b g call (step_machine b (Datagram call)))
 
-    by_rows : (k : Name) (r : Read) → read_of call.datagram ≡ r → is_fault r ≡ false
+    by_rows : (k : Name) (r : Option Frame) → read_of call.datagram ≡ r → is_fault r ≡ false
         → (Heard b call → First (Fine k b g call) (after_frame b call r)) → Arrived k
     by_rows k r e f rows =
         came b call (Fine k b g call) (refused-fine k b g call) (λ t _. absurd (false≢true (sym (ap is_fault e ∙ f) ∙ t)))
-        (λ _ h. subst (λ (x : Read). First (Fine k b g call) (after_frame b call x)) (sym e) (rows h)) refl
+        (λ _ h. subst (λ (x : Option Frame). First (Fine k b g call) (after_frame b call x)) (sym e) (rows h)) refl
 
     -- a control frame: from a stranger, and out of its state, it is answered 15, and then come the rows behind the state
-    by-control : (k : Name) (c : Command) (code m : ℕ) → read_of call.datagram ≡ Control code m → no_request (Control code m) ≡ false
-        → wrong_length (Control code m) ≡ false → negative_response (Control code m) ≡ control_frame (response_code c) (0x15 ∷ [])
-        → (Heard b call → from_stranger b.client call.address ≡ false → wrong_state b.client.state (Control code m) ≡ false
-        → First (Fine k b g call) (drop 4 (after_frame b call (Control code m))))
+    by-control : (k : Name) (c : Command) (code m : ℕ) → read_of call.datagram ≡ Some (Control code m) → no_request (Some (Control code m)) ≡ false
+        → wrong_length (Some (Control code m)) ≡ false → negative_response (Some (Control code m)) ≡ control_frame (response_code c) (0x15 ∷ [])
+        → (Heard b call → from_stranger b.client call.address ≡ false → wrong_state b.client.state (Some (Control code m)) ≡ false
+        → First (Fine k b g call) (drop 4 (after_frame b call (Some (Control code m)))))
         → Arrived k
     unfolding may_carry added_of
     by-control k c code m e n l r rows =
-        by_rows k (Control code m) e refl
+        by_rows k (Some (Control code m)) e refl
         (λ h.
-        let declined : Fine k b g call (answered b call (negative_response (Control code m))) =
+        let declined : Fine k b g call (answered b call (negative_response (Some (Control code m)))) =
         subst (λ (x : List ℕ). Fine k b g call (answered b call x)) (sym r)
         (answered-fine k b g call (roomy b call h) (control_frame (response_code c) (0x15 ∷ [])) (control_short (response_code c) 0x15)
         (declined_begin (response_code c)) (declined_stored (response_code c)) (plain_idle c 0x15 refl refl (declined_plain c))) in
@@ -524,7 +525,7 @@ module _ (image : List ℕ) (bank : Bank) (n : ℕ) (P : List ℕ → Type 0) wh
     full = sector_length image n by_sectors k sent.low sent.high
 
     module _ (b : Board) (g : List ℕ) (call : LentCall) (brings : call.datagram ≡ packet_frame image n p) where
-      pub reads : read_of call.datagram ≡ Write k 512 (footer_of (packet_count image n) p)
+      pub reads : read_of call.datagram ≡ Some (Write k 512 (footer_of (packet_count image n) p))
       reads = ap read_of brings ∙ sym (packet_read image n p good by_sectors there)
 
       pub padded_are : padded_of (data_in call.datagram) ≡ sector_of image k
@@ -559,10 +560,10 @@ module _ (image : List ℕ) (bank : Bank) (n : ℕ) (P : List ℕ → Type 0) wh
             by (no ne) = others s l u ne ∙ m
 
       stored-fine : 14 ≤ length call.buffer → b.client.state ≡ state.Write
-          → Fine (Packet p) b g call (packet_stored b call (Write k 512 (footer_of (packet_count image n) p)))
+          → Fine (Packet p) b g call (packet_stored b call (Some (Write k 512 (footer_of (packet_count image n) p))))
       unfolding may_carry repeats_of crc_fits stored_of
       stored-fine room w e =
-          let o : Outcome = packet_stored b call (Write k 512 (footer_of (packet_count image n) p)) in
+          let o : Outcome = packet_stored b call (Some (Write k 512 (footer_of (packet_count image n) p))) in
           let bytes : List ℕ = data_in call.datagram in
           let already : Bool = same_of (sector_of (lent_target b call) k) (padded_of bytes) in
           let result : ℕ = store_result (blank_of bytes) already in
@@ -596,7 +597,7 @@ module _ (image : List ℕ) (bank : Bank) (n : ℕ) (P : List ℕ → Type 0) wh
       pub packet-moves : Moves image bank n P (Packet p) b g (step_machine b (Datagram call)) (shown (Packet p) b g call (step_machine b (Datagram call)))
       unfolding answer_bytes
       packet-moves =
-          by_rows b g call (Packet p) (Write k 512 (footer_of (packet_count image n) p)) reads refl
+          by_rows b g call (Packet p) (Some (Write k 512 (footer_of (packet_count image n) p))) reads refl
           (λ h.
           let room = roomy b call h in
           let declined =

@@ -1,5 +1,6 @@
 -- The night among strangers: while its mode is open nobody else changes anything, and once the mode was left no request of its own opens it again.
 -- Assumes nothing.
+use Rattle.std.specs.Prelude.{Option, Some, None}
 use mathlib.Core.Path.{◌≡◌, refl, sym, ap, subst, ◌∙◌}
 use mathlib.Core.Logic.{◌⊎◌, inl, inr}
 use mathlib.Core.Bool.{true, false, not, false≢true}
@@ -9,8 +10,8 @@ use borrow.Author.Tests.{eqb-true, not-false}
 use Rattle.frame.specs.Frame.{control_frame}
 use Rattle.frame.specs.Read.{read_of}
 use Rattle.frame.specs.declared.read.Footer.{Footer}
-use Rattle.frame.specs.declared.read.Read.{Read}
-use Rattle.frame.specs.declared.read.Read.TheVariants.{Fault, Control, Write}
+use Rattle.frame.specs.declared.read.Frame.{Frame}
+use Rattle.frame.specs.declared.read.Frame.TheVariants.{Control, Write}
 use Rattle.layout.specs.declared.Bank.{Bank}
 use Rattle.sender.specs.declared.request.Request.TheVariants as request
 use Rattle.sender.specs.Request.{request_frame}
@@ -61,10 +62,10 @@ module _ (b : Board) (control : b.client.state ≡ state.Control) where
       (first (λ _. inl refl) (λ _. first (λ _. inl refl) (λ _. first (λ _. inr refl) (λ _. last))))
 
   module _ (call : LentCall) where
-    by_read : (P : Outcome → Type 0) (code : ℕ) → read_of call.datagram ≡ Control code 0 → ((number : ℕ) → P (refused b call.buffer number))
-        → (Heard b call → First P (after_frame b call (Control code 0))) → P (step_machine b (Datagram call))
+    by_read : (P : Outcome → Type 0) (code : ℕ) → read_of call.datagram ≡ Some (Control code 0) → ((number : ℕ) → P (refused b call.buffer number))
+        → (Heard b call → First P (after_frame b call (Some (Control code 0)))) → P (step_machine b (Datagram call))
     by_read P code e r rows =
-        came b call P r (λ t _. absurd (false≢true (sym (ap is_fault e) ∙ t))) (λ _ h. subst (λ (x : Read). First P (after_frame b call x)) (sym e) (rows h))
+        came b call P r (λ t _. absurd (false≢true (sym (ap is_fault e) ∙ t))) (λ _ h. subst (λ (x : Option Frame). First P (after_frame b call x)) (sym e) (rows h))
 
     write-end-stays : call.datagram ≡ request_frame request.WriteEnd → (step_machine b (Datagram call)).board ≡ b
     write-end-stays e =
@@ -97,7 +98,7 @@ module _ (address : List ℕ) (b : Board) (call : LentCall) (strange : call.addr
   not_ours : from_stranger b.client call.address ≡ false → is_open b.client.state ≡ true → b.client.opener ≡ address → ⊥
   not_ours f s e = strange (own_mode b.client call.address f s ∙ e)
 
-  of_control : (code m : ℕ) → First OursThen (after_frame b call (Control code m))
+  of_control : (code m : ℕ) → First OursThen (after_frame b call (Some (Control code m)))
   of_control code m =
       first (λ _ _. refl)
       (λ _.
@@ -130,7 +131,7 @@ module _ (address : List ℕ) (b : Board) (call : LentCall) (strange : call.addr
       first (λ _ w. absurd (not_write state.Control refl w.0))
       (λ _. first (λ _ w. absurd (not_write state.Control refl w.0)) (λ _. last)))))))))))))))
 
-  of_packet : (sector m : ℕ) (footer : Footer) → First OursThen (after_frame b call (Write sector m footer))
+  of_packet : (sector m : ℕ) (footer : Footer) → First OursThen (after_frame b call (Some (Write sector m footer)))
   of_packet sector m footer =
       skips 2 refl
       (first (λ _ _. refl)
@@ -147,10 +148,10 @@ module _ (address : List ℕ) (b : Board) (call : LentCall) (strange : call.addr
   pub no_session_of_ours : OursThen (step_machine b (Datagram call))
   no_session_of_ours = came b call OursThen (λ _ _. refl) (λ _ _ _. refl) (λ e _. by (read_of call.datagram) e)
     where
-      by : (r : Read) → is_fault r ≡ false → First OursThen (after_frame b call r)
-      by Fault e = absurd (false≢true (sym e))
-      by (Control code m) e = of_control code m
-      by (Write sector m footer) e = of_packet sector m footer
+      by : (r : Option Frame) → is_fault r ≡ false → First OursThen (after_frame b call r)
+      by None e = absurd (false≢true (sym e))
+      by (Some (Control code m)) e = of_control code m
+      by (Some (Write sector m footer)) e = of_packet sector m footer
 
 -- ---- what is watched from the write end's answer on
 

@@ -1,5 +1,6 @@
 -- The sender's packets are as asked, and a sender that invents their number is shut out.
 -- Assumes nothing.
+use Rattle.std.specs.Prelude.{Option, Some, None}
 use mathlib.Core.Path.{◌≡◌, sym, ap, ap₂, ◌∙◌}
 use mathlib.Core.Bool.{true, ◌&&◌}
 use mathlib.Core.List.{List}
@@ -12,8 +13,8 @@ use Rattle.buffer.specs.Place.{front_of}
 use Rattle.buffer.proofs.Bools.{and_left, and_right, and_both}
 use Rattle.buffer.proofs.Places.{front_take, front_drop}
 use Rattle.frame.specs.Read.{read_of, data_in}
-use Rattle.frame.specs.declared.read.Read.{Read}
-use Rattle.frame.specs.declared.read.Read.TheVariants.{Fault, Control, Write}
+use Rattle.frame.specs.declared.read.Frame.{Frame as ReadFrame}
+use Rattle.frame.specs.declared.read.Frame.TheVariants.{Control, Write}
 use Rattle.frame.proofs.Writing.{length_write}
 use Rattle.layout.specs.Layout.{good_n, sector_of}
 use Rattle.layout.specs.Said.{Said, value}
@@ -86,10 +87,10 @@ one_inventor img n p q before h k = rw (lt-ltb p (packet_count img n) h, lt-ltb 
 same_size : {said : Said} {s t : ℕ} → said ≡ value s → said ≡ value t → s ≡ t
 same_size p q = cc
 
-sector_in : Read → ℕ
-sector_in Fault = 0
-sector_in (Control code n) = 0
-sector_in (Write sector m footer) = sector
+sector_in : Option ReadFrame → ℕ
+sector_in None = 0
+sector_in (Some (Control code n)) = 0
+sector_in (Some (Write sector m footer)) = sector
 
 pub no_inventor : (s : Maker) → InventsNumber s → MeetsPackets s → ⊥
 unfolding sector_in

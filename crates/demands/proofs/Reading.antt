@@ -1,10 +1,10 @@
 -- Whatever a board answers, the sender's reader reads: row by row of the table of demand 1.
 -- Assumes nothing.
+use Rattle.std.specs.Prelude.{Some, None, Option}
 use mathlib.Core.Path.{◌≡◌, refl, sym, ap, subst, ◌∙◌}
 use mathlib.Core.Logic.{◌⊎◌, inl, inr}
 use mathlib.Core.Bool.{Bool, true, false, cond, or-true, false≢true}
 use mathlib.Core.List.{List, [], ◌∷◌}
-use mathlib.Core.Option.{Option, none, some}
 use Prim.Native.Nat.{ℕ, suc, ◌^◌, ◌≤◌, ◌<◌}
 use native.Mathlib.Omega.{arith}
 use lib.Dec.{eqb}
@@ -20,8 +20,8 @@ use Rattle.frame.specs.Frame.{control_frame, write_frame, frame_error}
 use Rattle.frame.specs.Read.{read_of, data_in}
 use Rattle.frame.specs.declared.read.Footer.{Footer}
 use Rattle.frame.specs.declared.read.Footer.TheVariants.{End}
-use Rattle.frame.specs.declared.read.Read.{Read}
-use Rattle.frame.specs.declared.read.Read.TheVariants.{Fault, Control, Write}
+use Rattle.frame.specs.declared.read.Frame.{Frame}
+use Rattle.frame.specs.declared.read.Frame.TheVariants.{Control, Write}
 use Rattle.frame.proofs.RoundTrip.{error_frame}
 use Rattle.frame.proofs.Writing.{length_error}
 use Rattle.frame.proofs.Told.{Told, told}
@@ -102,7 +102,7 @@ packet_stored sector write crc s c (inl e) = rw e (written sector 0x06 0x06 crc 
 packet_stored sector write crc s c (inr e) = rw e (written sector 0x06 0x1D crc s c refl refl refl (or-true (eqb crc 0)))
 
 -- the sector number of a datagram has two bytes
-small : (d : List ℕ) → ((i : ℕ) → byte_at d i < 256) → (sector m : ℕ) (footer : Footer) → read_of d ≡ Write sector m footer → sector < 65536
+small : (d : List ℕ) → ((i : ℕ) → byte_at d i < 256) → (sector m : ℕ) (footer : Footer) → read_of d ≡ Some (Write sector m footer) → sector < 65536
 small d bytes sector m footer e =
     let w = subst (Told d) e (told d) in
     let long = w.whole in
@@ -118,17 +118,17 @@ data Every (P : Outcome → Type 0) : List Row → Type 0 where
   every : {r : Row} {rows : List Row} → (r.when ≡ true → P r.comes) → Every P rows → Every P (r ∷ rows)
 
 is_some : Option Outcome → Bool
-is_some none = false
-is_some (some o) = true
+is_some None = false
+is_some (Some o) = true
 
-first_of_lem : (P : Outcome → Type 0) (rows : List Row) (o : Outcome) → Every P rows → first_of rows ≡ some o → P o
+first_of_lem : (P : Outcome → Type 0) (rows : List Row) (o : Outcome) → Every P rows → first_of rows ≡ Some o → P o
 unfolding is_some
 first_of_lem P [] o last e = absurd (false≢true (ap is_some e))
 first_of_lem P (r ∷ rows) o (every h hs) e = by r.when refl (first_of_lem P rows o hs)
   where
-    by : (t : Bool) → r.when ≡ t → (first_of rows ≡ some o → P o) → P o
-    by true t rest = subst P (ap (given o) (sym (ap (λ (x : Bool). cond x (some r.comes) (first_of rows)) t) ∙ e)) (h t)
-    by false t rest = rest (sym (ap (λ (x : Bool). cond x (some r.comes) (first_of rows)) t) ∙ e)
+    by : (t : Bool) → r.when ≡ t → (first_of rows ≡ Some o → P o) → P o
+    by true t rest = subst P (ap (given o) (sym (ap (λ (x : Bool). cond x (Some r.comes) (first_of rows)) t) ∙ e)) (h t)
+    by false t rest = rest (sym (ap (λ (x : Bool). cond x (Some r.comes) (first_of rows)) t) ∙ e)
 
 -- a row whose test does not hold
 never : {P : Outcome → Type 0} {r : Row} {rows : List Row} → r.when ≡ false → Every P rows → Every P (r ∷ rows)
@@ -187,7 +187,7 @@ module _ (b : Board) (call : LentCall) (bytes : (i : ℕ) → byte_at call.datag
   parameter_said : Readable (take (length parameter_error) (front_of call.buffer parameter_error))
   parameter_said = says parameter_error (omega arith) errors
 
-  of_control : (code n : ℕ) → Every Back (after_frame b call (Control code n))
+  of_control : (code n : ℕ) → Every Back (after_frame b call (Some (Control code n)))
   of_control code n =
       every (λ _. parameter_said)
       (every (λ _. parameter_said)
@@ -215,7 +215,7 @@ module _ (b : Board) (call : LentCall) (bytes : (i : ℕ) → byte_at call.datag
       declined-said : Readable (take (length (control_frame (response_code code) (0x15 ∷ []))) (front_of call.buffer (control_frame (response_code code) (0x15 ∷ []))))
       declined-said = says (control_frame (response_code code) (0x15 ∷ [])) (control_short (response_code code) 0x15) (declined code)
 
-  of_packet : (sector m : ℕ) (footer : Footer) → sector < 65536 → Every Back (after_frame b call (Write sector m footer))
+  of_packet : (sector m : ℕ) (footer : Footer) → sector < 65536 → Every Back (after_frame b call (Some (Write sector m footer)))
   of_packet sector m footer s =
       let data-bytes : List ℕ = data_in call.datagram in
       let already : Bool = same_of (sector_of (lent_target b call) sector) (padded_of data-bytes) in
@@ -234,10 +234,10 @@ module _ (b : Board) (call : LentCall) (bytes : (i : ℕ) → byte_at call.datag
       (packet_stored sector result (crc_of (padded_of data-bytes)) s (of_lt (padded_of data-bytes)) (accepted (blank_of data-bytes) already)))
       (never refl (never refl (never refl (never refl (never refl (never refl (never refl last))))))))))))))
 
-  of_read : (r : Read) → read_of call.datagram ≡ r → is_fault r ≡ false → Every Back (after_frame b call r)
-  of_read Fault e f = absurd (false≢true (sym f))
-  of_read (Control code n) e f = of_control code n
-  of_read (Write sector m footer) e f = of_packet sector m footer (small call.datagram bytes sector m footer e)
+  of_read : (r : Option Frame) → read_of call.datagram ≡ r → is_fault r ≡ false → Every Back (after_frame b call r)
+  of_read None e f = absurd (false≢true (sym f))
+  of_read (Some (Control code n)) e f = of_control code n
+  of_read (Some (Write sector m footer)) e f = of_packet sector m footer (small call.datagram bytes sector m footer e)
 
 -- ---- a call that is answered
 
@@ -261,7 +261,7 @@ answers_read b call bytes revision zero_number =
     numbered : (k : ℕ) → (step_machine b (Datagram call)).number ≡ suc k → Readable (said (step_machine b (Datagram call)))
     numbered k e = absurd (omega (arith, sym e ∙ zero_number))
 
-    refuses : (k : ℕ) → first_of (call_rows b call) ≡ some (refused b call.buffer (suc k)) → Readable (said (step_machine b (Datagram call)))
+    refuses : (k : ℕ) → first_of (call_rows b call) ≡ Some (refused b call.buffer (suc k)) → Readable (said (step_machine b (Datagram call)))
     refuses k e = numbered k (ap (λ (o : Outcome). o.number) (comes b (Datagram call) (refused b call.buffer (suc k)) e))
 
     by : (g u l c f : Bool) → good_n b.client.fixed.n ≡ g → runs ≡ u → lengths ≡ l → is_closed b.client.state ≡ c

@@ -18,8 +18,8 @@ use Rattle.buffer.proofs.Parts.{part_next}
 use Rattle.frame.specs.Frame.{control_frame, write_frame}
 use Rattle.frame.specs.Read.{read_of, parameters_in, data_in}
 use Rattle.frame.specs.declared.read.Footer.TheVariants.{End, Continued}
-use Rattle.frame.specs.declared.read.Read.{Read}
-use Rattle.frame.specs.declared.read.Read.TheVariants.{Fault, Control, Write}
+use Rattle.frame.specs.declared.read.Frame.{Frame}
+use Rattle.frame.specs.declared.read.Frame.TheVariants.{Control, Write}
 use Rattle.frame.proofs.Parts.{parameters_lie, data_lie}
 use Rattle.frame.proofs.RoundTrip.{control_only, write_only}
 use Rattle.frame.proofs.Told.{Told, told}
@@ -207,16 +207,16 @@ module _ (d : List ℕ) (small : Bytes d) where
           let past : length (take n (drop at d)) ≤ i = omega (arith, length-take n (drop at d)) in
           omega (arith, get_or-eq_default (take n (drop at d)) 0 past)
 
-  gives : (r : Read) → Told d r → Gives d (response_in d r)
+  gives : (r : Option Frame) → Told d r → Gives d (response_in d r)
   unfolding response_in
-  gives Fault t = gives_six d
-  gives (Control code n) t =
-      subst (λ (x : List ℕ). Gives x (response_in d (Control code n))) (sym (control_only d code n t))
+  gives None t = gives_six d
+  gives (Some (Control code n)) t =
+      subst (λ (x : List ℕ). Gives x (response_in d (Some (Control code n)))) (sym (control_only d code n t))
       (any code (parameters_in d) (subst Bytes (parameters_lie d code n t) (part_small n 3)))
-  gives (Write sector m End) t =
-      subst (λ (x : List ℕ). Gives x (response_in d (Write sector m End))) (sym (write_only d sector m End small t))
+  gives (Some (Write sector m End)) t =
+      subst (λ (x : List ℕ). Gives x (response_in d (Some (Write sector m End)))) (sym (write_only d sector m End small t))
       (written sector (data_in d) (subst Bytes (data_lie d sector m End t) (part_small m 5)))
-  gives (Write sector m Continued) t = gives_six d
+  gives (Some (Write sector m Continued)) t = gives_six d
 
 pub responses_meet : MeetsReader response_of
 responses_meet =

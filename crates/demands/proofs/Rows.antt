@@ -1,9 +1,9 @@
 -- What comes of a datagram of the sender's, read off the table of demand 1: the first row whose test holds.
 -- Assumes nothing.
+use Rattle.std.specs.Prelude.{Some, None, Option}
 use mathlib.Core.Path.{◌≡◌, refl, sym, ap, ◌∙◌}
 use mathlib.Core.Bool.{Bool, true, false, not, ◌&&◌, cond}
 use mathlib.Core.List.{List, [], ◌∷◌}
-use mathlib.Core.Option.{Option, none, some}
 use Prim.Native.Nat.{ℕ, ◌-◌}
 use lib.Dec.{eqb}
 use lib.ListN.{length, get_or}
@@ -15,7 +15,7 @@ use Rattle.frame.specs.Frame.{control_frame, frame_error}
 use Rattle.buffer.specs.Number.{number_at}
 use Rattle.frame.specs.Read.{read_of, parameters_in}
 use Rattle.frame.specs.declared.read.Footer.{Footer}
-use Rattle.frame.specs.declared.read.Read.TheVariants.{Fault, Control, Write}
+use Rattle.frame.specs.declared.read.Frame.TheVariants.{Control, Write}
 use Rattle.layout.specs.Layout.{good_n, bank_size, bank_number, other_of}
 use Rattle.layout.specs.Pair.{bank_in}
 use Rattle.client.specs.declared.notice.Kind.TheVariants.{Started, Ended}
@@ -35,10 +35,10 @@ use Rattle.demands.specs.Demand1.{first_of, table_of, is_request, from_stranger,
 use Rattle.demands.proofs.Demand1.{table}
 
 abbrev pub given : Outcome → Option Outcome → Outcome
-given o none = o
-given o (some p) = p
+given o None = o
+given o (Some p) = p
 
-pub comes : (b : Board) (i : Input) (o : Outcome) → first_of (table_of b i) ≡ some o → step_machine b i ≡ o
+pub comes : (b : Board) (i : Input) (o : Outcome) → first_of (table_of b i) ≡ Some o → step_machine b i ≡ o
 comes b i o e = ap (given o) (sym (table b i) ∙ e)
 
 -- from the address that opened the mode
@@ -62,50 +62,50 @@ module _ (b : Board) (call : LentCall) (h : Heard b call) where
   abbrev Own : Type 0
   Own = from_stranger b.client call.address ≡ false
 
-  pub write_start : Own → b.client.state ≡ state.Control → read_of call.datagram ≡ Control 0x40 8 → addresses_good b.client.fixed.n b.client.fixed.running (number_at 4 (parameters_in call.datagram) 0) (number_at 4 (parameters_in call.datagram) 4) ≡ true
+  pub write_start : Own → b.client.state ≡ state.Control → read_of call.datagram ≡ Some (Control 0x40 8) → addresses_good b.client.fixed.n b.client.fixed.running (number_at 4 (parameters_in call.datagram) 0) (number_at 4 (parameters_in call.datagram) 4) ≡ true
       → step_machine b (Datagram call) ≡ changed b call (begun (starting b.client.fixed.running b.client)) no_notice (control_frame 0x70 (0x06 ∷ []))
   write_start o s r a =
       let t : accepted_in b.client.state 0x40 ≡ true = ap (λ (x : State). accepted_in x 0x40) s in
       comes b (Datagram call) _ (rw (h.good, h.runs, h.lengths, h.live, r, o, t, a))
 
-  pub packet : (sector m : ℕ) (footer : Footer) → Own → b.client.state ≡ state.Write → read_of call.datagram ≡ Write sector m footer
+  pub packet : (sector m : ℕ) (footer : Footer) → Own → b.client.state ≡ state.Write → read_of call.datagram ≡ Some (Write sector m footer)
       → values_good b.client.fixed.n sector m ≡ true → is_worn (get_or call.marks (sector - 1) 0) ≡ false
-      → step_machine b (Datagram call) ≡ packet_stored b call (Write sector m footer)
+      → step_machine b (Datagram call) ≡ packet_stored b call (Some (Write sector m footer))
   packet sector m footer o s r v w =
       let t : takes_packets b.client.state ≡ true = ap takes_packets s in
       comes b (Datagram call) _ (rw (h.good, h.runs, h.lengths, h.live, r, o, t, v, w))
 
-  pub write_end : Own → b.client.state ≡ state.Write → read_of call.datagram ≡ Control 0x45 0 → any_worn call.marks ≡ false → fit_of b.client.fixed (swept_target b call) ≡ true
+  pub write_end : Own → b.client.state ≡ state.Write → read_of call.datagram ≡ Some (Control 0x45 0) → any_worn call.marks ≡ false → fit_of b.client.fixed (swept_target b call) ≡ true
       → step_machine b (Datagram call) ≡ stored b call (starting (other_of b.client.fixed.running) (ended Good b.client)) (swept_target b call) (control_frame 0x75 (0x06 ∷ []))
   write_end o s r w f =
       let t : accepted_in b.client.state 0x45 ≡ true = ap (λ (x : State). accepted_in x 0x45) s in
       comes b (Datagram call) _ (rw (h.good, h.runs, h.lengths, h.live, r, o, t, w, f))
 
-  pub write_end_unsound : Own → b.client.state ≡ state.Write → read_of call.datagram ≡ Control 0x45 0 → any_worn call.marks ≡ false → fit_of b.client.fixed (swept_target b call) ≡ false
+  pub write_end_unsound : Own → b.client.state ≡ state.Write → read_of call.datagram ≡ Some (Control 0x45 0) → any_worn call.marks ≡ false → fit_of b.client.fixed (swept_target b call) ≡ false
       → step_machine b (Datagram call) ≡ stored b call (ended Otherwise b.client) (swept_target b call) (control_frame 0x75 (0x1E ∷ []))
   write_end_unsound o s r w f =
       let t : accepted_in b.client.state 0x45 ≡ true = ap (λ (x : State). accepted_in x 0x45) s in
       comes b (Datagram call) _ (rw (h.good, h.runs, h.lengths, h.live, r, o, t, w, f))
 
-  pub mode_start : b.client.state ≡ state.Idle → read_of call.datagram ≡ Control 0x61 0
+  pub mode_start : b.client.state ≡ state.Idle → read_of call.datagram ≡ Some (Control 0x61 0)
       → step_machine b (Datagram call) ≡ changed b call (opened call.address b.client) (notice_with Started 0 call.address) (control_frame 0x71 (0x06 ∷ []))
   mode_start s r =
       let t : accepted_in b.client.state 0x61 ≡ true = ap (λ (x : State). accepted_in x 0x61) s in
       comes b (Datagram call) _ (rw (h.good, h.runs, h.lengths, h.live, r, ap is_open s, t))
 
-  pub mode_end : Own → b.client.state ≡ state.Control → read_of call.datagram ≡ Control 0x64 0
+  pub mode_end : Own → b.client.state ≡ state.Control → read_of call.datagram ≡ Some (Control 0x64 0)
       → step_machine b (Datagram call) ≡ changed b call (mode_ended b.client) (notice_with Ended (latest_number b.client.latest) call.address) (control_frame 0x74 (0x06 ∷ []))
   mode_end o s r =
       let t : accepted_in b.client.state 0x64 ≡ true = ap (λ (x : State). accepted_in x 0x64) s in
       comes b (Datagram call) _ (rw (h.good, h.runs, h.lengths, h.live, r, o, t))
 
-  pub version : Own → b.client.state ≡ state.Control → read_of call.datagram ≡ Control 0x68 0
+  pub version : Own → b.client.state ≡ state.Control → read_of call.datagram ≡ Some (Control 0x68 0)
       → step_machine b (Datagram call) ≡ answered b call (control_frame 0x78 (version_bytes b.client.fixed.major b.client.fixed.minor b.client.fixed.revision))
   version o s r =
       let t : accepted_in b.client.state 0x68 ≡ true = ap (λ (x : State). accepted_in x 0x68) s in
       comes b (Datagram call) _ (rw (h.good, h.runs, h.lengths, h.live, r, o, t))
 
-  pub bank_told : Own → b.client.state ≡ state.Control → read_of call.datagram ≡ Control 0x62 0
+  pub bank_told : Own → b.client.state ≡ state.Control → read_of call.datagram ≡ Some (Control 0x62 0)
       → step_machine b (Datagram call) ≡ answered b call (control_frame 0x72 (0x06 ∷ bank_number (other_of b.client.fixed.running) ∷ []))
   bank_told o s r =
       let t : accepted_in b.client.state 0x62 ≡ true = ap (λ (x : State). accepted_in x 0x62) s in
@@ -119,33 +119,33 @@ module _ (b : Board) (call : LentCall) (h : Heard b call) where
       by true = refl
       by false = refl
 
-  pub mode_start_declined : b.client.state ≡ state.Control → read_of call.datagram ≡ Control 0x61 0
+  pub mode_start_declined : b.client.state ≡ state.Control → read_of call.datagram ≡ Some (Control 0x61 0)
       → step_machine b (Datagram call) ≡ answered b call (control_frame 0x71 (0x15 ∷ []))
   mode_start_declined s r =
       let t : accepted_in b.client.state 0x61 ≡ false = ap (λ (x : State). accepted_in x 0x61) s in
       comes b (Datagram call) _ (rw (h.good, h.runs, h.lengths, h.live, r, t) either)
 
-  pub write_start_declined : b.client.state ≡ state.Write → read_of call.datagram ≡ Control 0x40 8
+  pub write_start_declined : b.client.state ≡ state.Write → read_of call.datagram ≡ Some (Control 0x40 8)
       → step_machine b (Datagram call) ≡ answered b call (control_frame 0x70 (0x15 ∷ []))
   write_start_declined s r =
       let t : accepted_in b.client.state 0x40 ≡ false = ap (λ (x : State). accepted_in x 0x40) s in
       comes b (Datagram call) _ (rw (h.good, h.runs, h.lengths, h.live, r, t) either)
 
-  pub mode_end_declined : b.client.state ≡ state.Idle → read_of call.datagram ≡ Control 0x64 0
+  pub mode_end_declined : b.client.state ≡ state.Idle → read_of call.datagram ≡ Some (Control 0x64 0)
       → step_machine b (Datagram call) ≡ answered b call (control_frame 0x74 (0x15 ∷ []))
   mode_end_declined s r =
       let t : accepted_in b.client.state 0x64 ≡ false = ap (λ (x : State). accepted_in x 0x64) s in
       comes b (Datagram call) _ (rw (h.good, h.runs, h.lengths, h.live, r, ap is_open s, t))
 
   -- refusals
-  pub fault : read_of call.datagram ≡ Fault → step_machine b (Datagram call) ≡ answered b call frame_error
+  pub fault : read_of call.datagram ≡ None → step_machine b (Datagram call) ≡ answered b call frame_error
   fault r = comes b (Datagram call) _ (rw (h.good, h.runs, h.lengths, h.live, r))
 
-  pub no_request_is : (code n : ℕ) → read_of call.datagram ≡ Control code n → is_request code ≡ false
+  pub no_request_is : (code n : ℕ) → read_of call.datagram ≡ Some (Control code n) → is_request code ≡ false
       → step_machine b (Datagram call) ≡ answered b call parameter_error
   no_request_is code n r e = comes b (Datagram call) _ (rw (h.good, h.runs, h.lengths, h.live, r, e))
 
-  pub packet_wrong : (sector m : ℕ) (footer : Footer) → Own → b.client.state ≡ state.Write → read_of call.datagram ≡ Write sector m footer
+  pub packet_wrong : (sector m : ℕ) (footer : Footer) → Own → b.client.state ≡ state.Write → read_of call.datagram ≡ Some (Write sector m footer)
       → values_good b.client.fixed.n sector m ≡ false
       → step_machine b (Datagram call) ≡ answered b call parameter_error
   packet_wrong sector m footer o s r v =

@@ -1,5 +1,6 @@
 -- One gateway at a time: a stranger changes nothing, and an image arrives among strangers.
 -- Assumes nothing.
+use Rattle.std.specs.Prelude.{Option, Some, None}
 use mathlib.Core.Path.{◌≡◌, refl, sym, ap, subst, ◌∙◌}
 use mathlib.Core.Logic.{◌⊎◌, inl, inr}
 use mathlib.Core.Bool.{Bool, true, false, ◌||◌, false≢true}
@@ -14,8 +15,8 @@ use Rattle.buffer.proofs.Comparing.{same_true}
 use Rattle.buffer.proofs.Places.{front_none}
 use Rattle.frame.specs.Frame.{frame_error}
 use Rattle.frame.specs.Read.{read_of}
-use Rattle.frame.specs.declared.read.Read.{Read}
-use Rattle.frame.specs.declared.read.Read.TheVariants.{Fault, Control, Write}
+use Rattle.frame.specs.declared.read.Frame.{Frame}
+use Rattle.frame.specs.declared.read.Frame.TheVariants.{Control, Write}
 use Rattle.frame.proofs.Writing.{length_error}
 use Rattle.layout.specs.Layout.{good_n, bank_size, other_of}
 use Rattle.layout.specs.Pair.{bank_in}
@@ -65,10 +66,10 @@ is_strange address b call o s = by (same_of call.address b.client.opener) refl
     by true t = absurd (s (same_true call.address b.client.opener t ∙ o.opener))
     by false t = rw (o.mode, t)
 
-negative_short : (r : Read) → length (negative_response r) ≤ 14
-negative_short Fault = omega (arith, length_error)
-negative_short (Control code n) = control_short (response_code code) 0x15
-negative_short (Write sector m footer) = written_short sector 0x15 0x15 0
+negative_short : (r : Option Frame) → length (negative_response r) ≤ 14
+negative_short None = omega (arith, length_error)
+negative_short (Some (Control code n)) = control_short (response_code code) 0x15
+negative_short (Some (Write sector m footer)) = written_short sector 0x15 0x15 0
 
 pub open_live : (s : State) → is_open s ≡ true → is_closed s ≡ false
 open_live state.Closed e = absurd (false≢true e)
@@ -77,7 +78,7 @@ open_live state.Control e = refl
 open_live state.Write e = refl
 
 module _ (address : List ℕ) (b : Board) (call : LentCall) (open_for : OpenFor address b) (strange : Strange address call) where
-  abbrev read : Read
+  abbrev read : Option Frame
   read = read_of call.datagram
 
   abbrev runs : Bool

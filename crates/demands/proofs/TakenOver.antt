@@ -15,7 +15,7 @@ use Rattle.buffer.specs.Place.{front_of}
 use Rattle.crc.specs.Crc.{feed, crc_bit, crc_bits, crc_byte, crc_more, crc_of}
 use Rattle.frame.specs.Checksum.{taken_away, checksum_of}
 use Rattle.frame.specs.Read.{checked_at, read_control, read_write, read_of, part_from, parameters_in, data_in}
-use Rattle.frame.specs.Frame.{footer_byte, framed, control_frame, write_frame}
+use Rattle.frame.specs.Frame.{footer_byte, footer_in, framed, control_frame, write_frame}
 use Rattle.flash.specs.Bank.{has_sector, with_sector, at_sector, already_at, swept}
 use Rattle.flash.specs.Sector.{padded_of, fits_sector, written_of, already_of}
 use Rattle.bank.specs.Sound.{header_good, table_fits, table_good, laid_out_good, body_good, all_good, bodies_good, listed_good, contents_good}
@@ -245,8 +245,8 @@ both_end : (seen (last_of night_sender step_machine taken_night) ≡ (Finished, 
     × (seen (last_of night_sender takes_all undone_night) ≡ (GaveUp ModeEnd Tries, Zero))
     × (unanswered takes_all (idle_board 1) (last_of night_sender takes_all undone_night).inputs ≡ true)
 unfolding image idle_board coming good_n whole_length sector_of end_of same_of blank_of number_of bytes_of number_at front_of feed crc_bit crc_bits crc_byte
-    crc_more crc_of taken_away checksum_of checked_at read_control read_write read_of part_from parameters_in data_in footer_byte framed control_frame
-    write_frame has_sector with_sector at_sector already_at swept padded_of fits_sector written_of already_of header_good table_fits table_good laid_out_good
+    crc_more crc_of taken_away checksum_of checked_at read_control read_write read_of part_from parameters_in data_in footer_byte footer_in framed
+    control_frame write_frame has_sector with_sector at_sector already_at swept padded_of fits_sector written_of already_of header_good table_fits table_good laid_out_good
     body_good all_good bodies_good listed_good contents_good blank_good sound_of verdict_of fits_at laid_out blank_outside crc_place table_end entry_at
     entries_from rest_of stretches_of coded_by counted asked_by answer_bytes told_length lent_good any_worn values_good addresses_good plan_start plan_end
     plan_packet plan_control plan_good is_stranger plan_request plan_asked plan_of carried_of take_of beside_of store_of checked_of served_of none_received

@@ -2,8 +2,7 @@
 -- what comes of it, in the paper's order, so that the first row whose test holds decides (01, 'What comes back when it is no', "Order in the
 -- client", and 'The client, step by step'; 02 §3 and §5). And whatever list of inputs comes, N, the version, which bank runs and every byte of that bank stay.
 -- Assumes nothing.
-use Rattle.std.specs.Prelude.{◌≡◌, Bool, true, false, not, ◌&&◌, ◌||◌, cond, List, [], ◌∷◌, ◌++◌, ℕ, ◌-◌, eqb, length, get_or, drop}
-use Rattle.std.proofs.Math.Option.{Option, none, some}
+use Rattle.std.specs.Prelude.{◌≡◌, Bool, true, false, not, ◌&&◌, ◌||◌, cond, List, [], ◌∷◌, ◌++◌, ℕ, ◌-◌, eqb, length, get_or, drop, Some, None, Option}
 use Rattle.buffer.specs.Compare.{same_of, blank_of}
 use Rattle.buffer.specs.Number.{number_at}
 use Rattle.buffer.specs.Place.{front_of}
@@ -11,8 +10,8 @@ use Rattle.crc.specs.Crc.{crc_of}
 use Rattle.frame.specs.Frame.{control_frame, write_frame, frame_error}
 use Rattle.frame.specs.Read.{read_of, parameters_in, data_in}
 use Rattle.frame.specs.declared.read.Footer.TheVariants.{End}
-use Rattle.frame.specs.declared.read.Read.{Read}
-use Rattle.frame.specs.declared.read.Read.TheVariants.{Fault, Control, Write}
+use Rattle.frame.specs.declared.read.Frame.{Frame}
+use Rattle.frame.specs.declared.read.Frame.TheVariants.{Control, Write}
 use Rattle.flash.specs.Bank.{with_sector, swept_of}
 use Rattle.flash.specs.Sector.{padded_of}
 use Rattle.layout.specs.declared.Bank.{Bank}
@@ -44,8 +43,8 @@ row when comes = record { when = when; comes = comes }
 
 -- the first row whose test holds
 abbrev pub first_of : List Row → Option Outcome
-first_of [] = none
-first_of (r ∷ rows) = cond r.when (some r.comes) (first_of rows)
+first_of [] = None
+first_of (r ∷ rows) = cond r.when (Some r.comes) (first_of rows)
 
 -- ---- the table of commands, column by column
 
@@ -79,60 +78,60 @@ takes_packets state.Write = true
 
 -- ---- the tests, of a datagram as it is read
 
-abbrev pub is_fault : Read → Bool
-is_fault Fault = true
-is_fault (Control code n) = false
-is_fault (Write sector m footer) = false
+abbrev pub is_fault : Option Frame → Bool
+is_fault None = true
+is_fault (Some (Control code n)) = false
+is_fault (Some (Write sector m footer)) = false
 
-abbrev pub is_packet : Read → Bool
-is_packet Fault = false
-is_packet (Control code n) = false
-is_packet (Write sector m footer) = true
+abbrev pub is_packet : Option Frame → Bool
+is_packet None = false
+is_packet (Some (Control code n)) = false
+is_packet (Some (Write sector m footer)) = true
 
-abbrev pub is_code : ℕ → Read → Bool
-is_code asked Fault = false
-is_code asked (Control code n) = eqb code asked
-is_code asked (Write sector m footer) = false
+abbrev pub is_code : ℕ → Option Frame → Bool
+is_code asked None = false
+is_code asked (Some (Control code n)) = eqb code asked
+is_code asked (Some (Write sector m footer)) = false
 
-abbrev pub no_request : Read → Bool
-no_request Fault = false
-no_request (Control code n) = not (is_request code)
-no_request (Write sector m footer) = false
+abbrev pub no_request : Option Frame → Bool
+no_request None = false
+no_request (Some (Control code n)) = not (is_request code)
+no_request (Some (Write sector m footer)) = false
 
 -- "parameter length (control)"
-abbrev pub wrong_length : Read → Bool
-wrong_length Fault = false
-wrong_length (Control code n) = not (eqb n (parameter_bytes code))
-wrong_length (Write sector m footer) = false
+abbrev pub wrong_length : Option Frame → Bool
+wrong_length None = false
+wrong_length (Some (Control code n)) = not (eqb n (parameter_bytes code))
+wrong_length (Some (Write sector m footer)) = false
 
 -- "Any other address" than "the address that opened the mode", all 16 bytes of it (02 §5)
 abbrev pub from_stranger : Client → List ℕ → Bool
 from_stranger c address = is_open c.state && not (same_of address c.opener)
 
-abbrev pub wrong_state : State → Read → Bool
-wrong_state s Fault = false
-wrong_state s (Control code n) = not (accepted_in s code)
-wrong_state s (Write sector m footer) = not (takes_packets s)
+abbrev pub wrong_state : State → Option Frame → Bool
+wrong_state s None = false
+wrong_state s (Some (Control code n)) = not (accepted_in s code)
+wrong_state s (Some (Write sector m footer)) = not (takes_packets s)
 
 -- value faults: addresses that are not the target's, a packet's sector, the number of its bytes
-abbrev pub wrong_values : Client → List ℕ → Read → Bool
-wrong_values c datagram Fault = false
-wrong_values c datagram (Control code n) =
+abbrev pub wrong_values : Client → List ℕ → Option Frame → Bool
+wrong_values c datagram None = false
+wrong_values c datagram (Some (Control code n)) =
     eqb code 0x40
     && not (addresses_good c.fixed.n c.fixed.running (number_at 4 (parameters_in datagram) 0) (number_at 4 (parameters_in datagram) 4))
-wrong_values c datagram (Write sector m footer) = not (values_good c.fixed.n sector m)
+wrong_values c datagram (Some (Write sector m footer)) = not (values_good c.fixed.n sector m)
 
 -- the packet's own sector; a write end has a row of its own
-abbrev pub worn_sector : List ℕ → Read → Bool
-worn_sector marks Fault = false
-worn_sector marks (Control code n) = false
-worn_sector marks (Write sector m footer) = is_worn (get_or marks (sector - 1) 0)
+abbrev pub worn_sector : List ℕ → Option Frame → Bool
+worn_sector marks None = false
+worn_sector marks (Some (Control code n)) = false
+worn_sector marks (Some (Write sector m footer)) = is_worn (get_or marks (sector - 1) 0)
 
 -- 15, J11's negative response, "in the command's own response"; of a packet "the write result repeats it", and the CRC field is 0
-abbrev pub negative_response : Read → List ℕ
-negative_response Fault = frame_error
-negative_response (Control code n) = control_frame (response_code code) (0x15 ∷ [])
-negative_response (Write sector m footer) = write_frame sector (written_bytes 0x15 0x15 0) End
+abbrev pub negative_response : Option Frame → List ℕ
+negative_response None = frame_error
+negative_response (Some (Control code n)) = control_frame (response_code code) (0x15 ∷ [])
+negative_response (Some (Write sector m footer)) = write_frame sector (written_bytes 0x15 0x15 0) End
 
 -- "E0 with 05": a code that is no request, and every parameter fault (02 §3)
 abbrev pub parameter_error : List ℕ
@@ -167,20 +166,20 @@ stored b call c target answer =
     }
 
 -- the data and then 0xFF are the sector, which "counts as received", with 06 or 1D and the CRC of the sector
-abbrev pub packet_stored : Board → LentCall → Read → Outcome
-packet_stored b call Fault = answered b call []
-packet_stored b call (Control code n) = answered b call []
-packet_stored b call (Write sector m footer) =
+abbrev pub packet_stored : Board → LentCall → Option Frame → Outcome
+packet_stored b call None = answered b call []
+packet_stored b call (Some (Control code n)) = answered b call []
+packet_stored b call (Some (Write sector m footer)) =
     let bytes : List ℕ = data_in call.datagram in
     let result : ℕ = store_result (blank_of bytes) (same_of (sector_of (lent_target b call) sector) (padded_of bytes)) in
     stored b call (marked sector b.client) (with_sector (lent_target b call) sector (padded_of bytes))
     (write_frame sector (written_bytes 0x06 result (crc_of (padded_of bytes))) End)
 
 -- "response result 06 and write result 1C"
-abbrev pub packet_worn : Board → LentCall → Read → Outcome
-packet_worn b call Fault = answered b call []
-packet_worn b call (Control code n) = answered b call []
-packet_worn b call (Write sector m footer) = answered b call (write_frame sector (written_bytes 0x06 0x1C 0) End)
+abbrev pub packet_worn : Board → LentCall → Option Frame → Outcome
+packet_worn b call None = answered b call []
+packet_worn b call (Some (Control code n)) = answered b call []
+packet_worn b call (Some (Write sector m footer)) = answered b call (write_frame sector (written_bytes 0x06 0x1C 0) End)
 
 -- what was not received since the write start is 0xFF
 abbrev pub swept_target : Board → LentCall → List ℕ
@@ -188,7 +187,7 @@ swept_target b call = swept_of (lent_target b call) b.client.fixed.n b.client.re
 
 -- ---- the rows of a datagram, as it is read
 
-abbrev pub after_frame : Board → LentCall → Read → List Row
+abbrev pub after_frame : Board → LentCall → Option Frame → List Row
 after_frame b call r =
     let c : Client = b.client in
     -- code, parameter length, address, state, values, worn
@@ -248,5 +247,5 @@ pub record Unchanged (before after : Board) : Type 0 where
   pub bytes : running_bank after ≡ running_bank before
 
 pub record Meets1 (m : Machine) : Type 0 where
-  pub table : (b : Board) (i : Input) → first_of (table_of b i) ≡ some (m b i)
+  pub table : (b : Board) (i : Input) → first_of (table_of b i) ≡ Some (m b i)
   pub kept : (b : Board) (is : List Input) → Unchanged b (after m b is)

@@ -35,7 +35,7 @@ use Rattle.buffer.specs.Number.{IsNumber, IsPutNumber}
 use Rattle.buffer.specs.Place.{IsPlace, IsFront}
 use Rattle.crc.specs.Crc.{IsCrcMore, IsCrc32}
 use Rattle.frame.specs.Checksum.{IsChecksum}
-use Rattle.frame.specs.Frame.{IsFooterByte}
+use Rattle.frame.specs.Frame.{IsFooterByte, IsFooterIn}
 use Rattle.frame.specs.Read.{IsRead as IsReadFrame}
 use Rattle.frame.specs.Read.{IsParameters, IsData}
 use Rattle.frame.specs.Write.{IsPutControl, IsPutWrite, IsPutError}
@@ -92,6 +92,7 @@ pub record Determined : Type 0 where
   pub parameters_in : (datagram : List ℕ) → Once (IsParameters datagram)
   pub data_in : (datagram : List ℕ) → Once (IsData datagram)
   pub footer_byte : (footer : Footer) → Once (IsFooterByte footer)
+  pub footer_in : (byte : ℕ) → Once (IsFooterIn byte)
   pub put_control : (before : List ℕ) (code : ℕ) (parameters : List ℕ) → Once (IsPutControl before code parameters)
   pub put_write : (before : List ℕ) (sector : ℕ) (bytes : List ℕ) (footer : Footer) → Once (IsPutWrite before sector bytes footer)
   pub put_error : (before : List ℕ) → Once (IsPutError before)

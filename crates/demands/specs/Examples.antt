@@ -1,13 +1,13 @@
 -- The paper's worked examples 1 to 11 as one table with one claim (01, 'Worked examples to hold'; 7 and 8 as 02 §3 reads them).
 -- Assumes nothing.
-use Rattle.std.specs.Prelude.{◌≡◌, Bool, true, false, not, ◌&&◌, List, [], ◌∷◌, ◌++◌, ℕ, ◌+◌, ◌*◌, ◌%◌, ◌≤◌, eqb, leb, length, replicate}
+use Rattle.std.specs.Prelude.{◌≡◌, Bool, true, false, not, ◌&&◌, List, [], ◌∷◌, ◌++◌, ℕ, ◌+◌, ◌*◌, ◌%◌, ◌≤◌, eqb, leb, length, replicate, Some}
 use Rattle.buffer.specs.Number.{byte_at}
 use Rattle.crc.specs.Crc.{crc_of}
 use Rattle.frame.specs.Frame.{write_frame}
 use Rattle.frame.specs.Read.{read_of, data_in}
 use Rattle.frame.specs.declared.read.Footer.{Footer}
 use Rattle.frame.specs.declared.read.Footer.TheVariants.{End}
-use Rattle.frame.specs.declared.read.Read.TheVariants.{Control, Write}
+use Rattle.frame.specs.declared.read.Frame.TheVariants.{Control, Write}
 use Rattle.flash.specs.Sector.{padded_of}
 use Rattle.layout.specs.declared.Bank.{Bank}
 use Rattle.layout.specs.declared.Bank.TheVariants.{One}
@@ -59,7 +59,7 @@ pub record Brings (b : Board) (call : LentCall) (sector m : ℕ) : Type 0 where
   pub sender : call.address ≡ b.client.opener
   pub writing : b.client.state ≡ state.Write
   pub footer : Footer
-  pub reads : read_of call.datagram ≡ Write sector m footer
+  pub reads : read_of call.datagram ≡ Some (Write sector m footer)
 
 -- taken with 06 or 1D, or refused
 abbrev pub PacketTaken : Bool → Board → LentCall → Type 0
@@ -77,7 +77,7 @@ Holds (Answers states datagram answer) =
     (b : Board) (call : LentCall) → Calls b call → states b.client.state ≡ true → call.datagram ≡ datagram
     → said (step_machine b (Datagram call)) ≡ answer
 Holds (Codes states code answer) =
-    (b : Board) (call : LentCall) (m : ℕ) → Calls b call → states b.client.state ≡ true → read_of call.datagram ≡ Control code m
+    (b : Board) (call : LentCall) (m : ℕ) → Calls b call → states b.client.state ≡ true → read_of call.datagram ≡ Some (Control code m)
     → said (step_machine b (Datagram call)) ≡ answer
 Holds (Sector n sector good) =
     (b : Board) (call : LentCall) (m : ℕ) → b.client.fixed.n ≡ n → good_length m ≡ true → Brings b call sector m → PacketTaken good b call

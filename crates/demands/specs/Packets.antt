@@ -1,9 +1,9 @@
 -- What is asked of a maker of sector packets, whatever it is (01, 'Hex text', "The sender sends, lowest first"; 'What comes back when it is no',
 -- "Sender: 3, 2, 5"). A packet is judged by what its bytes say when they are read as a frame.
 -- Assumes nothing.
-use Rattle.std.specs.Prelude.{◌≡◌, true, false, ◌&&◌, cond, List, ℕ, ◌≤◌, ◌<◌, leb, ltb, length, take, drop}
+use Rattle.std.specs.Prelude.{◌≡◌, true, false, ◌&&◌, cond, List, ℕ, ◌≤◌, ◌<◌, leb, ltb, length, take, drop, Some}
 use Rattle.frame.specs.Read.{read_of, data_in}
-use Rattle.frame.specs.declared.read.Read.TheVariants.{Write}
+use Rattle.frame.specs.declared.read.Frame.TheVariants.{Write}
 use Rattle.layout.specs.Layout.{sector_size, good_n, sector_of}
 use Rattle.layout.specs.Said.{number, value}
 use Rattle.sender.specs.declared.made.Made.{Made}
@@ -31,7 +31,7 @@ Maker = List ℕ → ℕ → ℕ → List ℕ → MadeOut
 pub record Packet (image : List ℕ) (n p : ℕ) (before : List ℕ) (o : MadeOut) : Type 0 where
   pub size : ℕ
   pub made : made_said o.answer ≡ value size
-  pub reads : read_of (take size o.buffer) ≡ Write (packet_sector image n p) sector_size (footer_of (packet_count image n) p)
+  pub reads : read_of (take size o.buffer) ≡ Some (Write (packet_sector image n p) sector_size (footer_of (packet_count image n) p))
   pub bytes : data_in (take size o.buffer) ≡ sector_of image (packet_sector image n p)
   pub rest : drop size o.buffer ≡ drop size before
 

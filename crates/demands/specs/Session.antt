@@ -1,11 +1,11 @@
 -- What a write session shows, told by the bytes that went in and came back alone (01, 'The client, step by step'): "each sector as last
 -- accepted, 0xFF elsewhere".
 -- Assumes nothing.
-use Rattle.std.specs.Prelude.{Bool, ◌&&◌, ◌||◌, cond, List, [], ◌∷◌, ℕ, eqb}
+use Rattle.std.specs.Prelude.{Bool, ◌&&◌, ◌||◌, cond, List, [], ◌∷◌, ℕ, eqb, Option, Some, None}
 use Rattle.buffer.specs.Number.{byte_at}
 use Rattle.frame.specs.Read.{read_of, data_in}
-use Rattle.frame.specs.declared.read.Read.{Read}
-use Rattle.frame.specs.declared.read.Read.TheVariants.{Fault, Control, Write}
+use Rattle.frame.specs.declared.read.Frame.{Frame}
+use Rattle.frame.specs.declared.read.Frame.TheVariants.{Control, Write}
 use Rattle.flash.specs.Bank.{with_sector, blank_sector}
 use Rattle.flash.specs.Sector.{blanks, padded_of}
 use Rattle.layout.specs.Layout.{bank_size}
@@ -27,10 +27,10 @@ abbrev pub ends_session : List ℕ → Bool
 ends_session answer = is_response 0x75 0x06 answer || is_response 0x75 0x1E answer
 
 -- a packet leaves its data in its sector, "followed by 0xFF"
-abbrev pub packet_in : List ℕ → List ℕ → Read → List ℕ
-packet_in image datagram Fault = image
-packet_in image datagram (Control code n) = image
-packet_in image datagram (Write sector m footer) = with_sector image sector (padded_of (data_in datagram))
+abbrev pub packet_in : List ℕ → List ℕ → Option Frame → List ℕ
+packet_in image datagram None = image
+packet_in image datagram (Some (Control code n)) = image
+packet_in image datagram (Some (Write sector m footer)) = with_sector image sector (padded_of (data_in datagram))
 
 abbrev pub all_blank : ℕ → List ℕ
 all_blank n = blanks (bank_size n)
@@ -52,10 +52,10 @@ shown n image (i ∷ is) (o ∷ os) = shown n (noted n image i o) is os
 
 -- ---- one sector of it, told by itself: as last accepted since the session began, else 0xFF
 
-abbrev pub packet_for : ℕ → List ℕ → List ℕ → Read → List ℕ
-packet_for k sector datagram Fault = sector
-packet_for k sector datagram (Control code n) = sector
-packet_for k sector datagram (Write number m footer) = cond (eqb number k) (padded_of (data_in datagram)) sector
+abbrev pub packet_for : ℕ → List ℕ → List ℕ → Option Frame → List ℕ
+packet_for k sector datagram None = sector
+packet_for k sector datagram (Some (Control code n)) = sector
+packet_for k sector datagram (Some (Write number m footer)) = cond (eqb number k) (padded_of (data_in datagram)) sector
 
 abbrev pub next_accepted : ℕ → List ℕ → List ℕ → List ℕ → List ℕ
 next_accepted k sector datagram answer =

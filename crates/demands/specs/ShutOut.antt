@@ -1,11 +1,11 @@
 -- Machines that a demand shuts out (01, 'How much each function must say', "Show that these are shut out").
 -- Assumes nothing.
-use Rattle.std.specs.Prelude.{◌≡◌, Bool, true, false, not, ◌&&◌, ◌||◌, cond, List, [], ◌∷◌, ℕ, ◌<◌, eqb, length, get_or}
+use Rattle.std.specs.Prelude.{◌≡◌, Bool, true, false, not, ◌&&◌, ◌||◌, cond, List, [], ◌∷◌, ℕ, ◌<◌, eqb, length, get_or, Some}
 use Rattle.buffer.specs.Number.{byte_at}
 use Rattle.frame.specs.Frame.{frame_error}
 use Rattle.frame.specs.Read.{read_of}
 use Rattle.frame.specs.declared.read.Footer.{Footer}
-use Rattle.frame.specs.declared.read.Read.TheVariants.{Write}
+use Rattle.frame.specs.declared.read.Frame.TheVariants.{Write}
 use Rattle.sender.specs.declared.request.Request.TheVariants.{WriteEnd}
 use Rattle.sender.specs.Request.{request_frame}
 use Rattle.layout.specs.Layout.{good_n, bank_size, other_of}
@@ -83,7 +83,7 @@ bringing datagram call =
 pub data SameButBytes : List Input → List Input → Type 0 where
   none_alike : SameButBytes [] []
   more_alike : {call : LentCall} {datagram : List ℕ} {is js : List Input} (sector size : ℕ) (footer : Footer)
-      → read_of call.datagram ≡ Write sector size footer → read_of datagram ≡ Write sector size footer → SameButBytes is js
+      → read_of call.datagram ≡ Some (Write sector size footer) → read_of datagram ≡ Some (Write sector size footer) → SameButBytes is js
       → SameButBytes (Datagram call ∷ is) (Datagram (bringing datagram call) ∷ js)
 
 -- a session is begun and its first packet handled: the answers say so

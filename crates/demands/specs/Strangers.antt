@@ -1,13 +1,13 @@
 -- One gateway at a time (02 §5). While the mode is open for an address, whatever comes from other addresses changes nothing, and is refused,
 -- answered E0 as from anyone, or answered 15. So an image that is delivered arrives among strangers as it does without.
 -- Assumes nothing.
-use Rattle.std.specs.Prelude.{◌≡◌, Bool, true, false, ◌&&◌, ◌||◌, cond, List, [], ◌∷◌, ◌⊎◌, ℕ, eqb, length, take}
+use Rattle.std.specs.Prelude.{◌≡◌, Bool, true, false, ◌&&◌, ◌||◌, cond, List, [], ◌∷◌, ◌⊎◌, ℕ, eqb, length, take, Option, Some}
 use Rattle.buffer.specs.Compare.{same_of}
 use Rattle.buffer.specs.Place.{front_of}
 use Rattle.frame.specs.Frame.{frame_error}
 use Rattle.frame.specs.Read.{read_of}
-use Rattle.frame.specs.declared.read.Read.{Read}
-use Rattle.frame.specs.declared.read.Read.TheVariants.{Control}
+use Rattle.frame.specs.declared.read.Frame.{Frame}
+use Rattle.frame.specs.declared.read.Frame.TheVariants.{Control}
 use Rattle.layout.specs.declared.Bank.{Bank}
 use Rattle.layout.specs.Pair.{Banks}
 use Rattle.exchange.specs.State.{is_open}
@@ -31,7 +31,7 @@ Strange address call = call.address ≡ address → ⊥
 -- ---- a stranger changes nothing
 
 -- refused by number 2 or 3; else "E0 answers decided before it go to anyone", for no frame, no request and a wrong parameter length; else 15
-pub data ToldOff (r : Read) (number : ℕ) (answer : List ℕ) : Type 0 where
+pub data ToldOff (r : Option Frame) (number : ℕ) (answer : List ℕ) : Type 0 where
   refused : (number ≡ 2) ⊎ (number ≡ 3) → answer ≡ [] → ToldOff r number answer
   no_frame : number ≡ 0 → is_fault r ≡ true → answer ≡ frame_error → ToldOff r number answer
   no_request_is : number ≡ 0 → is_fault r ≡ false → (no_request r || wrong_length r) ≡ true → answer ≡ parameter_error → ToldOff r number answer
@@ -83,7 +83,7 @@ Meets2Among m =
 
 -- the mode that is open for an address is left: a mode end from there is answered 06, or the host terminates
 pub data Leaves (m : Machine) (address : List ℕ) (b : Board) : Input → Type 0 where
-  mode_ended_lem : {call : LentCall} → call.address ≡ address → read_of call.datagram ≡ Control 0x64 0
+  mode_ended_lem : {call : LentCall} → call.address ≡ address → read_of call.datagram ≡ Some (Control 0x64 0)
       → said (m b (Datagram call)) ≡ 0x01 ∷ 0x02 ∷ 0x74 ∷ 0x06 ∷ 0x84 ∷ 0x03 ∷ []
       → Leaves m address b (Datagram call)
   terminated : (m b Terminate).number ≡ 0 → Leaves m address b Terminate

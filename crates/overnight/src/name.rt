@@ -1,5 +1,5 @@
 // The name of a request, for either output.
-use frame::read::Read;
+use frame::read::Frame;
 use night::name::Name;
 use script::call;
 use script::say::STDOUT_FILENO;
@@ -22,7 +22,7 @@ pub(crate) fn decimal(rt: &impl Env, to: i32, number: usize) {
 
 // The sector of the packet at hand, whose frame fills the buffer.
 fn sector(buffer: &[u8]) -> u16 {
-    if let Read::Write { sector, .. } = frame::read::read_frame(buffer) {
+    if let Some(Frame::Write { sector, .. }) = frame::read::read_frame(buffer) {
         sector
     } else {
         0

@@ -2,7 +2,7 @@
 // many they are.
 #![tactic(auto)]
 
-use frame::read::{Footer, Read};
+use frame::read::{Footer, Frame};
 use hex_text::fault::Refusal;
 use hex_text::read::Answer;
 use layout::{Bank, SECTOR};
@@ -26,13 +26,13 @@ fn say_refused(rt: &impl Env, number: usize) {
 fn say_listed(rt: &impl Env, sector: u16, footer: Footer) {
     say::pair(rt, sector);
     say::text(rt, b" ");
-    say::byte(rt, frame::write::footer_byte(footer));
+    say::byte(rt, u8::from(footer));
     say::end(rt);
 }
 
 // Sector and footer, as the packet is read.
 fn say_packet(rt: &impl Env, packet: &[u8]) {
-    if let Read::Write { sector, footer, .. } = frame::read::read_frame(packet) {
+    if let Some(Frame::Write { sector, footer, .. }) = frame::read::read_frame(packet) {
         say_listed(rt, sector, footer);
     }
 }

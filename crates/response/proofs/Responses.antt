@@ -16,7 +16,7 @@ use Rattle.commands.specs.declared.Command.{Command}
 use Rattle.commands.specs.declared.Command.TheVariants.{ModeStart, BankInfo, VersionInfo, WriteStart, WriteEnd, ModeEnd}
 use Rattle.frame.specs.Read.{read_of, parameters_in, data_in}
 use Rattle.frame.specs.declared.read.Footer.TheVariants.{End, Continued}
-use Rattle.frame.specs.declared.read.Read.TheVariants.{Fault, Control, Write}
+use Rattle.frame.specs.declared.read.Frame.TheVariants.{Control, Write}
 use Rattle.response.specs.declared.read.Response.{Response}
 use Rattle.response.specs.declared.read.Response.TheVariants.{Unreadable, Plain, Error, Written}
 use Rattle.response.specs.Response.{may_carry, added_of, accepted_of, own_of, error_of, control_of, repeats_of, crc_fits, write_of, response_in, response_of}
@@ -150,26 +150,26 @@ module _ (d : List ℕ) where
   response_is : (r : Response) → r ≡ response_of d → IsResponse d r
   response_is r e = record { answered = e; says = ap response_said e ∙ response_says_lem d }
 
-  pub control_in : (code n : ℕ) → Control code n ≡ read_of d → control_of code (parameters_in d) ≡ response_of d
+  pub control_in : (code n : ℕ) → Some (Control code n) ≡ read_of d → control_of code (parameters_in d) ≡ response_of d
   unfolding response_in
   control_in code n e = ap (response_in d) e
 
-  pub write_in : (sector m : ℕ) → Write sector m End ≡ read_of d → write_of sector (data_in d) ≡ response_of d
+  pub write_in : (sector m : ℕ) → Some (Write sector m End) ≡ read_of d → write_of sector (data_in d) ≡ response_of d
   unfolding response_in
   write_in sector m e = ap (response_in d) e
 
-  pub from_fault : Fault ≡ read_of d → IsResponse d Unreadable
+  pub from_fault : None ≡ read_of d → IsResponse d Unreadable
   unfolding response_in
   from_fault e = response_is Unreadable (ap (response_in d) e)
 
-  pub from_control : (code n : ℕ) {parameters : List ℕ} {r : Response} → Control code n ≡ read_of d → parameters ≡ parameters_in d
+  pub from_control : (code n : ℕ) {parameters : List ℕ} {r : Response} → Some (Control code n) ≡ read_of d → parameters ≡ parameters_in d
       → r ≡ control_of code parameters → IsResponse d r
   from_control code n {r = r} e p q = response_is r (q ∙ ap (control_of code) p ∙ control_in code n e)
 
-  pub from_write : (sector m : ℕ) {bytes : List ℕ} {r : Response} → Write sector m End ≡ read_of d → bytes ≡ data_in d → r ≡ write_of sector bytes
+  pub from_write : (sector m : ℕ) {bytes : List ℕ} {r : Response} → Some (Write sector m End) ≡ read_of d → bytes ≡ data_in d → r ≡ write_of sector bytes
       → IsResponse d r
   from_write sector m {r = r} e p q = response_is r (q ∙ ap (write_of sector) p ∙ write_in sector m e)
 
-  pub from_continued : (sector m : ℕ) → Write sector m Continued ≡ read_of d → IsResponse d Unreadable
+  pub from_continued : (sector m : ℕ) → Some (Write sector m Continued) ≡ read_of d → IsResponse d Unreadable
   unfolding response_in
   from_continued sector m e = response_is Unreadable (ap (response_in d) e)

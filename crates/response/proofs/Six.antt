@@ -17,8 +17,8 @@ use Rattle.commands.specs.declared.Command.TheVariants.{ModeStart, BankInfo, Ver
 use Rattle.commands.proofs.Codes.{error_unknown, response_back}
 use Rattle.frame.specs.Read.{read_of, parameters_in, data_in}
 use Rattle.frame.specs.declared.read.Footer.TheVariants.{End, Continued}
-use Rattle.frame.specs.declared.read.Read.{Read}
-use Rattle.frame.specs.declared.read.Read.TheVariants.{Fault, Control, Write}
+use Rattle.frame.specs.declared.read.Frame.{Frame}
+use Rattle.frame.specs.declared.read.Frame.TheVariants.{Control, Write}
 use Rattle.layout.specs.Said.{number, result}
 use Rattle.layout.specs.declared.Bank.TheVariants.{Zero, One}
 use Rattle.response.specs.declared.read.Response.{Response}
@@ -177,29 +177,29 @@ neither_carried r w = by (in_table9 r) (eqb r 0x05) (in_table9 w) (eqb w 0x05)
     by true false true false = refl
     by true false false fives = refl
 
-six_in_lem : (d : List ℕ) (read : Read) → unreadable (response_in d read) ≡ six_in d read
+six_in_lem : (d : List ℕ) (read : Option Frame) → unreadable (response_in d read) ≡ six_in d read
 unfolding response_in six_in write_of
-six_in_lem d Fault = refl
-six_in_lem d (Control code n) =
+six_in_lem d None = refl
+six_in_lem d (Some (Control code n)) =
     let parameters : List ℕ = parameters_in d in
     let result : ℕ = byte_at parameters 0 in
     control_six parameters code
-    ∙ ap (λ (b : Bool). b || not (eqb (length parameters) (added_by (answered_by code) result + 1)) || bank_exceeds d (Control code n))
+    ∙ ap (λ (b : Bool). b || not (eqb (length parameters) (added_by (answered_by code) result + 1)) || bank_exceeds d (Some (Control code n)))
     (not_carried (not (eqb code error_code) && unknown (answered_by code)) (eqb code error_code) result)
     ∙ sym (or-false _)
-six_in_lem d (Write sector m End) =
+six_in_lem d (Some (Write sector m End)) =
     let response : ℕ = byte_at (data_in d) 0 in
     let write : ℕ = byte_at (data_in d) 1 in
     let crc : ℕ = number_at 4 (data_in d) 2 in
     rules (eqb (length (data_in d)) 6) (may_carry false response && may_carry false write) (repeats_of response write)
     (crc_fits response write crc) (Written sector response write crc) refl
-    ∙ ap (λ (b : Bool). b || false || false || rules_broken d (Write sector m End)) (neither_carried response write)
-six_in_lem d (Write sector m Continued) =
+    ∙ ap (λ (b : Bool). b || false || false || rules_broken d (Some (Write sector m End))) (neither_carried response write)
+six_in_lem d (Some (Write sector m Continued)) =
     let response : ℕ = byte_at (data_in d) 0 in
     let write : ℕ = byte_at (data_in d) 1 in
     continued (eqb (length (data_in d)) 6) (may_carry false response && may_carry false write) (repeats_of response write)
     (crc_fits response write (number_at 4 (data_in d) 2))
-    ∙ ap (λ (b : Bool). b || false || false || rules_broken d (Write sector m Continued)) (neither_carried response write)
+    ∙ ap (λ (b : Bool). b || false || false || rules_broken d (Some (Write sector m Continued))) (neither_carried response write)
 
 pub six_exactly : (d : List ℕ) → unreadable (response_of d) ≡ six_of d
 six_exactly d = six_in_lem d (read_of d)
@@ -254,12 +254,12 @@ write_says sector bytes =
     (λ _. refl))
     (λ _. refl)
 
-says_in : (d : List ℕ) (read : Read) → Says (result_in d read) (response_in d read)
+says_in : (d : List ℕ) (read : Option Frame) → Says (result_in d read) (response_in d read)
 unfolding response_in
-says_in d Fault = refl
-says_in d (Control code n) = control_says (parameters_in d) code
-says_in d (Write sector m End) = write_says sector (data_in d)
-says_in d (Write sector m Continued) = refl
+says_in d None = refl
+says_in d (Some (Control code n)) = control_says (parameters_in d) code
+says_in d (Some (Write sector m End)) = write_says sector (data_in d)
+says_in d (Some (Write sector m Continued)) = refl
 
 pub response_says_lem : (d : List ℕ) → response_said (response_of d) ≡ response_says d
 response_says_lem d = says_in d (read_of d) ∙ ap (λ (b : Bool). cond b (number 6) (result (result_in d (read_of d)))) (six_exactly d)

@@ -7,8 +7,8 @@ use Rattle.commands.specs.declared.Command.{Command}
 use Rattle.commands.specs.declared.Command.TheVariants.{ModeStart, BankInfo, VersionInfo, WriteStart, WriteEnd, ModeEnd}
 use Rattle.frame.specs.Read.{read_of, parameters_in, data_in}
 use Rattle.frame.specs.declared.read.Footer.TheVariants.{End, Continued}
-use Rattle.frame.specs.declared.read.Read.{Read}
-use Rattle.frame.specs.declared.read.Read.TheVariants.{Fault, Control, Write}
+use Rattle.frame.specs.declared.read.Frame.{Frame}
+use Rattle.frame.specs.declared.read.Frame.TheVariants.{Control, Write}
 use Rattle.layout.specs.declared.Bank.TheVariants.{Zero, One}
 use Rattle.response.specs.declared.read.Response.{Response}
 use Rattle.response.specs.declared.read.Response.TheVariants.{Unreadable, Plain, Error, Target, Firmware, Written}
@@ -88,11 +88,11 @@ write_of sector bytes =
     Unreadable
 
 -- a frame that was read, with what the datagram hands back; a write response has "footer `03`"
-unfoldable pub response_in : List ℕ → Read → Response
-response_in d Fault = Unreadable
-response_in d (Control code n) = control_of code (parameters_in d)
-response_in d (Write sector m End) = write_of sector (data_in d)
-response_in d (Write sector m Continued) = Unreadable
+unfoldable pub response_in : List ℕ → Option Frame → Response
+response_in d None = Unreadable
+response_in d (Some (Control code n)) = control_of code (parameters_in d)
+response_in d (Some (Write sector m End)) = write_of sector (data_in d)
+response_in d (Some (Write sector m Continued)) = Unreadable
 
 abbrev pub response_of : List ℕ → Response
 response_of d = response_in d (read_of d)

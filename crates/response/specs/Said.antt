@@ -1,10 +1,10 @@
 -- What a response says, in the paper's numbers, and the contract of its reader.
 -- Assumes nothing.
-use Rattle.std.specs.Prelude.{◌≡◌, cond, List, ℕ}
+use Rattle.std.specs.Prelude.{◌≡◌, cond, List, ℕ, Option, Some, None}
 use Rattle.buffer.specs.Number.{byte_at}
 use Rattle.frame.specs.Read.{read_of, parameters_in, data_in}
-use Rattle.frame.specs.declared.read.Read.{Read}
-use Rattle.frame.specs.declared.read.Read.TheVariants.{Fault, Control, Write}
+use Rattle.frame.specs.declared.read.Frame.{Frame}
+use Rattle.frame.specs.declared.read.Frame.TheVariants.{Control, Write}
 use Rattle.layout.specs.Said.{Said, number, result, code}
 use Rattle.response.specs.declared.read.Response.{Response}
 use Rattle.response.specs.declared.read.Response.TheVariants.{Unreadable, Plain, Error, Target, Firmware, Written}
@@ -24,10 +24,10 @@ abbrev pub IsResponseNumber : Response → ℕ → Type 0
 IsResponseNumber response r = r ≡ code (response_said response)
 
 -- the result stands first
-abbrev pub result_in : List ℕ → Read → ℕ
-result_in d Fault = 0
-result_in d (Control code n) = byte_at (parameters_in d) 0
-result_in d (Write sector m footer) = byte_at (data_in d) 0
+abbrev pub result_in : List ℕ → Option Frame → ℕ
+result_in d None = 0
+result_in d (Some (Control code n)) = byte_at (parameters_in d) 0
+result_in d (Some (Write sector m footer)) = byte_at (data_in d) 0
 
 -- 6 where one of its causes holds, and else the result
 abbrev pub response_says : List ℕ → Said

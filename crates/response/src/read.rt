@@ -5,7 +5,7 @@ ghost use Rattle.response.specs.Response.{repeats_of, stored_of, crc_fits, write
 ghost use Rattle.response.specs.Said.{IsResponseNumber, IsResponse};
 
 use commands::Command;
-use frame::read::{Footer, Read};
+use frame::read::{Footer, Frame};
 use layout::Bank;
 
 #[derive(Clone, Copy)]
@@ -240,16 +240,9 @@ pub fn read_response(datagram: &[u8]) -> Response
     ensures { IsResponse datagram.now result }
 {
     match frame::read::read_frame(datagram) {
-        Read::Fault => Response::Unreadable,
-        Read::Control {
-            code,
-            parameters: _,
-        } => control(code, frame::read::parameters(datagram)),
-        Read::Write {
-            sector,
-            length: _,
-            footer,
-        } => match footer {
+        None => Response::Unreadable,
+        Some(Frame::Control { code, .. }) => control(code, frame::read::parameters(datagram)),
+        Some(Frame::Write { sector, footer, .. }) => match footer {
             Footer::End => written(sector, frame::read::data(datagram)),
             Footer::Continued => Response::Unreadable,
         },

@@ -1,5 +1,6 @@
 -- The packets of an image: each sector that is not blank is sent, no other is, and together they give the image.
 -- Assumes nothing.
+use Rattle.std.specs.Prelude.{Some}
 use mathlib.Core.Path.{◌≡◌, refl, sym, ap, ap₂, subst, ◌∙◌}
 use mathlib.Core.Bool.{Bool, true, false, false≢true}
 use mathlib.Core.List.{List, [], ◌∷◌, ◌++◌, append_assoc, append-nil}
@@ -17,7 +18,7 @@ use Rattle.buffer.proofs.Places.{place_next}
 use Rattle.frame.specs.Read.{read_of, data_in}
 use Rattle.frame.specs.declared.read.Footer.{Footer}
 use Rattle.frame.specs.declared.read.Footer.TheVariants.{End, Continued}
-use Rattle.frame.specs.declared.read.Read.TheVariants.{Write}
+use Rattle.frame.specs.declared.read.Frame.TheVariants.{Write}
 use Rattle.frame.proofs.RoundTrip.{write_back, write_data}
 use Rattle.layout.specs.Layout.{sector_size, good_n, sector_start, sector_of}
 use Rattle.layout.proofs.Layouts.{sector_part}
@@ -95,22 +96,22 @@ module _ (image : List ℕ) (n p : ℕ) (g : good_n n ≡ true) (e : length imag
       let s : Sent image n (packet_sector image n p) = sent_in image n p h in
       sector_length image n e (packet_sector image n p) s.low s.high
 
-  pub packet_read : Write (packet_sector image n p) sector_size (footer_of (packet_count image n) p) ≡ read_of (packet_frame image n p)
+  pub packet_read : Some (Write (packet_sector image n p) sector_size (footer_of (packet_count image n) p)) ≡ read_of (packet_frame image n p)
   unfolding packet_frame
   packet_read =
       let k : ℕ = packet_sector image n p in
       let f : Footer = footer_of (packet_count image n) p in
-      ap (λ (m : ℕ). Write k m f) (sym data_length)
+      ap (λ (m : ℕ). Some (Write k m f)) (sym data_length)
       ∙ write_back k (sector_of image k) f (packet_small image n p g k h refl) (omega (arith, data_length))
 
   -- 03 on the last packet, 17 on the others
-  pub last_footer : p + 1 ≡ packet_count image n → Write (packet_sector image n p) sector_size End ≡ read_of (packet_frame image n p)
+  pub last_footer : p + 1 ≡ packet_count image n → Some (Write (packet_sector image n p) sector_size End) ≡ read_of (packet_frame image n p)
   unfolding footer_of
-  last_footer q = ap (Write (packet_sector image n p) sector_size) (rw (eq-eqb (p + 1) (packet_count image n) q)) ∙ packet_read
+  last_footer q = ap (λ (x : Footer). Some (Write (packet_sector image n p) sector_size x)) (rw (eq-eqb (p + 1) (packet_count image n) q)) ∙ packet_read
 
-  pub other_footer : p + 1 < packet_count image n → Write (packet_sector image n p) sector_size Continued ≡ read_of (packet_frame image n p)
+  pub other_footer : p + 1 < packet_count image n → Some (Write (packet_sector image n p) sector_size Continued) ≡ read_of (packet_frame image n p)
   unfolding footer_of
-  other_footer q = ap (Write (packet_sector image n p) sector_size) (rw (ne_eqb (p + 1) (packet_count image n) (λ r. omega arith))) ∙ packet_read
+  other_footer q = ap (λ (x : Footer). Some (Write (packet_sector image n p) sector_size x)) (rw (ne_eqb (p + 1) (packet_count image n) (λ r. omega arith))) ∙ packet_read
 
 -- ---- the packets put back give the image
 

@@ -1,18 +1,18 @@
 -- What the sender's packets come to: an image put together from them.
 -- Assumes nothing.
-use Rattle.std.specs.Prelude.{List, ℕ, zero, suc, ◌*◌, replicate}
+use Rattle.std.specs.Prelude.{List, ℕ, zero, suc, ◌*◌, replicate, Option, Some, None}
 use Rattle.buffer.specs.Place.{place_of}
 use Rattle.frame.specs.Read.{read_of, data_in}
-use Rattle.frame.specs.declared.read.Read.{Read}
-use Rattle.frame.specs.declared.read.Read.TheVariants.{Fault, Control, Write}
+use Rattle.frame.specs.declared.read.Frame.{Frame}
+use Rattle.frame.specs.declared.read.Frame.TheVariants.{Control, Write}
 use Rattle.layout.specs.Layout.{sector_size, sector_start}
 use Rattle.sender.specs.Packet.{packet_frame}
 
 -- the data of a write frame go to its sector
-abbrev pub put_back : List ℕ → List ℕ → Read → List ℕ
-put_back bank d Fault = bank
-put_back bank d (Control code n) = bank
-put_back bank d (Write sector m footer) = place_of bank (sector_start sector) (data_in d)
+abbrev pub put_back : List ℕ → List ℕ → Option Frame → List ℕ
+put_back bank d None = bank
+put_back bank d (Some (Control code n)) = bank
+put_back bank d (Some (Write sector m footer)) = place_of bank (sector_start sector) (data_in d)
 
 -- what the first p packets make of a blank bank of n sectors
 unfoldable pub restored : List ℕ → ℕ → ℕ → List ℕ

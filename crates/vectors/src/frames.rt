@@ -1,7 +1,7 @@
 // The requests that read a frame or write one.
 ghost use Rattle.io.specs.Counts.{IsPrefixLen};
 
-use frame::read::{Footer, Read};
+use frame::read::{Footer, Frame};
 use script::{say, text};
 use std::env::Env;
 
@@ -25,7 +25,7 @@ fn say_write(rt: &impl Env, sector: u16, length: usize, footer: Footer, data: &[
     say::text(rt, b" ");
     say_length(rt, length);
     say::text(rt, b" ");
-    say::byte(rt, frame::write::footer_byte(footer));
+    say::byte(rt, u8::from(footer));
     say::text(rt, b" ");
     say::bytes(rt, data);
     say::end(rt);
@@ -33,13 +33,15 @@ fn say_write(rt: &impl Env, sector: u16, length: usize, footer: Footer, data: &[
 
 fn say_read(rt: &impl Env, datagram: &[u8]) {
     match frame::read::read_frame(datagram) {
-        Read::Fault => say::text(rt, b"fault\n"),
-        Read::Control { code, .. } => say_control(rt, code, frame::read::parameters(datagram)),
-        Read::Write {
+        None => say::text(rt, b"fault\n"),
+        Some(Frame::Control { code, .. }) => {
+            say_control(rt, code, frame::read::parameters(datagram))
+        }
+        Some(Frame::Write {
             sector,
             length,
             footer,
-        } => say_write(rt, sector, length, footer, frame::read::data(datagram)),
+        }) => say_write(rt, sector, length, footer, frame::read::data(datagram)),
     }
 }
 
@@ -70,13 +72,6 @@ fn put(buffer: &mut [u8], kind: Kind, bytes: &[u8]) {
     }
 }
 
-fn is_frame(datagram: &[u8]) -> bool {
-    match frame::read::read_frame(datagram) {
-        Read::Fault => false,
-        _ => true,
-    }
-}
-
 // How long the frame at the front of a buffer is: of all that begins there it alone is read as one. 0 where there is none.
 fn front_frame(buffer: &[u8]) -> usize
     ensures { IsPrefixLen result buffer.now }
@@ -84,7 +79,7 @@ fn front_frame(buffer: &[u8]) -> usize
     let mut n = 0;
     while n < buffer.len() {
         n += 1;
-        if is_frame(&buffer[..n]) {
+        if frame::read::read_frame(&buffer[..n]).is_some() {
             return n;
         }
     }

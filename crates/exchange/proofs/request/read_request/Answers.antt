@@ -1,17 +1,19 @@
 -- `exchange::request::read_request` meets its contract.
 -- Assumes nothing.
+use Rattle.std.specs.Prelude.{Some}
 use mathlib.Core.Path.{sym, ap, ◌∙◌}
 use Rattle.exchange.specs.Request.{asked_by}
 use Rattle.exchange.proofs.Requests.{asked_control}
 use Rattle.exchange.proofs.request.read_request.Goals as goal
 
-pub returns-in-Fault : goal.returns-in-Fault
+pub returns-in-None : goal.returns-in-None
 unfolding asked_by
-returns-in-Fault c = ap (asked_by _) (sym c.in-Fault.is ∙ c.read_frame.ensures)
+returns-in-None c = ap (asked_by _) (sym c.in-None.is ∙ c.read_frame.ensures)
 
-pub returns-in-Control : goal.returns-in-Control
-returns-in-Control c = asked_control _ _ _ c.by_code.ensures c.parameters.ensures (sym c.in-Control.is ∙ c.read_frame.ensures)
+pub returns-in-Some-Control : goal.returns-in-Some-Control
+returns-in-Some-Control c =
+    asked_control _ _ _ c.by_code.ensures c.parameters.ensures (ap Some (sym c.in-Some-Control.field-0-is) ∙ sym c.in-Some-Control.is ∙ c.read_frame.ensures)
 
-pub returns-in-Write : goal.returns-in-Write
+pub returns-in-Some-Write : goal.returns-in-Some-Write
 unfolding asked_by
-returns-in-Write c = ap (asked_by _) (sym c.in-Write.is ∙ c.read_frame.ensures)
+returns-in-Some-Write c = ap (asked_by _) (ap Some (sym c.in-Some-Write.field-0-is) ∙ sym c.in-Some-Write.is ∙ c.read_frame.ensures)

@@ -1,9 +1,9 @@
 -- `frame::read::write` meets its contract: each way out is a case of the definition.
 -- Assumes nothing.
-use Rattle.std.proofs.Common.{ℕ, sym, ap, ◌∙◌, eq-eqb, ne_eqb}
-use Rattle.frame.specs.declared.read.Footer.TheVariants.{End, Continued}
-use Rattle.frame.specs.declared.read.Read.TheVariants.{Write}
-use Rattle.frame.proofs.Cases.{write_length, write_checksum, write_end, write_continued, write_footer}
+use Rattle.std.proofs.Common.{ℕ, sym, ap, ◌∙◌, eq-eqb, ne_eqb, Some, option_map}
+use Rattle.buffer.specs.Number.{number_at}
+use Rattle.frame.specs.declared.read.Frame.TheVariants.{Write}
+use Rattle.frame.proofs.Cases.{write_length, write_checksum, write_footer}
 use Rattle.frame.proofs.read.write.Goals as goal
 
 pub returns-then-datagram-m : goal.returns-then-datagram-m
@@ -17,33 +17,18 @@ returns-then-not-checked c =
     (c.wide2-m.ensures ∙ c.number2.ensures)
     (eq-eqb _ _ c.if-datagram-m.false) (sym c.checked.ensures ∙ c.if-not-checked.true)
 
-pub returns-then-footer-eq3 : goal.returns-then-footer-eq3
-returns-then-footer-eq3 c =
-    ap (λ (s : ℕ). Write s c.wide2-m.result End) c.number2-sector.ensures
-    ∙ write_end c.args.datagram.now
-    c.wide2-m.result
-    (c.wide2-m.ensures ∙
-    c.number2.ensures)
-    (eq-eqb _ _ c.if-datagram-m.false)
-    (sym c.checked.ensures ∙ c.if-not-checked.false) (eq-eqb _ _ c.if-footer-eq3.true)
-
-pub returns-then-footer-eq23 : goal.returns-then-footer-eq23
-returns-then-footer-eq23 c =
-    ap (λ (s : ℕ). Write s c.wide2-m.result Continued) c.number2-sector.ensures
-    ∙ write_continued c.args.datagram.now
-    c.wide2-m.result
-    (c.wide2-m.ensures ∙
-    c.number2.ensures)
-    (eq-eqb _ _ c.if-datagram-m.false)
-    (sym c.checked.ensures ∙ c.if-not-checked.false)
-    (ne_eqb _ _ c.if-footer-eq3.false) (eq-eqb _ _ c.if-footer-eq23.true)
+pub returns-in_err-footer : goal.returns-in_err-footer
+returns-in_err-footer c =
+    c.from_residual.ensures
+    ∙ ap (option_map (Write (number_at 2 c.args.datagram.now 1) c.wide2-m.result)) c.in_err-footer.ensures.value
+    ∙ write_footer c.args.datagram.now c.wide2-m.result (c.wide2-m.ensures ∙ c.number2.ensures)
+    (eq-eqb _ _ c.if-datagram-m.false) (sym c.checked.ensures ∙ c.if-not-checked.false)
+    c.try_from.ensures
 
 pub returns : goal.returns
 returns c =
-    write_footer c.args.datagram.now
-    c.wide2-m.result
-    (c.wide2-m.ensures ∙
-    c.number2.ensures)
-    (eq-eqb _ _ c.if-datagram-m.false)
-    (sym c.checked.ensures ∙ c.if-not-checked.false)
-    (ne_eqb _ _ c.if-footer-eq3.false) (ne_eqb _ _ c.if-footer-eq23.false)
+    ap (λ (s : ℕ). Some (Write s c.wide2-m.result c.in_ok-footer.footer)) c.number2-2.ensures
+    ∙ ap (option_map (Write (number_at 2 c.args.datagram.now 1) c.wide2-m.result)) c.in_ok-footer.ensures.value
+    ∙ write_footer c.args.datagram.now c.wide2-m.result (c.wide2-m.ensures ∙ c.number2.ensures)
+    (eq-eqb _ _ c.if-datagram-m.false) (sym c.checked.ensures ∙ c.if-not-checked.false)
+    c.try_from.ensures

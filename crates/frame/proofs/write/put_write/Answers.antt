@@ -12,7 +12,7 @@ returns-then-buffer-m c = write_no_room _ _ _ _ (omega arith) (omega arith)
 
 pub returns : goal.returns
 returns c =
-    let footer_byte = c.footer_byte in
+    let from = c.from in
     let put-at = c.put_at in
     let put_front = c.put_front in
     let put-number22 = c.put_number2-2 in
@@ -21,4 +21,4 @@ returns c =
     let args = c20.before.before.before.before.args in
     write_put args.buffer.now args.sector args.bytes.now args.footer (omega arith) (omega arith)
     put-number2.ensures put-number22.ensures put_front.ensures put-at.ensures
-    footer_byte.ensures c.close.ensures
+    from.ensures c.close.ensures

@@ -1,7 +1,7 @@
--- `frame::write::footer_byte` meets its contract.
+-- `frame::read::U8FromFooter::from` meets its contract.
 -- Assumes nothing.
 use Rattle.frame.specs.Frame.{footer_byte}
-use Rattle.frame.proofs.write.footer_byte.Goals as goal
+use Rattle.frame.proofs.read.U8FromFooter.from.Goals as goal
 
 pub returns-in-End : goal.returns-in-End
 unfolding footer_byte
