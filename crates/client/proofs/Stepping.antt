@@ -4,6 +4,7 @@ use mathlib.Core.Path.{◌≡◌, refl, sym, ap, ap₂, ◌∙◌}
 use mathlib.Core.Bool.{true, false}
 use mathlib.Core.List.{List, []}
 use Prim.Native.Nat.{ℕ}
+use Rattle.std.specs.Prelude.{None}
 use lib.ListN.{length}
 use borrow.Author.Tests.{eq-eqb, ne_eqb}
 use Rattle.buffer.specs.Place.{front_of}
@@ -18,17 +19,16 @@ use Rattle.exchange.specs.declared.answer.Refusal.TheVariants.{BadN, BadLength}
 use Rattle.exchange.specs.Answer.{answer_bytes, answer_number, told_length, IsSay}
 use Rattle.decision.specs.declared.plan.Plan.{Plan}
 use Rattle.decision.specs.declared.plan.Plan.TheVariants.{Keep}
-use Rattle.client.specs.declared.notice.Notice.{Notice}
 use Rattle.client.specs.declared.perform.Served.{Served}
 use Rattle.client.specs.declared.record.Client.{Client}
 use Rattle.client.specs.declared.step.Stepped.{Stepped}
-use Rattle.client.specs.Notice.{no_notice}
+use Rattle.client.specs.Notice.{MaybeNotice}
 use Rattle.client.specs.Perform.{served_of, served, IsServed}
 use Rattle.client.specs.Step.{notice_of, Carried, carried_of, IsCarried, Keeps, planned, take_of, IsTake, beside_of, step_of, IsStep}
 use Rattle.client.proofs.Numbers.{take_says_lem, beside_says_lem}
 
 -- do, and then say
-pub carry_is : (c : Client) (plan : Plan) (target address buffer bytes : List ℕ) (notice : Notice) (s : Served) (after answered : List ℕ) (n : ℕ)
+pub carry_is : (c : Client) (plan : Plan) (target address buffer bytes : List ℕ) (notice : MaybeNotice) (s : Served) (after answered : List ℕ) (n : ℕ)
     → notice ≡ notice_of plan c.latest address → IsServed (served_of c plan target address bytes) s after → IsSay s.answer buffer answered n
     → IsCarried (carried_of c plan target address buffer bytes) (record { client = s.client; answer = s.answer; length = n; notice = notice }) after answered
 unfolding carried_of
@@ -43,11 +43,11 @@ carry_is c plan target address buffer bytes notice s after answered n e d a =
     }
 
 -- nothing done, and then say
-pub kept_is : (c : Client) (answer : Answer) (buffer answered : List ℕ) (notice : Notice) (n : ℕ) → notice ≡ no_notice → IsSay answer buffer answered n
-    → Keeps c answer buffer (record { client = c; answer = answer; length = n; notice = notice }) answered
+pub kept_is : (c : Client) (answer : Answer) (buffer answered : List ℕ) (n : ℕ) → IsSay answer buffer answered n
+    → Keeps c answer buffer (record { client = c; answer = answer; length = n; notice = None }) answered
 unfolding served_of
-kept_is c answer buffer answered notice n e a target address =
-    carry_is c (Keep answer) target address buffer [] notice (served c answer) target answered n e
+kept_is c answer buffer answered n a target address =
+    carry_is c (Keep answer) target address buffer [] None (served c answer) target answered n refl
     (record { client = refl; answer = refl; target = refl }) a
 
 -- the same carried out, by another name

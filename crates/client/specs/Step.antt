@@ -1,6 +1,6 @@
 -- One datagram: decided upon, carried out on the target bank, answered (01, 'The client, step by step').
 -- Assumes nothing.
-use Rattle.std.specs.Prelude.{◌≡◌, not, cond, List, [], ℕ, eqb, length}
+use Rattle.std.specs.Prelude.{◌≡◌, None, Some, not, cond, List, [], ℕ, eqb, length}
 use Rattle.buffer.specs.Place.{front_of}
 use Rattle.frame.specs.Read.{data_in}
 use Rattle.layout.specs.Layout.{good_n, bank_size, other_of}
@@ -14,36 +14,35 @@ use Rattle.exchange.specs.State.{is_closed}
 use Rattle.decision.specs.declared.plan.Plan.{Plan}
 use Rattle.decision.specs.declared.plan.Plan.TheVariants.{Keep, Open, Leave, Begin, Store, Wear, Finish}
 use Rattle.decision.specs.Plan.{lent_good, plan_of}
-use Rattle.client.specs.declared.notice.Kind.TheVariants.{Started, Ended}
-use Rattle.client.specs.declared.notice.Notice.{Notice}
+use Rattle.client.specs.declared.notice.Notice.TheVariants.{Started, Ended}
 use Rattle.client.specs.declared.record.Client.{Client}
 use Rattle.client.specs.declared.record.Latest.{Latest}
 use Rattle.client.specs.declared.step.Stepped.{Stepped}
-use Rattle.client.specs.Notice.{no_notice, notice_with, latest_number}
+use Rattle.client.specs.Notice.{MaybeNotice, latest_number}
 use Rattle.client.specs.Perform.{Done, served_of}
 use Rattle.client.specs.Record.{standing_of}
 
 -- "host notice 6033 with sender address", "Notice 6034 carries .."; the latest session is the one before the step
-abbrev pub notice_of : Plan → Latest → List ℕ → Notice
-notice_of (Keep answer) latest address = no_notice
-notice_of Open latest address = notice_with Started 0 address
-notice_of Leave latest address = notice_with Ended (latest_number latest) address
-notice_of Begin latest address = no_notice
-notice_of (Store sector) latest address = no_notice
-notice_of Wear latest address = no_notice
-notice_of Finish latest address = no_notice
+abbrev pub notice_of : Plan → Latest → List ℕ → MaybeNotice
+notice_of (Keep answer) latest address = None
+notice_of Open latest address = Some (Started address)
+notice_of Leave latest address = Some (Ended (latest_number latest) address)
+notice_of Begin latest address = None
+notice_of (Store sector) latest address = None
+notice_of Wear latest address = None
+notice_of Finish latest address = None
 
 -- what a plan leads to, said and done
 pub record Carried : Type 0 where
   pub client : Client
   pub answer : Answer
   pub told : ℕ
-  pub notice : Notice
+  pub notice : MaybeNotice
   pub target : List ℕ
   pub buffer : List ℕ
 
 -- the answer goes to the front; "the rest keeps its bytes"
-abbrev pub said_of : Done → Notice → List ℕ → Carried
+abbrev pub said_of : Done → MaybeNotice → List ℕ → Carried
 said_of d notice buffer =
     record {
       client = d.client;

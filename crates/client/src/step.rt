@@ -3,8 +3,8 @@ ghost use Rattle.std.specs.Prelude.{◌≡◌, length};
 ghost use Rattle.client.specs.Perform.{Fair, Addressed};
 ghost use Rattle.client.specs.Step.{notice_of, carried_of, beside_of, IsCarried, Keeps, IsTake, IsStep};
 
-use crate::notice::{Kind, Notice};
-use crate::record::{Client, Latest};
+use crate::notice::Notice;
+use crate::record::{Client, Latest, address_of};
 use decision::plan::Plan;
 use exchange::answer::{Answer, Refusal};
 use layout::Bank;
@@ -15,26 +15,23 @@ pub struct Stepped {
     pub answer: Answer,
     // As many bytes as the answer has.
     pub length: usize,
-    pub notice: Notice,
+    pub notice: Option<Notice>,
 }
 
 // The notice for the host, with the sender's address; the latest session is the one before the plan.
-fn notice_for(plan: Plan, latest: Latest, address: &[u8]) -> Notice
+fn notice_for(plan: Plan, latest: Latest, address: &[u8]) -> Option<Notice>
     requires { Addressed plan (length address.now) }
     ensures { result ≡ notice_of plan latest address.now }
 {
     match plan {
-        Plan::Keep(_) => crate::notice::no_notice(),
-        Plan::Open => crate::notice::notice_with(Kind::Started, 0, address),
-        Plan::Leave => crate::notice::notice_with(
-            Kind::Ended,
-            crate::notice::latest_number(latest),
-            address,
-        ),
-        Plan::Begin => crate::notice::no_notice(),
-        Plan::Store { sector: _ } => crate::notice::no_notice(),
-        Plan::Wear => crate::notice::no_notice(),
-        Plan::Finish => crate::notice::no_notice(),
+        Plan::Open => Some(Notice::Started {
+            address: address_of(address),
+        }),
+        Plan::Leave => Some(Notice::Ended {
+            result: u8::from(latest),
+            address: address_of(address),
+        }),
+        Plan::Keep(_) | Plan::Begin | Plan::Store { .. } | Plan::Wear | Plan::Finish => None,
     }
 }
 
@@ -88,12 +85,11 @@ impl Client {
         ensures { Keeps self answer buffer.old result buffer.new }
     {
         let length = exchange::answer::say(answer, buffer);
-        let notice = crate::notice::no_notice();
         Stepped {
             client: self,
             answer,
             length,
-            notice,
+            notice: None,
         }
     }
 

@@ -9,6 +9,7 @@ use native.Mathlib.Omega.{arith}
 use lib.Dec.{eqb}
 use lib.ListN.{length, get_or, drop}
 use borrow.Author.Tests.{eqb-true}
+use Rattle.std.specs.Prelude.{None}
 use Rattle.buffer.specs.Compare.{same_of, blank_of}
 use Rattle.buffer.specs.Number.{number_at}
 use Rattle.buffer.specs.Place.{front_of}
@@ -58,11 +59,10 @@ use Rattle.decision.specs.Plan.{
   plan_of,
 }
 use Rattle.decision.proofs.Planning.{lent}
-use Rattle.client.specs.declared.notice.Notice.{Notice}
 use Rattle.client.specs.declared.record.Client.{Client}
 use Rattle.client.specs.declared.record.Latest.{Latest}
 use Rattle.client.specs.Host.{initiate_of, terminate_of}
-use Rattle.client.specs.Notice.{no_notice}
+use Rattle.client.specs.Notice.{MaybeNotice}
 use Rattle.client.specs.Perform.{fit_of, store_result, store_of, checked_of, served_of}
 use Rattle.client.specs.Record.{standing_of, marked}
 use Rattle.client.specs.Step.{Carried, carried_of, take_of, beside_of}
@@ -104,7 +104,7 @@ module _ (b : Board) (call : LentCall) where
     pub tells : r.told ≡ length (answer_bytes r.answer)
     pub fills : r.buffer ≡ front_of call.buffer (answer_bytes r.answer)
 
-  stored_is : (r : Carried) (c : Client) (target : List ℕ) (answer : Answer) → Said r answer → r.client ≡ c → r.target ≡ target → r.notice ≡ no_notice
+  stored_is : (r : Carried) (c : Client) (target : List ℕ) (answer : Answer) → Said r answer → r.client ≡ c → r.target ≡ target → r.notice ≡ None
       → answer_number answer ≡ 0 → call_outcome b call r ≡ stored b call c target (answer_bytes answer)
   stored_is r c target answer s e t n z =
       λ k. record {
@@ -115,7 +115,7 @@ module _ (b : Board) (call : LentCall) where
         notice = n k;
       }
 
-  changed_is : (r : Carried) (c : Client) (notice : Notice) (answer : Answer) → Said r answer → r.client ≡ c → r.target ≡ lent_target b call → r.notice ≡ notice
+  changed_is : (r : Carried) (c : Client) (notice : MaybeNotice) (answer : Answer) → Said r answer → r.client ≡ c → r.target ≡ lent_target b call → r.notice ≡ notice
       → answer_number answer ≡ 0 → call_outcome b call r ≡ changed b call c notice (answer_bytes answer)
   changed_is r c notice answer s e t n z =
       λ k. record {
@@ -127,7 +127,7 @@ module _ (b : Board) (call : LentCall) where
       }
 
   -- nothing changes and nothing is said
-  refused_is : (r : Carried) (why : Refusal) → r.answer ≡ Refused why → r.client ≡ b.client → r.target ≡ lent_target b call → r.notice ≡ no_notice
+  refused_is : (r : Carried) (why : Refusal) → r.answer ≡ Refused why → r.client ≡ b.client → r.target ≡ lent_target b call → r.notice ≡ None
       → r.told ≡ 0 → r.buffer ≡ call.buffer → call_outcome b call r ≡ refused b call.buffer (refusal_number why)
   refused_is r why a e t n l f =
       λ k. record {
@@ -185,7 +185,7 @@ module _ (fixed : Fixed) (next : Bank) (latest : Latest) (opener : List ℕ) (re
     unfolding answer_bytes
     faulty s r a f t = ap (λ (x : List ℕ). some (changed (at s) call r.client r.notice x)) (sym parameter_bytes) ∙ kept s ParameterError r a f t refl
 
-    left : (s : State) (answer : Answer) (r : Carried) → r.answer ≡ answer → Tells r → r.notice ≡ no_notice → answer_number answer ≡ 0
+    left : (s : State) (answer : Answer) (r : Carried) → r.answer ≡ answer → Tells r → r.notice ≡ None → answer_number answer ≡ 0
         → some (stored (at s) call r.client r.target (answer_bytes answer)) ≡ some (call_outcome (at s) call r)
     left s answer r a f n z = ap some (sym (stored_is (at s) call r r.client r.target answer (says s r answer a f) refl refl n z))
 

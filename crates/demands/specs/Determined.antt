@@ -27,7 +27,7 @@ use Rattle.exchange.specs.declared.state.State.{State}
 use Rattle.decision.specs.declared.plan.Standing.{Standing}
 use Rattle.client.specs.declared.record.Client.{Client}
 use Rattle.client.specs.declared.host.NotDone.{NotDone}
-use Rattle.client.specs.declared.notice.Kind.{Kind as NoticeKind}
+use Rattle.client.specs.declared.record.Latest.{Latest}
 use Rattle.script.specs.declared.line.Turn.{Turn}
 use Rattle.buffer.specs.Compare.{IsSame, IsBlank}
 use Rattle.buffer.specs.Fill.{IsFill}
@@ -68,7 +68,7 @@ use Rattle.exchange.specs.Request.{IsAsked, IsFitsState, IsDeclined}
 use Rattle.decision.specs.Plan.{IsPlan}
 use Rattle.client.specs.Body.{IsBody as IsNextBody}
 use Rattle.client.specs.Host.{Told, IsReasonNumber, IsTold, IsNew, IsInitiate, IsTerminate}
-use Rattle.client.specs.Notice.{IsNoticeCode}
+use Rattle.client.specs.Notice.{MaybeNotice, IsLatestNumber, IsNoticeCode}
 use Rattle.client.specs.Step.{IsTake, IsStep}
 use Rattle.script.specs.Text.{IsFirst, IsRest, IsEndsInBlank}
 use Rattle.script.specs.Spelt.{IsHex, IsDecimal, IsBytes}
@@ -162,7 +162,8 @@ pub record Determined : Type 0 where
   pub plan : (standing : Standing) (target : ℕ) (marks address : List ℕ) (buffer : ℕ) (asked : Asked) → Once (IsPlan standing target marks address buffer asked)
   pub reason_number : (why : NotDone) → Once (IsReasonNumber why)
   pub told_number : (told : Told) → Once (IsTold told)
-  pub notice_code : (kind : NoticeKind) → Once (IsNoticeCode kind)
+  pub notice_code : (notice : MaybeNotice) → Once (IsNoticeCode notice)
+  pub latest_number : (latest : Latest) → Once (IsLatestNumber latest)
   pub new : (n : ℕ) (running : Bank) (major minor revision : ℕ) → Once (IsNew n running major minor revision)
   pub initiate : (c : Client) → Once (IsInitiate c)
   pub terminate : (c : Client) → Once (IsTerminate c)

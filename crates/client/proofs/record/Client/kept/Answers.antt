@@ -6,4 +6,4 @@ use Rattle.client.proofs.record.Client.kept.Goals as goal
 pub returns : goal.returns
 returns c =
     let a = c.args in
-    kept_is a.self a.answer a.buffer.now _ _ _ c.no_notice-notice.ensures c.say-length.ensures
+    kept_is a.self a.answer a.buffer.now _ _ c.say-length.ensures
