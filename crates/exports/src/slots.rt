@@ -28,12 +28,10 @@ pub(crate) fn slots_good(slots: &[u8], count: usize) -> bool
     requires { count * slot_size ≤ length slots.now }
     ensures { result ≡ slots_good slots.now count }
 {
-    let mut k = 0;
-    while k < count {
+    for k in 0..count {
         if ROOM < size_at(slots, k) {
             return false;
         }
-        k += 1;
     }
     true
 }
@@ -81,9 +79,7 @@ fn fresh(n: usize) -> Client
     ensures { result ≡ fresh n }
 {
     let made = Client::new(n, Bank::Zero, 0, 0, 0);
-    let closed = made.client;
-    let started = closed.initiate();
-    started.client
+    made.client.initiate().client
 }
 
 // The datagram of slot k, from its address.
@@ -134,13 +130,10 @@ pub fn client_take(
     }
     let mut client = fresh(n);
     let mut told = 0;
-    let mut k = 0;
-    while k < count {
+    for k in 0..count {
         let stepped = take_slot(client, slots, k, bank0, bank1, marks, addresses, buffer);
         client = stepped.client;
-        let answer = stepped.answer;
-        told = given(answer, stepped.length);
-        k += 1;
+        told = given(stepped.answer, stepped.length);
     }
     told
 }
