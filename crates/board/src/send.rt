@@ -36,31 +36,27 @@ fn say_notice(rt: &impl Env, notice: Option<Notice>) {
     say::end(rt);
 }
 
-fn say_refusal(rt: &impl Env, refusal: Refusal) {
-    say_refused(rt, exchange::answer::refusal_number(refusal) as usize);
-}
-
 fn say_answered(rt: &impl Env, bytes: &[u8], notice: Option<Notice>) {
     say::text(rt, b"answer ");
     say::bytes(rt, bytes);
     say_notice(rt, notice);
 }
 
-fn say_answer(rt: &impl Env, answer: Answer, bytes: &[u8], notice: Option<Notice>) {
-    if let Answer::Refused(refusal) = answer {
-        say_refusal(rt, refusal);
-    } else {
-        say_answered(rt, bytes, notice);
+fn say_answer(
+    rt: &impl Env,
+    answer: Result<Answer, Refusal>,
+    bytes: &[u8],
+    notice: Option<Notice>,
+) {
+    match answer {
+        Ok(_) => say_answered(rt, bytes, notice),
+        Err(why) => say_refused(rt, u8::from(why) as usize),
     }
 }
 
 // How long the latest answer is: a datagram that is refused has none.
-fn latest(answer: Answer, count: usize, former: usize) -> usize {
-    if let Answer::Refused(_) = answer {
-        former
-    } else {
-        count
-    }
+fn latest(answer: Result<Answer, Refusal>, count: usize, former: usize) -> usize {
+    if answer.is_ok() { count } else { former }
 }
 
 // The answer is shown as it stands in the buffer.

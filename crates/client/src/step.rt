@@ -1,7 +1,7 @@
 // One datagram: decided upon, carried out on the target bank, answered.
 ghost use Rattle.std.specs.Prelude.{◌≡◌, length};
 ghost use Rattle.client.specs.Perform.{Fair, Addressed};
-ghost use Rattle.client.specs.Step.{notice_of, carried_of, beside_of, IsCarried, Keeps, IsTake, IsStep};
+ghost use Rattle.client.specs.Step.{notice_of, carried_of, beside_of, IsCarried, Refuses, IsTake, IsStep};
 
 use crate::notice::Notice;
 use crate::record::{Client, Latest, address_of};
@@ -12,7 +12,7 @@ use layout::Bank;
 #[derive(Clone, Copy)]
 pub struct Stepped {
     pub client: Client,
-    pub answer: Answer,
+    pub answer: Result<Answer, Refusal>,
     // As many bytes as the answer has.
     pub length: usize,
     pub notice: Option<Notice>,
@@ -31,7 +31,12 @@ fn notice_for(plan: Plan, latest: Latest, address: &[u8]) -> Option<Notice>
             result: u8::from(latest),
             address: address_of(address),
         }),
-        Plan::Keep(_) | Plan::Begin | Plan::Store { .. } | Plan::Wear | Plan::Finish => None,
+        Plan::Refuse(_)
+        | Plan::Keep(_)
+        | Plan::Begin
+        | Plan::Store { .. }
+        | Plan::Wear
+        | Plan::Finish => None,
     }
 }
 
@@ -80,15 +85,14 @@ impl Client {
         self.carry(plan, target, address, buffer, frame::read::data(datagram))
     }
 
-    // Nothing is done, and this is said. `carry` has one caller so, into which it is compiled: a call would copy the record's flags.
-    fn kept(self, answer: Answer, buffer: &mut [u8]) -> Stepped
-        ensures { Keeps self answer buffer.old result buffer.new }
+    // Nothing is done or said. `carry` has one caller so, into which it is compiled: a call would copy the record's flags.
+    fn refused(self, why: Refusal) -> Stepped
+        ensures { Refuses self why result }
     {
-        let length = exchange::answer::say(answer, buffer);
         Stepped {
             client: self,
-            answer,
-            length,
+            answer: Err(why),
+            length: 0,
             notice: None,
         }
     }
@@ -107,10 +111,10 @@ impl Client {
     {
         let n = self.fixed.n;
         if !layout::good_n(n) {
-            return self.kept(Answer::Refused(Refusal::BadN), buffer);
+            return self.refused(Refusal::BadN);
         }
         if running != layout::bank_size(n) {
-            return self.kept(Answer::Refused(Refusal::BadLength), buffer);
+            return self.refused(Refusal::BadLength);
         }
         self.take(target, marks, address, buffer, datagram)
     }

@@ -15,7 +15,6 @@ use Rattle.clean.specs.declared.Cleaned.{Cleaned}
 use Rattle.sender.specs.declared.made.Made.{Made}
 use Rattle.sender.specs.declared.packet.Tally.{Tally}
 use Rattle.sender.specs.declared.request.Request.{Request}
-use Rattle.exchange.specs.declared.answer.Answer.{Answer}
 use Rattle.commands.specs.declared.Command.{Command}
 use Rattle.response.specs.declared.read.Response.{Response}
 use Rattle.night.specs.declared.record.Next.{Next}
@@ -62,7 +61,7 @@ use Rattle.night.specs.Call.{IsHeard as IsNightHeard}
 use Rattle.night.specs.Call.{IsSilent as IsNightSilent}
 use Rattle.night.specs.Record.{IsNextNumber}
 use Rattle.commands.specs.Command.{IsRequestCode, IsResponseCode, IsParameterBytes, IsAddedBytes, IsRequested, IsAnswered}
-use Rattle.exchange.specs.Answer.{IsRefusalNumber, IsSay}
+use Rattle.exchange.specs.Answer.{Reply, IsRefusalNumber, IsSay}
 use Rattle.exchange.specs.State.{IsClosed, IsOpen}
 use Rattle.exchange.specs.Request.{IsAsked, IsFitsState, IsDeclined}
 use Rattle.decision.specs.Plan.{IsPlan}
@@ -157,7 +156,7 @@ pub record Determined : Type 0 where
   pub fits_state : (state : State) (request : Received) → Once (IsFitsState state request)
   pub declined : (request : Received) → Once (IsDeclined request)
   pub refusal_number : (why : Refusal) → Once (IsRefusalNumber why)
-  pub say : (answer : Answer) (before : List ℕ) → Twice (IsSay answer before)
+  pub say : (reply : Reply) (before : List ℕ) → Twice (IsSay reply before)
   -- the client
   pub plan : (standing : Standing) (target : ℕ) (marks address : List ℕ) (buffer : ℕ) (asked : Asked) → Once (IsPlan standing target marks address buffer asked)
   pub reason_number : (why : NotDone) → Once (IsReasonNumber why)

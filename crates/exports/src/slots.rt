@@ -6,7 +6,7 @@ ghost use Rattle.exports.specs.Slots.{slot_room, slot_size, size_at, datagram_at
 use client::record::Client;
 use client::step::Stepped;
 use decision::plan::ADDRESS;
-use exchange::answer::Answer;
+use exchange::answer::{Answer, Refusal};
 use layout::Bank;
 
 // A slot has a datagram's length in two bytes, high byte first, and room for the longest request.
@@ -48,29 +48,12 @@ fn all_good(slots: &[u8], addresses: &[u8], count: usize) -> bool
 }
 
 // How long an answer is, or the paper's number where there is none.
-fn given(answer: Answer, length: usize) -> usize
+fn given(answer: Result<Answer, Refusal>, length: usize) -> usize
     ensures { result ≡ given_of answer «length» }
 {
     match answer {
-        Answer::Refused(why) => exchange::answer::refusal_number(why) as usize,
-        Answer::FrameError => length,
-        Answer::ParameterError => length,
-        Answer::Response {
-            command: _,
-            result: _,
-        } => length,
-        Answer::BankIs(_) => length,
-        Answer::VersionIs {
-            major: _,
-            minor: _,
-            revision: _,
-        } => length,
-        Answer::Written {
-            sector: _,
-            result: _,
-            write: _,
-            crc: _,
-        } => length,
+        Ok(_) => length,
+        Err(why) => u8::from(why) as usize,
     }
 }
 
