@@ -2,10 +2,9 @@
 use crate::state;
 use crate::state::Board;
 use crate::wrong::Wrong;
-use client::notice::{Kind, Notice};
+use client::notice::Notice;
 use client::record::Client;
 use client::step::Stepped;
-use decision::plan::ADDRESS;
 use exchange::answer::{Answer, Refusal};
 use script::{say, text};
 use std::env::Env;
@@ -15,61 +14,49 @@ pub(crate) fn say_refused(rt: &impl Env, number: usize) {
     say::end(rt);
 }
 
-fn say_code(rt: &impl Env, kind: Kind) {
-    say::text(rt, b" notice ");
-    say::pair(rt, client::notice::notice_code(kind));
-    say::text(rt, b" ");
-}
-
-fn say_started(rt: &impl Env, address: [u8; ADDRESS]) {
-    say_code(rt, Kind::Started);
-    say::bytes(rt, &address);
-    say::end(rt);
-}
-
-fn say_ended(rt: &impl Env, res: u8, address: [u8; ADDRESS]) {
-    say_code(rt, Kind::Ended);
-    say::byte(rt, res);
-    say::text(rt, b" ");
-    say::bytes(rt, &address);
-    say::end(rt);
-}
-
-fn say_notice(rt: &impl Env, notice: Notice) {
-    let kind = notice.kind;
-    let address = notice.address;
-    match kind {
-        Kind::Nothing => say::end(rt),
-        Kind::Started => say_started(rt, address),
-        Kind::Ended => say_ended(rt, notice.result, address),
+// The sender's address, behind the result if the notice has one.
+fn say_fields(rt: &impl Env, notice: Notice) {
+    match notice {
+        Notice::Started { address } => say::bytes(rt, &address),
+        Notice::Ended { result, address } => {
+            say::byte(rt, result);
+            say::text(rt, b" ");
+            say::bytes(rt, &address);
+        }
     }
 }
 
-fn say_refusal(rt: &impl Env, refusal: Refusal) {
-    say_refused(rt, exchange::answer::refusal_number(refusal) as usize);
+fn say_notice(rt: &impl Env, notice: Option<Notice>) {
+    if let Some(given) = notice {
+        say::text(rt, b" notice ");
+        say::pair(rt, client::notice::notice_code(notice));
+        say::text(rt, b" ");
+        say_fields(rt, given);
+    }
+    say::end(rt);
 }
 
-fn say_answered(rt: &impl Env, bytes: &[u8], notice: Notice) {
+fn say_answered(rt: &impl Env, bytes: &[u8], notice: Option<Notice>) {
     say::text(rt, b"answer ");
     say::bytes(rt, bytes);
     say_notice(rt, notice);
 }
 
-fn say_answer(rt: &impl Env, answer: Answer, bytes: &[u8], notice: Notice) {
-    if let Answer::Refused(refusal) = answer {
-        say_refusal(rt, refusal);
-    } else {
-        say_answered(rt, bytes, notice);
+fn say_answer(
+    rt: &impl Env,
+    answer: Result<Answer, Refusal>,
+    bytes: &[u8],
+    notice: Option<Notice>,
+) {
+    match answer {
+        Ok(_) => say_answered(rt, bytes, notice),
+        Err(why) => say_refused(rt, u8::from(why) as usize),
     }
 }
 
 // How long the latest answer is: a datagram that is refused has none.
-fn latest(answer: Answer, count: usize, former: usize) -> usize {
-    if let Answer::Refused(_) = answer {
-        former
-    } else {
-        count
-    }
+fn latest(answer: Result<Answer, Refusal>, count: usize, former: usize) -> usize {
+    if answer.is_ok() { count } else { former }
 }
 
 // The answer is shown as it stands in the buffer.

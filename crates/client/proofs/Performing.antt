@@ -5,6 +5,7 @@ use mathlib.Core.Bool.{Bool, true, false}
 use mathlib.Core.List.{List}
 use Prim.Native.Nat.{ℕ, ◌+◌, ◌-◌, ◌≤◌}
 use lib.ListN.{take, drop}
+use Rattle.std.specs.Prelude.{Ok}
 use Rattle.buffer.specs.Compare.{blank_of}
 use Rattle.crc.specs.Crc.{crc_of}
 use Rattle.flash.specs.Bank.{IsWriteAt}
@@ -37,7 +38,7 @@ store_is c m target after bytes sector w crc already blank a b r s k =
     record {
       client = k;
       answer =
-          ap₂ (Written sector 0x06) (r ∙ ap₂ store_result b a.already) (s ∙ ap (λ (t : List ℕ). sector_crc t sector) a.written);
+          ap₂ (λ (x y : ℕ). Ok (Written sector 0x06 x y)) (r ∙ ap₂ store_result b a.already) (s ∙ ap (λ (t : List ℕ). sector_crc t sector) a.written);
       target = a.written;
     }
 

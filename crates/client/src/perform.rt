@@ -9,13 +9,13 @@ use crate::record::{Client, Latest};
 use bank::check::Verdict;
 use commands::Command;
 use decision::plan::{Fixed, Plan};
-use exchange::answer::Answer;
+use exchange::answer::{Answer, Refusal};
 use exchange::state::State;
 
 #[derive(Clone, Copy)]
 pub(crate) struct Served {
     pub client: Client,
-    pub answer: Answer,
+    pub answer: Result<Answer, Refusal>,
 }
 
 // Whether a client may start a bank.
@@ -59,10 +59,10 @@ impl Client {
     {
         Served {
             client: self,
-            answer: Answer::Response {
+            answer: Ok(Answer::Response {
                 command,
                 result: res,
-            },
+            }),
         }
     }
 
@@ -80,12 +80,12 @@ impl Client {
         let client = self.marked(k);
         Served {
             client,
-            answer: Answer::Written {
+            answer: Ok(Answer::Written {
                 sector,
                 result: 0x06,
                 write,
                 crc,
-            },
+            }),
         }
     }
 
@@ -129,9 +129,13 @@ impl Client {
         ensures { IsServed (served_of self plan target.old address.now bytes.now) result target.new }
     {
         match plan {
+            Plan::Refuse(why) => Served {
+                client: self,
+                answer: Err(why),
+            },
             Plan::Keep(answer) => Served {
                 client: self,
-                answer,
+                answer: Ok(answer),
             },
             Plan::Open => self.opened(address).responds(Command::ModeStart, 0x06),
             Plan::Leave => self.left(State::Idle).responds(Command::ModeEnd, 0x06),

@@ -15,7 +15,6 @@ use Rattle.clean.specs.declared.Cleaned.{Cleaned}
 use Rattle.sender.specs.declared.made.Made.{Made}
 use Rattle.sender.specs.declared.packet.Tally.{Tally}
 use Rattle.sender.specs.declared.request.Request.{Request}
-use Rattle.exchange.specs.declared.answer.Answer.{Answer}
 use Rattle.commands.specs.declared.Command.{Command}
 use Rattle.response.specs.declared.read.Response.{Response}
 use Rattle.night.specs.declared.record.Next.{Next}
@@ -27,7 +26,7 @@ use Rattle.exchange.specs.declared.state.State.{State}
 use Rattle.decision.specs.declared.plan.Standing.{Standing}
 use Rattle.client.specs.declared.record.Client.{Client}
 use Rattle.client.specs.declared.host.NotDone.{NotDone}
-use Rattle.client.specs.declared.notice.Kind.{Kind as NoticeKind}
+use Rattle.client.specs.declared.record.Latest.{Latest}
 use Rattle.script.specs.declared.line.Turn.{Turn}
 use Rattle.buffer.specs.Compare.{IsSame, IsBlank}
 use Rattle.buffer.specs.Fill.{IsFill}
@@ -62,13 +61,13 @@ use Rattle.night.specs.Call.{IsHeard as IsNightHeard}
 use Rattle.night.specs.Call.{IsSilent as IsNightSilent}
 use Rattle.night.specs.Record.{IsNextNumber}
 use Rattle.commands.specs.Command.{IsRequestCode, IsResponseCode, IsParameterBytes, IsAddedBytes, IsRequested, IsAnswered}
-use Rattle.exchange.specs.Answer.{IsRefusalNumber, IsSay}
+use Rattle.exchange.specs.Answer.{Reply, IsRefusalNumber, IsSay}
 use Rattle.exchange.specs.State.{IsClosed, IsOpen}
 use Rattle.exchange.specs.Request.{IsAsked, IsFitsState, IsDeclined}
 use Rattle.decision.specs.Plan.{IsPlan}
 use Rattle.client.specs.Body.{IsBody as IsNextBody}
 use Rattle.client.specs.Host.{Told, IsReasonNumber, IsTold, IsNew, IsInitiate, IsTerminate}
-use Rattle.client.specs.Notice.{IsNoticeCode}
+use Rattle.client.specs.Notice.{MaybeNotice, IsLatestNumber, IsNoticeCode}
 use Rattle.client.specs.Step.{IsTake, IsStep}
 use Rattle.script.specs.Text.{IsFirst, IsRest, IsEndsInBlank}
 use Rattle.script.specs.Spelt.{IsHex, IsDecimal, IsBytes}
@@ -157,12 +156,13 @@ pub record Determined : Type 0 where
   pub fits_state : (state : State) (request : Received) → Once (IsFitsState state request)
   pub declined : (request : Received) → Once (IsDeclined request)
   pub refusal_number : (why : Refusal) → Once (IsRefusalNumber why)
-  pub say : (answer : Answer) (before : List ℕ) → Twice (IsSay answer before)
+  pub say : (reply : Reply) (before : List ℕ) → Twice (IsSay reply before)
   -- the client
   pub plan : (standing : Standing) (target : ℕ) (marks address : List ℕ) (buffer : ℕ) (asked : Asked) → Once (IsPlan standing target marks address buffer asked)
   pub reason_number : (why : NotDone) → Once (IsReasonNumber why)
   pub told_number : (told : Told) → Once (IsTold told)
-  pub notice_code : (kind : NoticeKind) → Once (IsNoticeCode kind)
+  pub notice_code : (notice : MaybeNotice) → Once (IsNoticeCode notice)
+  pub latest_number : (latest : Latest) → Once (IsLatestNumber latest)
   pub new : (n : ℕ) (running : Bank) (major minor revision : ℕ) → Once (IsNew n running major minor revision)
   pub initiate : (c : Client) → Once (IsInitiate c)
   pub terminate : (c : Client) → Once (IsTerminate c)

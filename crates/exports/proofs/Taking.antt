@@ -14,8 +14,7 @@ use Rattle.buffer.proofs.Bools.{and_left, and_right, and_both, not_so}
 use Rattle.layout.specs.declared.Bank.{Bank}
 use Rattle.layout.specs.Layout.{other_of}
 use Rattle.layout.specs.Pair.{Banks, banks, bank_in, with_bank}
-use Rattle.exchange.specs.declared.answer.Answer.{Answer}
-use Rattle.exchange.specs.Answer.{answer_bytes}
+use Rattle.exchange.specs.Answer.{Reply, reply_bytes}
 use Rattle.client.specs.declared.record.Client.{Client}
 use Rattle.client.specs.declared.step.Stepped.{Stepped}
 use Rattle.client.specs.Step.{Carried, step_of, IsStep}
@@ -143,7 +142,7 @@ module _ (slots marks addresses buffer : List ℕ) (start : Board) where
             };
           };
           buffer = (s.said ∙ step_said c (length (bank_in x pair)) (bank_in (other_of x) pair) marks address lent (datagram_at slots k)
-              ∙ ap (λ (a : Answer). front_of lent (answer_bytes a)) same.answer) i;
+              ∙ ap (λ (a : Reply). front_of lent (reply_bytes a)) same.answer) i;
         }
 
     pub one-taken : ran (given_of r.answer r.length) (board r.client (banks bank0' bank1')) said ≡ run_at (k + 1)

@@ -45,15 +45,11 @@ pub fn night_take(image: &[u8], n: usize, tries: usize, slots: &[u8], buffer: &m
     }
     let begun = night::call::start(image, Bank::Zero, n, tries, buffer);
     let mut night = begun.night;
-    let first = begun.next;
-    let mut told = next_code(first);
-    let mut k = 0;
-    while k < count {
+    let mut told = next_code(begun.next);
+    for k in 0..count {
         let called = hear_slot(night, slots, k, image, buffer);
         night = called.night;
-        let next = called.next;
-        told = next_code(next);
-        k += 1;
+        told = next_code(called.next);
     }
     told
 }

@@ -1,11 +1,8 @@
 -- `exchange::answer::put` meets its contract.
 -- Assumes nothing.
 use Rattle.exchange.specs.Answer.{answer_bytes}
-use Rattle.exchange.proofs.Saying.{put_refused, put_error}
+use Rattle.exchange.proofs.Saying.{put_error}
 use Rattle.exchange.proofs.answer.put.Goals as goal
-
-pub returns-in-Refused : goal.returns-in-Refused
-returns-in-Refused c = rw c.in-Refused.is (put_refused _ _)
 
 pub returns-in-FrameError : goal.returns-in-FrameError
 returns-in-FrameError c = rw c.in-FrameError.is (put_error _ _ c.put_error.ensures)

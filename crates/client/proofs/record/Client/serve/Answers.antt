@@ -13,6 +13,10 @@ store-requires c =
     let p = rw c.in-Store.is at c.requires.fair in
     record { le_sector = (p.first, p.last); sector_in_bounds = p.inside }
 
+pub returns-in-Refuse : goal.returns-in-Refuse
+unfolding served_of
+returns-in-Refuse c = rw c.in-Refuse.is (record { client = refl; answer = refl; target = refl })
+
 pub returns-in-Keep : goal.returns-in-Keep
 unfolding served_of
 returns-in-Keep c = rw c.in-Keep.is (record { client = refl; answer = refl; target = refl })
