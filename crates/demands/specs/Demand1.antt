@@ -2,7 +2,7 @@
 -- what comes of it, in the paper's order, so that the first row whose test holds decides (01, 'What comes back when it is no', "Order in the
 -- client", and 'The client, step by step'; 02 §3 and §5). And whatever list of inputs comes, N, the version, which bank runs and every byte of that bank stay.
 -- Assumes nothing.
-use Rattle.std.specs.Prelude.{◌≡◌, None, Some, Bool, true, false, not, ◌&&◌, ◌||◌, cond, List, [], ◌∷◌, ◌++◌, ℕ, ◌-◌, eqb, length, get_or, drop, Some, None, Option}
+use Rattle.std.specs.Prelude.{◌≡◌, None, Some, Bool, true, false, not, ◌&&◌, ◌||◌, cond, List, [], ◌∷◌, ◌++◌, ℕ, ◌-◌, eqb, length, get_or, drop, Option}
 use Rattle.buffer.specs.Compare.{same_of, blank_of}
 use Rattle.buffer.specs.Number.{number_at}
 use Rattle.buffer.specs.Place.{front_of}
