@@ -59,7 +59,7 @@ fn say_opener(rt: &impl Env, state: State, opener: [u8; ADDRESS]) {
 }
 
 fn say_bank(rt: &impl Env, bank: Bank) {
-    say::field(rt, layout::bank_number(bank) as usize);
+    say::field(rt, usize::from(u8::from(bank)));
 }
 
 fn say_version(rt: &impl Env, major: u8, minor: u8, revision: u32) {

@@ -32,6 +32,7 @@ determined =
       bank_size = λ n. once _;
       sectors = λ length x y p q. p.counted ∙ sym q.counted;
       bank_number = λ bank. once _;
+      numbered_bank = λ k. once _;
       other = λ bank. once _;
       start = λ bank. once _;
       end = λ bank n. once _;

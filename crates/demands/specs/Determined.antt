@@ -40,7 +40,7 @@ use Rattle.frame.specs.Read.{IsParameters, IsData}
 use Rattle.frame.specs.Write.{IsPutControl, IsPutWrite, IsPutError}
 use Rattle.flash.specs.declared.sector.Store.{Store}
 use Rattle.flash.specs.Bank.{IsStore, IsWriteAt, IsSweep}
-use Rattle.layout.specs.Layout.{IsGoodN, IsBankSize, IsSectors, IsBankNumber, IsOther, IsStart, IsEnd, IsSectorOffset}
+use Rattle.layout.specs.Layout.{IsGoodN, IsBankSize, IsSectors, IsBankNumber, IsNumberedBank, IsOther, IsStart, IsEnd, IsSectorOffset}
 use Rattle.digits.specs.Digit.{IsValue, IsDigit}
 use Rattle.bank.specs.Gaps.{IsGaps}
 use Rattle.bank.specs.Listed.{IsBodyCount, IsStretchAt}
@@ -104,6 +104,7 @@ pub record Determined : Type 0 where
   pub bank_size : (n : ℕ) → Once (IsBankSize n)
   pub sectors : (length : ℕ) → Once (IsSectors length)
   pub bank_number : (bank : Bank) → Once (IsBankNumber bank)
+  pub numbered_bank : (k : ℕ) → Once (IsNumberedBank k)
   pub other : (bank : Bank) → Once (IsOther bank)
   pub start : (bank : Bank) → Once (IsStart bank)
   pub end : (bank : Bank) (n : ℕ) → Once (IsEnd bank n)

@@ -6,7 +6,7 @@ ghost use Rattle.response.specs.Said.{IsResponseNumber, IsResponse};
 
 use commands::Command;
 use frame::read::{Footer, Frame};
-use layout::Bank;
+use layout::{Bank, NoBank};
 
 #[derive(Clone, Copy)]
 pub enum Response {
@@ -94,16 +94,14 @@ fn added(command: Command, res: u8) -> usize
 }
 
 // The bank that a number names.
+#[tactic(auto, unfolding(crate::specs::Response::target_of))]
 fn named(number: u8) -> Response
     ensures { result ≡ target_of number }
 {
-    if number == 0 {
-        return Response::Target { bank: Bank::Zero };
+    match Bank::try_from(number) {
+        Ok(bank) => Response::Target { bank },
+        Err(NoBank) => Response::Unreadable,
     }
-    if number == 1 {
-        return Response::Target { bank: Bank::One };
-    }
-    Response::Unreadable
 }
 
 // What stands behind the result 06, there being as many bytes as it asks for.

@@ -76,7 +76,7 @@ fn say_plain(rt: &impl Env, code: u8, res: u8) {
 
 fn say_bank(rt: &impl Env, bank: Bank) {
     say::text(rt, b"bank ");
-    say::decimal(rt, layout::bank_number(bank) as usize);
+    say::decimal(rt, usize::from(u8::from(bank)));
 }
 
 // The word of an answer, and its four fields.

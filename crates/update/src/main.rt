@@ -21,7 +21,7 @@ const LONGEST_TEXT: usize = 1_048_576;
 const LONGEST_IMAGE: usize = 251_392;
 
 fn say_bank(rt: &impl Env, target: Bank) {
-    say::decimal(rt, layout::bank_number(target) as usize);
+    say::decimal(rt, usize::from(u8::from(target)));
 }
 
 fn say_report(rt: &impl Env, image: &[u8], target: Bank, n: usize, packets: usize) -> usize {

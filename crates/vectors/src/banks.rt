@@ -16,7 +16,7 @@ const LONGEST_SHOWN: usize = 64;
 
 fn say_layout(rt: &impl Env, bank: Bank, n: usize) {
     say::text(rt, b"layout ");
-    say::decimal(rt, layout::bank_number(bank) as usize);
+    say::decimal(rt, usize::from(u8::from(bank)));
     say::text(rt, b" ");
     say::quad(rt, layout::start_address(bank));
     say::text(rt, b" ");
