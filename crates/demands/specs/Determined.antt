@@ -70,7 +70,7 @@ use Rattle.client.specs.Host.{Told, IsReasonNumber, IsTold, IsNew, IsInitiate, I
 use Rattle.client.specs.Notice.{MaybeNotice, IsLatestNumber, IsNoticeCode}
 use Rattle.client.specs.Step.{IsTake, IsStep}
 use Rattle.script.specs.Text.{IsFirst, IsRest, IsEndsInBlank}
-use Rattle.script.specs.Spelt.{IsHex, IsDecimal, IsBytes}
+use Rattle.script.specs.Spelt.{IsHex, IsDecimal, IsByte, IsBytes, IsBank}
 use Rattle.script.specs.Line.{IsBefore, IsHeld}
 
 pub record Determined : Type 0 where
@@ -176,6 +176,8 @@ pub record Determined : Type 0 where
   pub ends_in_blank : (text : List ℕ) → Once (IsEndsInBlank text)
   pub hex_number : (text : List ℕ) (digits : ℕ) → Once (IsHex text digits)
   pub decimal_number : (text : List ℕ) (most : ℕ) → Once (IsDecimal text most)
+  pub byte_field : (text : List ℕ) → Once (IsByte text)
+  pub bank_field : (text : List ℕ) → Once (IsBank text)
   pub spelt_bytes : (text before : List ℕ) → Twice (IsBytes text before)
   pub before_lines : Once IsBefore
   pub held_line : (line : List ℕ) (turn : Turn) → Once (IsHeld line turn)
