@@ -1,7 +1,7 @@
 -- From the contracts to the demands: what a public function's contract allows of its result and of lent memory is the very outcome of the machine,
 -- the maker or the reader of which a demand is proved. One line for each such function.
 -- Assumes nothing.
-use Rattle.std.specs.Prelude.{◌≡◌, List, ℕ, length}
+use Rattle.std.specs.Prelude.{◌≡◌, List, ℕ, length, Result}
 use Rattle.layout.specs.declared.Bank.{Bank}
 use Rattle.layout.specs.Layout.{bank_size}
 use Rattle.layout.specs.Pair.{Banks, banks, bank_in}
@@ -16,10 +16,9 @@ use Rattle.hex_text.specs.Read.{text_read}
 use Rattle.hex_text.specs.Read.{IsRead as IsReadText}
 use Rattle.rows.specs.declared.text.Written.{Written}
 use Rattle.rows.specs.Text.{length_of, IsLength, IsWrite}
-use Rattle.sender.specs.declared.made.Made.{Made}
-use Rattle.sender.specs.declared.packet.Tally.{Tally}
+use Rattle.sender.specs.declared.made.Place.{Place}
+use Rattle.sender.specs.declared.made.Refusal.{Refusal as Unmade}
 use Rattle.sender.specs.declared.request.Request.{Request}
-use Rattle.sender.specs.declared.packet.Placed.{Placed}
 use Rattle.sender.specs.Packet.{tally_of, placed_of, IsCount, IsPlace, IsPacket}
 use Rattle.sender.specs.Request.{IsRequest}
 use Rattle.response.specs.declared.read.Response.{Response}
@@ -102,12 +101,12 @@ pub record Contracts : Type 0 where
   pub write_text : {image : List ℕ} {bank : Bank} {before : List ℕ} {r : Written} {after : List ℕ}
       → IsWrite image bank before r after → text_writer image bank before ≡ wrote r after
   -- the sender
-  pub count : {image : List ℕ} {n : ℕ} {r : Tally} → IsCount image n r → tally_of image n ≡ r
-  pub packet : {image : List ℕ} {n p : ℕ} {before : List ℕ} {r : Made} {after : List ℕ}
+  pub count : {image : List ℕ} {n : ℕ} {r : Result ℕ Unmade} → IsCount image n r → tally_of image n ≡ r
+  pub packet : {image : List ℕ} {n p : ℕ} {before : List ℕ} {r : Result ℕ Unmade} {after : List ℕ}
       → IsPacket image n p before r after → packet_maker image n p before ≡ out r after
-  pub request : {request : Request} {before : List ℕ} {r : Made} {after : List ℕ}
+  pub request : {request : Request} {before : List ℕ} {r : Result ℕ Unmade} {after : List ℕ}
       → IsRequest request before r after → request_maker request before ≡ out r after
-  pub place : {image : List ℕ} {n p : ℕ} {r : Placed} → IsPlace image n p r → placed_of image n p ≡ r
+  pub place : {image : List ℕ} {n p : ℕ} {r : Result Place Unmade} → IsPlace image n p r → placed_of image n p ≡ r
   -- the night sender
   pub night_start : {image : List ℕ} {bank : Bank} {n tries : ℕ} {before : List ℕ} {r : Called} {after : List ℕ}
       → IsNightStart image bank n tries before r after → night_sender.start image bank n tries before ≡ told_back r after

@@ -12,8 +12,7 @@ use Rattle.hex_text.specs.declared.fault.Kind.{Kind}
 use Rattle.hex_text.specs.declared.read.Answer.{Answer as ReadAnswer}
 use Rattle.rows.specs.declared.text.Written.{Written}
 use Rattle.clean.specs.declared.Cleaned.{Cleaned}
-use Rattle.sender.specs.declared.made.Made.{Made}
-use Rattle.sender.specs.declared.packet.Tally.{Tally}
+use Rattle.sender.specs.declared.made.Refusal.{Refusal as Unmade}
 use Rattle.sender.specs.declared.request.Request.{Request}
 use Rattle.commands.specs.declared.Command.{Command}
 use Rattle.response.specs.declared.read.Response.{Response}
@@ -51,8 +50,8 @@ use Rattle.lines.specs.Places.{IsReader, IsNext}
 use Rattle.hex_text.specs.Read.{IsKindNumber, IsAnswerNumber}
 use Rattle.hex_text.specs.Read.{IsRead as IsReadText}
 use Rattle.rows.specs.Text.{IsWrittenNumber, IsLength, IsWrite}
-use Rattle.sender.specs.Made.{IsMadeNumber}
-use Rattle.sender.specs.Packet.{IsTallyNumber, IsCount, IsPacket}
+use Rattle.sender.specs.Made.{IsRefusalNumber as IsUnmadeNumber}
+use Rattle.sender.specs.Packet.{IsCount, IsPacket}
 use Rattle.sender.specs.Packet.{IsPlace as IsPlacePacket}
 use Rattle.sender.specs.Request.{IsCommandOf, IsRequest}
 use Rattle.response.specs.Said.{IsResponseNumber, IsResponse}
@@ -124,8 +123,7 @@ pub record Determined : Type 0 where
   pub next_line : (reader : LineReader) → Once (IsNext reader)
   pub kind_number : (kind : Kind) → Once (IsKindNumber kind)
   pub answer_number : (answer : ReadAnswer) → Once (IsAnswerNumber answer)
-  pub made_number : (made : Made) → Once (IsMadeNumber made)
-  pub tally_number : (tally : Tally) → Once (IsTallyNumber tally)
+  pub unmade_number : (why : Unmade) → Once (IsUnmadeNumber why)
   pub response_number : (response : Response) → Once (IsResponseNumber response)
   pub read_text : (text : List ℕ) (bank : Bank) (n : ℕ) (before : List ℕ) → Twice (IsReadText text bank n before)
   pub written_number : (written : Written) → Once (IsWrittenNumber written)

@@ -7,16 +7,16 @@ use native.Mathlib.Omega.{arith}
 use lib.Dec.{leb, ltb}
 use lib.ListN.{length}
 use borrow.Author.Tests.{ltb-true}
+use Rattle.std.specs.Prelude.{Result, Ok, Err}
 use Rattle.buffer.proofs.Bools.{split}
 use Rattle.layout.specs.declared.Bank.{Bank}
 use Rattle.layout.specs.Layout.{good_n}
 use Rattle.response.specs.declared.read.Response.{Response}
 use Rattle.response.specs.Response.{response_of}
+use Rattle.sender.specs.declared.made.Place.{Place}
 use Rattle.sender.specs.Packet.{packet_count}
 use Rattle.night.specs.declared.judge.Verdict.{Verdict}
 use Rattle.night.specs.declared.judge.Verdict.TheVariants.{Settled, Spent, Stops}
-use Rattle.night.specs.declared.lent.Looked.{Looked}
-use Rattle.night.specs.declared.lent.Looked.TheVariants.{Refused, Good}
 use Rattle.night.specs.declared.name.Name.{Name}
 use Rattle.night.specs.declared.name.Name.TheVariants.{ModeStart, VersionInfo, BankInfo, WriteStart, Packet, WriteEnd, ModeEnd}
 use Rattle.night.specs.declared.record.Called.{Called}
@@ -86,9 +86,9 @@ stands_there name gone tries count verdict stand {packets} h q e =
 -- ---- a refusal says its number, and the buffer keeps its bytes
 
 module _ (image : List ℕ) (n tries size p : ℕ) (bank : Bank) (m : ℕ) (before : List ℕ) where
-  keeps_in : Looked → Type 0
-  keeps_in (Refused why) = buffer_after image bank m before why ≡ before
-  keeps_in (Good sector count) = before ≡ before
+  keeps_in : Result Place Next → Type 0
+  keeps_in (Err why) = buffer_after image bank m before why ≡ before
+  keeps_in (Ok place) = before ≡ before
 
   keeps : keeps_in (looked_of image n tries size p)
   unfolding looked_of keeps_in
@@ -100,7 +100,7 @@ module _ (image : List ℕ) (n tries size p : ℕ) (bank : Bank) (m : ℕ) (befo
       (λ _. refl))
       (λ _. refl)
 
-  pub refused_keeps : (why : Next) → Refused why ≡ looked_of image n tries size p → buffer_after image bank m before why ≡ before
+  pub refused_keeps : (why : Next) → Err why ≡ looked_of image n tries size p → buffer_after image bank m before why ≡ before
   unfolding keeps_in
   refused_keeps why e = subst keeps_in (sym e) keeps
 
@@ -135,45 +135,45 @@ module _ (night : Night) (image before : List ℕ) (r : Called) where
 -- ---- the night is over
 
 module _ (night : Night) (p : ℕ) (end : Next) (image : List ℕ) (size : ℕ) (r : Called) where
-  pub over_refused : (why : Next) → Refused why ≡ looked_of image night.n night.tries size p → r ≡ called night why
+  pub over_refused : (why : Next) → Err why ≡ looked_of image night.n night.tries size p → r ≡ called night why
       → r ≡ over_of night p end image size
   unfolding over_of
   over_refused why e a = a ∙ ap (end_told night end) e
 
-  pub over_told : (sector count : ℕ) → Good sector count ≡ looked_of image night.n night.tries size p → r ≡ called night end
+  pub over_told : (place : Place) → Ok place ≡ looked_of image night.n night.tries size p → r ≡ called night end
       → r ≡ over_of night p end image size
   unfolding over_of
-  over_told sector count e a = a ∙ ap (end_told night end) e
+  over_told place e a = a ∙ ap (end_told night end) e
 
 -- ---- a request is at hand
 
 module _ (night : Night) (name : Name) (gone : ℕ) (response : Response) (image before : List ℕ) (r : Called) where
-  abbrev looked : Looked
+  abbrev looked : Result Place Next
   looked = looked_of image night.n night.tries (length before) (number_of name)
 
-  pub hand_refused : (why : Next) → Refused why ≡ looked → r ≡ called night why → IsAtHand night name gone response image before r before
+  pub hand_refused : (why : Next) → Err why ≡ looked → r ≡ called night why → IsAtHand night name gone response image before r before
   unfolding at_hand_of
   hand_refused why e a =
       record {
         answered = a ∙ ap (judged night name gone response image) e;
         stands =
             sym (refused_keeps image night.n night.tries (length before) (number_of name) night.bank night.n before why e)
-            ∙ ap (λ (l : Looked). buffer_by image before (judged night name gone response image l)) e;
+            ∙ ap (λ (l : Result Place Next). buffer_by image before (judged night name gone response image l)) e;
       }
 
-  pub hand_moved : (after : List ℕ) (sector count : ℕ) (verdict : Verdict) (stand : Stand) → Good sector count ≡ looked
-      → verdict ≡ judge_of name (leb 2 gone) night.bank image sector response → stand ≡ moved_of name gone night.tries count verdict
+  pub hand_moved : (after : List ℕ) (place : Place) (verdict : Verdict) (stand : Stand) → Ok place ≡ looked
+      → verdict ≡ judge_of name (leb 2 gone) night.bank image place.sector response → stand ≡ moved_of name gone night.tries place.count verdict
       → IsGoesOn (standing stand night) image before r after → IsAtHand night name gone response image before r after
   unfolding at_hand_of
-  hand_moved after sector count verdict stand e v s g =
-      let m : stand ≡ moved_of name gone night.tries count (judge_of name (leb 2 gone) night.bank image sector response) =
-      s ∙ ap (moved_of name gone night.tries count) v in
+  hand_moved after place verdict stand e v s g =
+      let m : stand ≡ moved_of name gone night.tries place.count (judge_of name (leb 2 gone) night.bank image place.sector response) =
+      s ∙ ap (moved_of name gone night.tries place.count) v in
       record {
         answered = g.answered ∙ ap (λ (x : Stand). gone_on image (standing x night)) m ∙ ap (judged night name gone response image) e;
         stands =
             g.stands
             ∙ ap (λ (x : Stand). buffer_by image before (gone_on image (standing x night))) m
-            ∙ ap (λ (l : Looked). buffer_by image before (judged night name gone response image l)) e;
+            ∙ ap (λ (l : Result Place Next). buffer_by image before (judged night name gone response image l)) e;
       }
 
 -- ---- an event
@@ -183,31 +183,31 @@ module _ (night : Night) (name : Name) (gone : ℕ) (response : Response) (image
   unfolding at_hand_of
   hand_says = by (looked_of image night.n night.tries size (number_of name)) refl
     where
-      by : (l : Looked) → l ≡ looked_of image night.n night.tries size (number_of name)
+      by : (l : Result Place Next) → l ≡ looked_of image night.n night.tries size (number_of name)
           → next_number (judged night name gone response image l).next ≡ lent_says image night.n night.tries size (number_of name)
-      by (Refused why) e = says_refused image night.n night.tries size (number_of name) why e
-      by (Good sector count) e =
-          next_says image night.bank night.n (moved_of name gone night.tries count (judge_of name (leb 2 gone) night.bank image sector response))
-          ∙ says_good image night.n night.tries size (number_of name) sector count e
+      by (Err why) e = says_refused image night.n night.tries size (number_of name) why e
+      by (Ok place) e =
+          next_says image night.bank night.n (moved_of name gone night.tries place.count (judge_of name (leb 2 gone) night.bank image place.sector response))
+          ∙ says_good image night.n night.tries size (number_of name) place e
 
 module _ (night : Night) (p : ℕ) (end : Next) (image : List ℕ) (size : ℕ) where
   pub over_says : next_number end ≡ 0 → next_number (over_of night p end image size).next ≡ lent_says image night.n night.tries size p
   unfolding over_of
   over_says z = by (looked_of image night.n night.tries size p) refl
     where
-      by : (l : Looked) → l ≡ looked_of image night.n night.tries size p
+      by : (l : Result Place Next) → l ≡ looked_of image night.n night.tries size p
           → next_number (end_told night end l).next ≡ lent_says image night.n night.tries size p
-      by (Refused why) e = says_refused image night.n night.tries size p why e
-      by (Good sector count) e = z ∙ says_good image night.n night.tries size p sector count e
+      by (Err why) e = says_refused image night.n night.tries size p why e
+      by (Ok place) e = z ∙ says_good image night.n night.tries size p place e
 
   over_keeps : (before : List ℕ) → buffer_after image night.bank night.n before end ≡ before
       → before ≡ buffer_by image before (over_of night p end image size)
   unfolding over_of
   over_keeps before z = by (looked_of image night.n night.tries size p) refl
     where
-      by : (l : Looked) → l ≡ looked_of image night.n night.tries size p → before ≡ buffer_by image before (end_told night end l)
-      by (Refused why) e = sym (refused_keeps image night.n night.tries size p night.bank night.n before why e)
-      by (Good sector count) e = sym z
+      by : (l : Result Place Next) → l ≡ looked_of image night.n night.tries size p → before ≡ buffer_by image before (end_told night end l)
+      by (Err why) e = sym (refused_keeps image night.n night.tries size p night.bank night.n before why e)
+      by (Ok place) e = sym z
 
 module _ (night : Night) (response : Response) (image before : List ℕ) (r : Called) where
   by_stand_lem : (after : List ℕ) (stand : Stand) → night.stand ≡ stand → r ≡ by_stand night response image (length before) stand
@@ -253,10 +253,10 @@ step_heard night response datagram image before r after e s =
 -- ---- the start
 
 module _ (image : List ℕ) (bank : Bank) (n tries : ℕ) (before : List ℕ) (r : Called) where
-  abbrev first : Looked
+  abbrev first : Result Place Next
   first = looked_of image n tries (length before) 0
 
-  pub start_refused : (why : Next) → Refused why ≡ first → r ≡ called (night_of bank n tries NotBegun) why
+  pub start_refused : (why : Next) → Err why ≡ first → r ≡ called (night_of bank n tries NotBegun) why
       → IsStart image bank n tries before r before
   unfolding start_of
   start_refused why e a =
@@ -265,16 +265,16 @@ module _ (image : List ℕ) (bank : Bank) (n tries : ℕ) (before : List ℕ) (r
         says = ap (λ (c : Called). next_number c.next) a ∙ says_refused image n tries (length before) 0 why e;
         stands =
             sym (refused_keeps image n tries (length before) 0 bank n before why e)
-            ∙ ap (λ (l : Looked). buffer_by image before (begun image bank n tries l)) e;
+            ∙ ap (λ (l : Result Place Next). buffer_by image before (begun image bank n tries l)) e;
       }
 
-  pub start_gone : (after : List ℕ) (sector count : ℕ) → Good sector count ≡ first
+  pub start_gone : (after : List ℕ) (place : Place) → Ok place ≡ first
       → IsGoesOn (night_of bank n tries (At ModeStart 1)) image before r after
       → IsStart image bank n tries before r after
   unfolding start_of
-  start_gone after sector count e g =
+  start_gone after place e g =
       record {
         answered = g.answered ∙ ap (begun image bank n tries) e;
-        says = ap (λ (c : Called). next_number c.next) g.answered ∙ says_good image n tries (length before) 0 sector count e;
-        stands = g.stands ∙ ap (λ (l : Looked). buffer_by image before (begun image bank n tries l)) e;
+        says = ap (λ (c : Called). next_number c.next) g.answered ∙ says_good image n tries (length before) 0 place e;
+        stands = g.stands ∙ ap (λ (l : Result Place Next). buffer_by image before (begun image bank n tries l)) e;
       }

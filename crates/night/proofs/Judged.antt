@@ -10,6 +10,7 @@ use native.Mathlib.Omega.{arith}
 use lib.Dec.{eqb, leb, ltb}
 use lib.ListN.{length}
 use borrow.Author.Tests.{eqb-true, eq-eqb, ltb-true, ltb-false, le-ltb}
+use Rattle.std.specs.Prelude.{Result, Ok, Err}
 use Rattle.buffer.proofs.Bools.{split, and_left, and_right, and_false, no_way}
 use Rattle.commands.specs.declared.Command.{Command}
 use Rattle.commands.specs.declared.Command.TheVariants as command
@@ -21,13 +22,12 @@ use Rattle.layout.specs.declared.Bank.{Bank}
 use Rattle.layout.specs.declared.Bank.TheVariants.{Zero, One}
 use Rattle.response.specs.declared.read.Response.{Response}
 use Rattle.response.specs.declared.read.Response.TheVariants.{Unreadable, Plain, Error, Target, Firmware, Written}
+use Rattle.sender.specs.declared.made.Place.{Place}
 use Rattle.sender.specs.Packet.{packet_count, packet_sector}
 use Rattle.night.specs.declared.judge.Verdict.{Verdict}
 use Rattle.night.specs.declared.judge.Verdict.TheVariants.{Settled, Spent, Stops}
 use Rattle.night.specs.declared.name.Name.{Name}
 use Rattle.night.specs.declared.name.Name.TheVariants.{ModeStart, VersionInfo, BankInfo, WriteStart, Packet, WriteEnd, ModeEnd}
-use Rattle.night.specs.declared.lent.Looked.{Looked}
-use Rattle.night.specs.declared.lent.Looked.TheVariants.{Refused, Good}
 use Rattle.night.specs.declared.record.Called.{Called}
 use Rattle.night.specs.declared.record.Next.{Next}
 use Rattle.night.specs.declared.record.Next.TheVariants as next
@@ -425,7 +425,7 @@ module _ (night : Night) (response : Response) (image before : List ℕ) where
   abbrev Refusing : Called → Type 0
   Refusing c = (next_number c.next ≡ 0 → ⊥) → Kept night image before c
 
-  refused_kept : (p : ℕ) (why : Next) → Refused why ≡ looked_of image night.n night.tries (length before) p
+  refused_kept : (p : ℕ) (why : Next) → Err why ≡ looked_of image night.n night.tries (length before) p
       → Kept night image before (called night why)
   refused_kept p why e =
       record { same = refl; buffer = refused_keeps image night.n night.tries (length before) p night.bank night.n before why e }
@@ -434,22 +434,22 @@ module _ (night : Night) (response : Response) (image before : List ℕ) where
   unfolding over_of
   over_kept p end z = by (looked_of image night.n night.tries (length before) p) refl
     where
-      by : (l : Looked) → l ≡ looked_of image night.n night.tries (length before) p → Refusing (end_told night end l)
-      by (Refused why) e h = refused_kept p why e
-      by (Good sector count) e h = absurd (h z)
+      by : (l : Result Place Next) → l ≡ looked_of image night.n night.tries (length before) p → Refusing (end_told night end l)
+      by (Err why) e h = refused_kept p why e
+      by (Ok place) e h = absurd (h z)
 
   hand_kept : (name : Name) (gone : ℕ) → Refusing (at_hand_of night name gone response image (length before))
   unfolding at_hand_of
   hand_kept name gone = by (looked_of image night.n night.tries (length before) (number_of name)) refl
     where
-      by : (l : Looked) → l ≡ looked_of image night.n night.tries (length before) (number_of name)
+      by : (l : Result Place Next) → l ≡ looked_of image night.n night.tries (length before) (number_of name)
           → Refusing (judged night name gone response image l)
-      by (Refused why) e h = refused_kept (number_of name) why e
-      by (Good sector count) e h =
+      by (Err why) e h = refused_kept (number_of name) why e
+      by (Ok place) e h =
           absurd
           (h
           (next_says image night.bank night.n
-          (moved_of name gone night.tries count (judge_of name (leb 2 gone) night.bank image sector response))))
+          (moved_of name gone night.tries place.count (judge_of name (leb 2 gone) night.bank image place.sector response))))
 
   pub step_kept : Refusing (step_of night response image (length before))
   step_kept = by night.stand
@@ -466,9 +466,9 @@ module _ (name : Name) (size : ℕ) where
   abbrev Other : Next → Type 0
   Other told = told ≡ next.Send name size → ⊥
 
-  abbrev RefusalOther : Looked → Type 0
-  RefusalOther (Refused why) = Other why
-  RefusalOther (Good sector count) = Unit {0}
+  abbrev RefusalOther : Result Place Next → Type 0
+  RefusalOther (Err why) = Other why
+  RefusalOther (Ok place) = Unit {0}
 
   refusal_other : (image : List ℕ) (n tries room p : ℕ) → RefusalOther (looked_of image n tries room p)
   unfolding looked_of
@@ -510,16 +510,16 @@ module _ (name : Name) (size : ℕ) where
       by (looked_of image night.n night.tries room (number_of name)) refl
       (sym (ap (λ (s : Stand). (by_stand night response image room s).next) e) ∙ q)
     where
-      by : (l : Looked) → l ≡ looked_of image night.n night.tries room (number_of name) → Other (judged night name gone response image l).next
-      by (Refused why) s = subst RefusalOther (sym s) (refusal_other image night.n night.tries room (number_of name))
-      by (Good sector count) s =
-          moved_other image night.bank night.n gone night.tries count (judge_of name (leb 2 gone) night.bank image sector response) h
+      by : (l : Result Place Next) → l ≡ looked_of image night.n night.tries room (number_of name) → Other (judged night name gone response image l).next
+      by (Err why) s = subst RefusalOther (sym s) (refusal_other image night.n night.tries room (number_of name))
+      by (Ok place) s =
+          moved_other image night.bank night.n gone night.tries place.count (judge_of name (leb 2 gone) night.bank image place.sector response) h
 
 -- ---- what has gone out T times, and settles nothing, is given up
 
-abbrev RefusalCounts : Looked → Type 0
-RefusalCounts (Refused why) = next_number why ≡ 0 → ⊥
-RefusalCounts (Good sector count) = Unit {0}
+abbrev RefusalCounts : Result Place Next → Type 0
+RefusalCounts (Err why) = next_number why ≡ 0 → ⊥
+RefusalCounts (Ok place) = Unit {0}
 
 refusal_counts : (image : List ℕ) (n tries size p : ℕ) → RefusalCounts (looked_of image n tries size p)
 unfolding looked_of
@@ -534,10 +534,10 @@ refusal_counts image n tries size p =
     (λ _ e. absurd (omega arith))
 
 module _ (night : Night) (response : Response) (image : List ℕ) (size : ℕ) (name : Name) (gone : ℕ) where
-  spent_up : (sector count : ℕ) → night.tries ≤ gone → Spending name (leb 2 gone) night.bank image sector response
-      → judged night name gone response image (Good sector count) ≡ called (standing (GaveUp name Tries) night) (next.GaveUp name Tries)
-  spent_up sector count h e =
-      ap (λ (s : Stand). gone_on image (standing s night)) (ap (moved_of name gone night.tries count) e ∙ sym (given_up name gone night.tries h))
+  spent_up : (place : Place) → night.tries ≤ gone → Spending name (leb 2 gone) night.bank image place.sector response
+      → judged night name gone response image (Ok place) ≡ called (standing (GaveUp name Tries) night) (next.GaveUp name Tries)
+  spent_up place h e =
+      ap (λ (s : Stand). gone_on image (standing s night)) (ap (moved_of name gone night.tries place.count) e ∙ sym (given_up name gone night.tries h))
 
   pub gives_up : night.stand ≡ At name gone → night.tries ≤ gone → next_number (step_of night response image size).next ≡ 0
       → Spending name (leb 2 gone) night.bank image (packet_sector image night.n (number_of name)) response
@@ -547,14 +547,14 @@ module _ (night : Night) (response : Response) (image : List ℕ) (size : ℕ) (
       let here : step_of night response image size ≡ at_hand_of night name gone response image size = ap (by_stand night response image size) e in
       here ∙ by (looked_of image night.n night.tries size (number_of name)) refl (sym (ap (λ (c : Called). next_number c.next) here) ∙ z)
     where
-      by : (l : Looked) → l ≡ looked_of image night.n night.tries size (number_of name)
+      by : (l : Result Place Next) → l ≡ looked_of image night.n night.tries size (number_of name)
           → next_number (judged night name gone response image l).next ≡ 0
           → judged night name gone response image l ≡ called (standing (GaveUp name Tries) night) (next.GaveUp name Tries)
-      by (Refused why) q no-refusal =
+      by (Err why) q no-refusal =
           absurd (subst RefusalCounts (sym q) (refusal_counts image night.n night.tries size (number_of name)) no-refusal)
-      by (Good sector count) q no-refusal =
-          let given = lent image night.n night.tries size (number_of name) sector count q in
-          spent_up sector count h (subst (λ (x : ℕ). Spending name (leb 2 gone) night.bank image x response) (sym given.sector_is) t)
+      by (Ok place) q no-refusal =
+          let given = lent image night.n night.tries size (number_of name) place q in
+          spent_up place h (subst (λ (x : ℕ). Spending name (leb 2 gone) night.bank image x response) (sym given.sector_is) t)
 
 -- ---- the refusals, in the paper's numbers
 
@@ -577,10 +577,10 @@ module _ (image : List ℕ) (bank : Bank) (n tries : ℕ) (before : List ℕ) wh
   unfolding start_of
   start_says = by (looked_of image n tries (length before) 0) refl
     where
-      by : (l : Looked) → l ≡ looked_of image n tries (length before) 0
+      by : (l : Result Place Next) → l ≡ looked_of image n tries (length before) 0
           → next_number (begun image bank n tries l).next ≡ lent_says image n tries (length before) 0
-      by (Refused why) e = says_refused image n tries (length before) 0 why e
-      by (Good sector count) e = says_good image n tries (length before) 0 sector count e
+      by (Err why) e = says_refused image n tries (length before) 0 why e
+      by (Ok place) e = says_good image n tries (length before) 0 place e
 
   -- a refused start: the buffer is as it was, and the record stands nowhere
   pub start_kept : (next_number (start_of image bank n tries (length before)).next ≡ 0 → ⊥)
@@ -588,7 +588,7 @@ module _ (image : List ℕ) (bank : Bank) (n tries : ℕ) (before : List ℕ) wh
   unfolding start_of
   start_kept = by (looked_of image n tries (length before) 0) refl
     where
-      by : (l : Looked) → l ≡ looked_of image n tries (length before) 0 → (next_number (begun image bank n tries l).next ≡ 0 → ⊥)
+      by : (l : Result Place Next) → l ≡ looked_of image n tries (length before) 0 → (next_number (begun image bank n tries l).next ≡ 0 → ⊥)
           → Kept (night_of bank n tries NotBegun) image before (begun image bank n tries l)
-      by (Refused why) e h = record { same = refl; buffer = refused_keeps image n tries (length before) 0 bank n before why e }
-      by (Good sector count) e h = absurd (h refl)
+      by (Err why) e h = record { same = refl; buffer = refused_keeps image n tries (length before) 0 bank n before why e }
+      by (Ok place) e h = absurd (h refl)

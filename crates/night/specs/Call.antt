@@ -1,17 +1,16 @@
 -- The calls of a night (02 §4, "takes an event (a response, or silence) and gives the next request").
 -- Assumes nothing.
-use Rattle.std.specs.Prelude.{◌≡◌, Bool, not, cond, List, ℕ, leb, ltb, length}
+use Rattle.std.specs.Prelude.{◌≡◌, Bool, not, cond, List, ℕ, leb, ltb, length, Result, Ok, Err}
 use Rattle.buffer.specs.Place.{front_of}
 use Rattle.layout.specs.declared.Bank.{Bank}
 use Rattle.layout.specs.Layout.{good_n}
 use Rattle.response.specs.declared.read.Response.{Response}
 use Rattle.response.specs.declared.read.Response.TheVariants.{Unreadable}
 use Rattle.response.specs.Response.{response_of}
-use Rattle.sender.specs.declared.made.Made.{Made}
-use Rattle.sender.specs.declared.made.Made.TheVariants as made
+use Rattle.sender.specs.declared.made.Place.{Place}
+use Rattle.sender.specs.declared.made.Refusal.{Refusal as Unmade}
+use Rattle.sender.specs.declared.made.Refusal.TheVariants as made
 use Rattle.sender.specs.Packet.{packet_count}
-use Rattle.night.specs.declared.lent.Looked.{Looked}
-use Rattle.night.specs.declared.lent.Looked.TheVariants.{Refused, Good}
 use Rattle.night.specs.declared.name.Name.{Name}
 use Rattle.night.specs.declared.name.Name.TheVariants.{ModeStart}
 use Rattle.night.specs.declared.record.Called.{Called}
@@ -56,18 +55,18 @@ abbrev pub gone_on : List ℕ → Night → Called
 gone_on image night = called night (next_of image night.bank night.n night.stand)
 
 -- "changes nothing": an end is told again
-abbrev pub end_told : Night → Next → Looked → Called
-end_told night end (Refused why) = called night why
-end_told night end (Good sector count) = called night end
+abbrev pub end_told : Night → Next → Result Place Next → Called
+end_told night end (Err why) = called night why
+end_told night end (Ok place) = called night end
 
 unfoldable pub over_of : Night → ℕ → Next → List ℕ → ℕ → Called
 over_of night p end image size = end_told night end (looked_of image night.n night.tries size p)
 
 -- the event is judged, and the record moves; "repeated" means gone out at least twice
-abbrev pub judged : Night → Name → ℕ → Response → List ℕ → Looked → Called
-judged night name gone response image (Refused why) = called night why
-judged night name gone response image (Good sector count) =
-    gone_on image (standing (moved_of name gone night.tries count (judge_of name (leb 2 gone) night.bank image sector response)) night)
+abbrev pub judged : Night → Name → ℕ → Response → List ℕ → Result Place Next → Called
+judged night name gone response image (Err why) = called night why
+judged night name gone response image (Ok place) =
+    gone_on image (standing (moved_of name gone night.tries place.count (judge_of name (leb 2 gone) night.bank image place.sector response)) night)
 
 unfoldable pub at_hand_of : Night → Name → ℕ → Response → List ℕ → ℕ → Called
 at_hand_of night name gone response image size =
@@ -87,9 +86,9 @@ abbrev pub night_of : Bank → ℕ → ℕ → Stand → Night
 night_of bank n tries stand = record { bank = bank; n = n; tries = tries; stand = stand }
 
 -- the first request comes "without an event"
-abbrev pub begun : List ℕ → Bank → ℕ → ℕ → Looked → Called
-begun image bank n tries (Refused why) = called (night_of bank n tries stand.NotBegun) why
-begun image bank n tries (Good sector count) = gone_on image (night_of bank n tries (stand.At ModeStart 1))
+abbrev pub begun : List ℕ → Bank → ℕ → ℕ → Result Place Next → Called
+begun image bank n tries (Err why) = called (night_of bank n tries stand.NotBegun) why
+begun image bank n tries (Ok place) = gone_on image (night_of bank n tries (stand.At ModeStart 1))
 
 unfoldable pub start_of : List ℕ → Bank → ℕ → ℕ → ℕ → Called
 start_of image bank n tries size = begun image bank n tries (looked_of image n tries size 0)
@@ -126,11 +125,11 @@ step_says image night size (stand.GaveUp name why) = lent_says image night.n nig
 -- ---- the contracts
 
 -- what goes out when a frame was made
-abbrev pub sent_by : Name → Made → Next
-sent_by name made.BadN = BadN
-sent_by name made.BadLength = BadLength
-sent_by name made.PastLast = NoPacket
-sent_by name (made.Frame size) = Send name size
+abbrev pub sent_by : Name → Result ℕ Unmade → Next
+sent_by name (Err made.BadN) = BadN
+sent_by name (Err made.BadLength) = BadLength
+sent_by name (Err made.PastLast) = NoPacket
+sent_by name (Ok size) = Send name size
 
 pub record IsMake (name : Name) (bank : Bank) (n : ℕ) (image before : List ℕ) (r : Next) (after : List ℕ) : Type 0 where
   pub answered : r ≡ Send name (length (frame_of image bank n name))

@@ -5,12 +5,12 @@ ghost use Rattle.sender.specs.Made.{room};
 ghost use Rattle.sender.specs.Packet.{image_good, packet_count};
 ghost use Rattle.night.specs.Call.{called, stands_at, over_of, IsGoesOn, IsAtHand, IsStep, IsStart, IsHeard, IsSilent};
 
-use crate::lent::Looked;
 use crate::name::Name;
 use crate::record::{Called, Next, Night, Stand};
 use crate::{judge, lent, make, name, record};
 use layout::Bank;
 use response::read::Response;
+use sender::made::Place;
 
 fn told(night: Night, next: Next) -> Called
     ensures { result ≡ called night next }
@@ -41,11 +41,8 @@ fn over(night: Night, p: usize, end: Next, image: &[u8], room: usize) -> Called
     ensures { result ≡ over_of night p end image.now room }
 {
     match lent::look(image, night.n, night.tries, room, p) {
-        Looked::Refused(why) => told(night, why),
-        Looked::Good {
-            sector: _,
-            count: _,
-        } => told(night, end),
+        Err(why) => told(night, why),
+        Ok(_) => told(night, end),
     }
 }
 
@@ -67,8 +64,8 @@ fn at_hand(
         buffer.len(),
         name::number(name),
     ) {
-        Looked::Refused(why) => told(night, why),
-        Looked::Good { sector, count } => {
+        Err(why) => told(night, why),
+        Ok(Place { sector, count }) => {
             let verdict = judge::judge(name, gone >= 2, bank, image, sector, response);
             let stand = record::moved(name, gone, night.tries, count, verdict);
             goes_on(Night { stand, ..night }, image, buffer)
@@ -98,7 +95,7 @@ pub fn start(image: &[u8], bank: Bank, n: usize, tries: usize, buffer: &mut [u8]
     ensures { IsStart image.now bank n tries buffer.old result buffer.new }
 {
     match lent::look(image, n, tries, buffer.len(), 0) {
-        Looked::Refused(why) => told(
+        Err(why) => told(
             Night {
                 bank,
                 n,
@@ -107,10 +104,7 @@ pub fn start(image: &[u8], bank: Bank, n: usize, tries: usize, buffer: &mut [u8]
             },
             why,
         ),
-        Looked::Good {
-            sector: _,
-            count: _,
-        } => goes_on(
+        Ok(_) => goes_on(
             Night {
                 bank,
                 n,

@@ -9,17 +9,17 @@ ghost use Rattle.night.specs.Call.{sent_by, IsMake};
 use crate::name::Name;
 use crate::record::Next;
 use layout::Bank;
-use sender::made::Made;
+use sender::made::Refusal;
 use sender::request::Request;
 
-fn sent(name: Name, made: Made) -> Next
+fn sent(name: Name, made: Result<usize, Refusal>) -> Next
     ensures { result ≡ sent_by name made }
 {
     match made {
-        Made::BadN => Next::BadN,
-        Made::BadLength => Next::BadLength,
-        Made::PastLast => Next::NoPacket,
-        Made::Frame(size) => Next::Send { name, size },
+        Err(Refusal::BadN) => Next::BadN,
+        Err(Refusal::BadLength) => Next::BadLength,
+        Err(Refusal::PastLast) => Next::NoPacket,
+        Ok(size) => Next::Send { name, size },
     }
 }
 

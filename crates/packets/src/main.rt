@@ -8,8 +8,7 @@ use hex_text::read::Answer;
 use layout::{Bank, SECTOR};
 use script::input::Input;
 use script::{call, input, say};
-use sender::made::{Made, ROOM};
-use sender::packet::Tally;
+use sender::made::ROOM;
 use std::env::Env;
 
 const N: usize = 32;
@@ -46,10 +45,9 @@ fn say_made(rt: &impl Env, buffer: &[u8], size: usize) {
 
 fn list_one(rt: &impl Env, image: &[u8], p: usize) {
     let mut buffer = [0u8; ROOM];
-    let made = sender::packet::packet(image, N, p, &mut buffer);
-    match made {
-        Made::Frame(size) => say_made(rt, &buffer, size),
-        _ => say_refused(rt, sender::made::made_number(made)),
+    match sender::packet::packet(image, N, p, &mut buffer) {
+        Ok(size) => say_made(rt, &buffer, size),
+        Err(why) => say_refused(rt, usize::from(why)),
     }
 }
 
@@ -65,10 +63,9 @@ fn list_all(rt: &impl Env, image: &[u8], count: usize) {
 }
 
 fn list(rt: &impl Env, image: &[u8]) {
-    let tally = sender::packet::count(image, N);
-    match tally {
-        Tally::Packets(count) => list_all(rt, image, count),
-        _ => say_refused(rt, sender::packet::tally_number(tally)),
+    match sender::packet::count(image, N) {
+        Ok(count) => list_all(rt, image, count),
+        Err(why) => say_refused(rt, usize::from(why)),
     }
 }
 

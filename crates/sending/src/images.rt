@@ -3,7 +3,6 @@ use crate::held::{Answered, Held, LONGEST_IMAGE};
 use crate::made::LARGEST_BUFFER;
 use crate::{held, made};
 use script::{say, text};
-use sender::packet::Tally;
 use std::env::Env;
 
 pub(crate) fn image(rt: &impl Env, image: &mut [u8], held: Held, fields: &[u8]) -> Answered {
@@ -63,10 +62,9 @@ pub(crate) fn count(rt: &impl Env, image: &[u8], fields: &[u8]) -> bool {
     if n > text::LARGEST_NUMBER {
         return false;
     }
-    let tally = sender::packet::count(image, n);
-    match tally {
-        Tally::Packets(count) => say_count(rt, count),
-        _ => say::refused(rt, sender::packet::tally_number(tally)),
+    match sender::packet::count(image, n) {
+        Ok(count) => say_count(rt, count),
+        Err(why) => say::refused(rt, usize::from(why)),
     }
     say::end(rt);
     true

@@ -1,7 +1,7 @@
 // What the maker of a frame answered, and the buffer that it was lent, which holds A5 before: the frame, and what stands behind it.
 use crate::held;
 use script::say;
-use sender::made::Made;
+use sender::made::Refusal;
 use std::env::Env;
 
 pub const LARGEST_BUFFER: usize = 600;
@@ -20,10 +20,10 @@ fn say_refused(rt: &impl Env, number: usize, buffer: &[u8]) {
     say::bytes(rt, buffer);
 }
 
-pub(crate) fn say_made(rt: &impl Env, made: Made, buffer: &[u8]) {
+pub(crate) fn say_made(rt: &impl Env, made: Result<usize, Refusal>, buffer: &[u8]) {
     match made {
-        Made::Frame(size) => say_frame(rt, size, buffer),
-        _ => say_refused(rt, sender::made::made_number(made), buffer),
+        Ok(size) => say_frame(rt, size, buffer),
+        Err(why) => say_refused(rt, usize::from(why), buffer),
     }
     say::end(rt);
 }

@@ -2,7 +2,7 @@
 use crate::refusals;
 use layout::Bank;
 use script::say;
-use sender::made::{Made, ROOM};
+use sender::made::{Refusal, ROOM};
 use sender::request::Request;
 use std::env::Env;
 
@@ -15,10 +15,10 @@ fn say_frame(rt: &impl Env, buffer: &[u8], size: usize) {
     }
 }
 
-fn say_made(rt: &impl Env, made: Made, buffer: &[u8]) {
+fn say_made(rt: &impl Env, made: Result<usize, Refusal>, buffer: &[u8]) {
     match made {
-        Made::Frame(size) => say_frame(rt, buffer, size),
-        _ => refusals::number(rt, sender::made::made_number(made)),
+        Ok(size) => say_frame(rt, buffer, size),
+        Err(why) => refusals::number(rt, usize::from(why)),
     }
 }
 

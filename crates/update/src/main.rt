@@ -13,7 +13,6 @@ use hex_text::read::Answer;
 use layout::{Bank, MOST, SECTOR};
 use script::input::Input;
 use script::{call, input, say, text};
-use sender::packet::Tally;
 use std::env::Env;
 
 const LONGEST_TEXT: usize = 1_048_576;
@@ -62,10 +61,9 @@ fn say_script(rt: &impl Env, image: &[u8], target: Bank, n: usize, packets: usiz
 }
 
 fn counted(rt: &impl Env, image: &[u8], target: Bank, n: usize) {
-    let tally = sender::packet::count(image, n);
-    match tally {
-        Tally::Packets(packets) => say_script(rt, image, target, n, packets),
-        _ => refusals::number(rt, sender::packet::tally_number(tally)),
+    match sender::packet::count(image, n) {
+        Ok(packets) => say_script(rt, image, target, n, packets),
+        Err(why) => refusals::number(rt, usize::from(why)),
     }
 }
 

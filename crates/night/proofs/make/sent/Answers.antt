@@ -4,5 +4,5 @@ use mathlib.Core.Path.{sym, ap}
 use Rattle.night.specs.Call.{sent_by}
 use Rattle.night.proofs.make.sent.Goals as goal
 
-pub returns-in-Frame : goal.returns-in-Frame
-returns-in-Frame c = sym (ap (sent_by _) c.in-Frame.is)
+pub returns-in-Ok : goal.returns-in-Ok
+returns-in-Ok c = sym (ap (sent_by _) c.in-Ok.is)
