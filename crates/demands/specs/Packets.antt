@@ -1,13 +1,7 @@
 -- What is asked of a maker of sector packets, whatever it is (01, 'Hex text', "The sender sends, lowest first"; 'What comes back when it is no',
 -- "Sender: 3, 2, 5"). A packet is judged by what its bytes say when they are read as a frame.
 -- Assumes nothing.
-<<<<<<< ours
-use Rattle.std.specs.Prelude.{◌≡◌, true, false, ◌&&◌, cond, List, ℕ, ◌≤◌, ◌<◌, leb, ltb, length, take, drop, Some}
-||||||| base
-use Rattle.std.specs.Prelude.{◌≡◌, true, false, ◌&&◌, cond, List, ℕ, ◌≤◌, ◌<◌, leb, ltb, length, take, drop}
-=======
-use Rattle.std.specs.Prelude.{◌≡◌, true, false, ◌&&◌, cond, List, ℕ, ◌≤◌, ◌<◌, leb, ltb, length, take, drop, Result}
->>>>>>> theirs
+use Rattle.std.specs.Prelude.{◌≡◌, true, false, ◌&&◌, cond, List, ℕ, ◌≤◌, ◌<◌, leb, ltb, length, take, drop, Some, Result}
 use Rattle.frame.specs.Read.{read_of, data_in}
 use Rattle.frame.specs.declared.read.Frame.TheVariants.{Write}
 use Rattle.layout.specs.Layout.{sector_size, good_n, sector_of}
