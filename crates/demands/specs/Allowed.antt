@@ -1,7 +1,7 @@
 -- From the contracts to the demands: what a public function's contract allows of its result and of lent memory is the very outcome of the machine,
 -- the maker or the reader of which a demand is proved. One line for each such function.
 -- Assumes nothing.
-use Rattle.std.specs.Prelude.{◌≡◌, List, ℕ, length}
+use Rattle.std.specs.Prelude.{◌≡◌, List, ℕ, length, Result}
 use Rattle.layout.specs.declared.Bank.{Bank}
 use Rattle.layout.specs.Layout.{bank_size}
 use Rattle.layout.specs.Pair.{Banks, banks, bank_in}
@@ -11,7 +11,7 @@ use Rattle.bank.specs.Sound.{verdict_of}
 use Rattle.clean.specs.declared.Cleaned.{Cleaned}
 use Rattle.clean.specs.Clean.{IsClean}
 use Rattle.clean.specs.Meaning.{cleaned, cleaner}
-use Rattle.hex_text.specs.declared.read.Answer.{Answer}
+use Rattle.hex_text.specs.declared.read.ReadError.{ReadError}
 use Rattle.hex_text.specs.Read.{text_read}
 use Rattle.hex_text.specs.Read.{IsRead as IsReadText}
 use Rattle.rows.specs.declared.text.Written.{Written}
@@ -96,7 +96,7 @@ pub record Contracts : Type 0 where
       → IsClean bank runs sectors r bank' runs' sectors' → cleaner bank runs sectors ≡ cleaned r bank' runs' sectors'
   pub next_body_is : (c : Client) (bank0 bank1 : List ℕ) (i : ℕ) {r : List ℕ} → IsNextBody c bank0 bank1 i r → next_body c bank0 bank1 i ≡ r
   -- hex text
-  pub read_text : {text : List ℕ} {bank : Bank} {n : ℕ} {before after : List ℕ} {r : Answer}
+  pub read_text : {text : List ℕ} {bank : Bank} {n : ℕ} {before after : List ℕ} {r : Result (Unit {0}) ReadError}
       → IsReadText text bank n before after r → text_read text bank n before ≡ record { answer = r; image = after }
   pub text_length : {image : List ℕ} {bank : Bank} {r : Written} → IsLength image bank r → length_of image bank ≡ r
   pub write_text : {image : List ℕ} {bank : Bank} {before : List ℕ} {r : Written} {after : List ℕ}
