@@ -9,6 +9,7 @@ use lib.Dec.{eqb, leb}
 use lib.ListN.{length, get_or}
 use lib.Seq.{ext_get_or}
 use borrow.Author.Tests.{le-leb, leb-true, eq-eqb, eqb-true, eqb-false}
+use Rattle.std.specs.Prelude.{Ok}
 use Rattle.buffer.proofs.Bools.{no_way}
 use Rattle.buffer.proofs.Places.{front_take, front_drop}
 use Rattle.layout.specs.declared.Bank.{Bank}
@@ -16,7 +17,6 @@ use Rattle.layout.specs.Layout.{sector_size, good_n, whole_length, start_of}
 use Rattle.layout.specs.Said.{value, accepted}
 use Rattle.layout.proofs.Layouts.{whole_good}
 use Rattle.lines.specs.Line.{lines}
-use Rattle.hex_text.specs.declared.read.Outcome.TheVariants.{Through}
 use Rattle.hex_text.specs.Meaning.{HasByte, start_at, Leaves}
 use Rattle.hex_text.specs.Read.{LinesRead, lines_read, read_says, text_read}
 use Rattle.hex_text.proofs.Meaning.{accepted_kept}
@@ -138,7 +138,7 @@ module _ (image : List ℕ) (bank : Bank) (are : AreBytes image) (w : whole_leng
   long : length image ≡ sector_size * n
   long = let m = whole_most (length image) w in omega (arith, m.0)
 
-  back : lines_read (text_of image bank) bank n ≡ record { outcome = Through; image = image }
+  back : lines_read (text_of image bank) bank n ≡ record { outcome = Ok tt; image = image }
   back = let m = whole_most (length image) w in text_back image bank n long (omega (arith, m.1)) are
 
   good : good_n n ≡ true

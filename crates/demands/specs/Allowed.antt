@@ -11,7 +11,7 @@ use Rattle.bank.specs.Sound.{verdict_of}
 use Rattle.clean.specs.declared.Cleaned.{Cleaned}
 use Rattle.clean.specs.Clean.{IsClean}
 use Rattle.clean.specs.Meaning.{cleaned, cleaner}
-use Rattle.hex_text.specs.declared.read.Answer.{Answer}
+use Rattle.hex_text.specs.declared.read.ReadError.{ReadError}
 use Rattle.hex_text.specs.Read.{text_read}
 use Rattle.hex_text.specs.Read.{IsRead as IsReadText}
 use Rattle.rows.specs.declared.text.Written.{Written}
@@ -95,7 +95,7 @@ pub record Contracts : Type 0 where
       → IsClean bank runs sectors r bank' runs' sectors' → cleaner bank runs sectors ≡ cleaned r bank' runs' sectors'
   pub next_body_is : (c : Client) (bank0 bank1 : List ℕ) (i : ℕ) {r : List ℕ} → IsNextBody c bank0 bank1 i r → next_body c bank0 bank1 i ≡ r
   -- hex text
-  pub read_text : {text : List ℕ} {bank : Bank} {n : ℕ} {before after : List ℕ} {r : Answer}
+  pub read_text : {text : List ℕ} {bank : Bank} {n : ℕ} {before after : List ℕ} {r : Result (Unit {0}) ReadError}
       → IsReadText text bank n before after r → text_read text bank n before ≡ record { answer = r; image = after }
   pub text_length : {image : List ℕ} {bank : Bank} {r : Written} → IsLength image bank r → length_of image bank ≡ r
   pub write_text : {image : List ℕ} {bank : Bank} {before : List ℕ} {r : Written} {after : List ℕ}

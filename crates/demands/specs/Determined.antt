@@ -2,14 +2,14 @@
 -- equal"). One line for each relation that a public function's contract cites; those of
 -- `exports` alone stand in its own Determined.antt.
 -- Assumes nothing.
-use Rattle.std.specs.Prelude.{Bool, List, ℕ}
+use Rattle.std.specs.Prelude.{Bool, List, ℕ, Result}
 use Rattle.std.specs.Borrow.{Bor}
 use Rattle.outcomes.specs.Once.{Once, Twice, Thrice, Fourfold}
 use Rattle.frame.specs.declared.read.Footer.{Footer}
 use Rattle.layout.specs.declared.Bank.{Bank}
 use Rattle.lines.specs.declared.line.LineReader.{LineReader}
 use Rattle.hex_text.specs.declared.fault.Kind.{Kind}
-use Rattle.hex_text.specs.declared.read.Answer.{Answer as ReadAnswer}
+use Rattle.hex_text.specs.declared.read.ReadError.{ReadError}
 use Rattle.rows.specs.declared.text.Written.{Written}
 use Rattle.clean.specs.declared.Cleaned.{Cleaned}
 use Rattle.sender.specs.declared.made.Refusal.{Refusal as Unmade}
@@ -122,7 +122,7 @@ pub record Determined : Type 0 where
   pub reader_at : (text : Bor (List ℕ)) (at : ℕ) → Once (IsReader text at)
   pub next_line : (reader : LineReader) → Once (IsNext reader)
   pub kind_number : (kind : Kind) → Once (IsKindNumber kind)
-  pub answer_number : (answer : ReadAnswer) → Once (IsAnswerNumber answer)
+  pub answer_number : (answer : Result (Unit {0}) ReadError) → Once (IsAnswerNumber answer)
   pub unmade_number : (why : Unmade) → Once (IsUnmadeNumber why)
   pub response_number : (response : Response) → Once (IsResponseNumber response)
   pub read_text : (text : List ℕ) (bank : Bank) (n : ℕ) (before : List ℕ) → Twice (IsReadText text bank n before)

@@ -8,7 +8,8 @@ use borrow.Author.Tests.{le-leb, lt-leb}
 use Rattle.buffer.proofs.Places.{front_short, sets_front}
 use Rattle.layout.specs.declared.Bank.TheVariants.{Zero}
 use Rattle.layout.specs.Said.{Said, code, place_said}
-use Rattle.hex_text.specs.declared.read.Answer.{Answer}
+use Rattle.std.specs.Prelude.{Result}
+use Rattle.hex_text.specs.declared.read.ReadError.{ReadError}
 use Rattle.hex_text.specs.Read.{answer_said, IsRead}
 use Rattle.clean.specs.declared.Cleaned.{Cleaned}
 use Rattle.clean.specs.Clean.{cleaned_said, IsClean}
@@ -21,7 +22,7 @@ not_told {told = told} h =
     let no = lt-leb 3 (length told) h in
     record { number_is = rw no; image_is = rw no; told_is = sym (front_short told _ h) }
 
-pub all_told : {text : List ℕ} {n : ℕ} {image told image' : List ℕ} {answer : Answer} {number line byte : ℕ}
+pub all_told : {text : List ℕ} {n : ℕ} {image told image' : List ℕ} {answer : Result (Unit {0}) ReadError} {number line byte : ℕ}
     → 3 ≤ length told → IsRead text Zero n image image' answer
     → number ≡ code (answer_said answer) → line ≡ (place_said (answer_said answer)).line → byte ≡ (place_said (answer_said answer)).byte
     → IsReadNumbers text n image told number image' (set (set (set told 0 number) 1 line) 2 byte)

@@ -16,9 +16,7 @@ use Rattle.hex_text.specs.declared.fault.Refusal.{Refusal}
 use Rattle.hex_text.specs.declared.record.State.{State}
 use Rattle.hex_text.specs.declared.record.Found.{Found}
 use Rattle.hex_text.specs.declared.record.Found.TheVariants.{Data, Upper, End, Other}
-use Rattle.hex_text.specs.declared.read.Answer.TheVariants.{BadN, BadLength, Refused, Accepted}
-use Rattle.hex_text.specs.declared.read.Outcome.{Outcome}
-use Rattle.hex_text.specs.declared.read.Outcome.TheVariants.{Stopped, Through}
+use Rattle.hex_text.specs.declared.read.ReadError.TheVariants.{BadN, BadLength, Line}
 use Rattle.hex_text.specs.Spell.{line_bytes}
 use Rattle.hex_text.specs.Record.{record_data, found_of}
 use Rattle.hex_text.specs.Read.{state_after, image_after, LinesRead, stopped_at, goes, read_lines, after_last, at_start, reading_of, lines_say, read_says, text_read, IsRead}
@@ -71,7 +69,7 @@ module _ (base size : ℕ) (s : State) (k : ℕ) (image : List ℕ) where
 
     pub read-stop :
         {d : LinesRead} {after : List ℕ} (f : Fault) → step_by found s ≡ Err f → d ≡ read_lines base size s k image ls
-        → after ≡ image_by base line found image → Came d (Stopped (record { kind = f.0; line = k; byte = f.1 })) after
+        → after ≡ image_by base line found image → Came d (Err (record { kind = f.0; line = k; byte = f.1 })) after
     unfolding read_lines
     read-stop f e g i =
         let none : found ≡ Err f = by found e in
@@ -85,7 +83,7 @@ module _ (base size : ℕ) (s : State) (k : ℕ) (image : List ℕ) where
 
   -- nothing is left: accepted, or H6
   pub read_finish :
-      {ls : List (List ℕ)} {d : LinesRead} {r : Outcome} → ls ≡ [] → d ≡ read_lines base size s k image ls → r ≡ after_last s k → Came d r image
+      {ls : List (List ℕ)} {d : LinesRead} {r : Result (Unit {0}) Refusal} → ls ≡ [] → d ≡ read_lines base size s k image ls → r ≡ after_last s k → Came d r image
   unfolding read_lines
   read_finish none e f =
       let g = rw none at e in
@@ -94,12 +92,12 @@ module _ (base size : ℕ) (s : State) (k : ℕ) (image : List ℕ) where
 -- THE WHOLE TEXT
 
 module _ (text : List ℕ) (bank : Bank) (n : ℕ) (image : List ℕ) where
-  pub read_3 : good_n n ≡ false → IsRead text bank n image image BadN
+  pub read_3 : good_n n ≡ false → IsRead text bank n image image (Err BadN)
   unfolding text_read read_says
   read_3 g = record { answer = rw g; said = rw g; image = rw g }
 
   module _ (g : good_n n ≡ true) where
-    pub read-2 : (length image ≡ sector_size * n → ⊥) → IsRead text bank n image image BadLength
+    pub read-2 : (length image ≡ sector_size * n → ⊥) → IsRead text bank n image image (Err BadLength)
     unfolding text_read read_says
     read-2 l =
         let e = ne_eqb (length image) (sector_size * n) l in
@@ -121,7 +119,7 @@ module _ (text : List ℕ) (bank : Bank) (n : ℕ) (image : List ℕ) where
       said_is =
           simp (g, eq-eqb (length image) (sector_size * n) e) (rw (s, f, length-replicate {A = ℕ} (length image) 0xFF, e))
 
-      pub read-accepted : {after : List ℕ} → Came lined Through after → IsRead text bank n image after Accepted
+      pub read-accepted : {after : List ℕ} → Came lined (Ok tt) after → IsRead text bank n image after (Ok tt)
       read-accepted c =
           record {
             answer = rw (read_is, ← c.outcome);
@@ -130,8 +128,8 @@ module _ (text : List ℕ) (bank : Bank) (n : ℕ) (image : List ℕ) where
           }
 
       pub read-refused :
-          (r : Refusal) {after : List ℕ} (left : List ℕ) → Came lined (Stopped r) left
-          → length left ≡ length blank → after ≡ replicate (length left) 0xFF → IsRead text bank n image after (Refused r)
+          (r : Refusal) {after : List ℕ} (left : List ℕ) → Came lined (Err r) left
+          → length left ≡ length blank → after ≡ replicate (length left) 0xFF → IsRead text bank n image after (Err (Line r))
       read-refused r left c m h =
           let size = m ∙ ap length f ∙ length-replicate (length image) 0xFF ∙ e in
           record {

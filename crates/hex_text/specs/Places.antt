@@ -7,7 +7,7 @@ use Rattle.hex_text.specs.declared.fault.Fault.{Fault}
 use Rattle.hex_text.specs.declared.record.State.{State}
 use Rattle.hex_text.specs.declared.record.Found.{Found}
 use Rattle.hex_text.specs.declared.record.Found.TheVariants.{Data}
-use Rattle.hex_text.specs.declared.read.Outcome.{Outcome}
+use Rattle.hex_text.specs.declared.fault.Refusal.{Refusal}
 use Rattle.digits.specs.Digit.{is_digit}
 use Rattle.hex_text.specs.Spell.{byte_of, line_bytes}
 use Rattle.hex_text.specs.Record.{Spelled, Whole, Broken, record_data, record_of, found_of}
@@ -76,6 +76,6 @@ pub record Took (base : ℕ) (s : State) (line before after : List ℕ) (r : Res
   pub image : after ≡ image_by base line (found_of base (length before) s line) before
 
 -- what the lines come to
-pub record Came (d : LinesRead) (r : Outcome) (image : List ℕ) : Type 0 where
+pub record Came (d : LinesRead) (r : Result (Unit {0}) Refusal) (image : List ℕ) : Type 0 where
   pub outcome : r ≡ d.outcome
   pub image_is : image ≡ d.image

@@ -12,10 +12,9 @@ use Rattle.hex_text.specs.declared.fault.Kind.TheVariants.{H1, H2, H3, H4, H5, H
 use Rattle.hex_text.specs.declared.record.State.{State}
 use Rattle.hex_text.specs.declared.record.Found.{Found}
 use Rattle.hex_text.specs.declared.record.Found.TheVariants.{Data, Upper, End, Other}
-use Rattle.hex_text.specs.declared.read.Answer.{Answer}
-use Rattle.hex_text.specs.declared.read.Answer.TheVariants.{BadN, BadLength, Refused, Accepted}
-use Rattle.hex_text.specs.declared.read.Outcome.{Outcome}
-use Rattle.hex_text.specs.declared.read.Outcome.TheVariants.{Stopped, Through}
+use Rattle.hex_text.specs.declared.fault.Refusal.{Refusal}
+use Rattle.hex_text.specs.declared.read.ReadError.{ReadError}
+use Rattle.hex_text.specs.declared.read.ReadError.TheVariants.{BadN, BadLength, Line}
 use Rattle.hex_text.specs.Spell.{line_bytes}
 use Rattle.hex_text.specs.Record.{record_data, found_of}
 
@@ -35,15 +34,15 @@ image_after base line Other image = image
 
 -- LINE AFTER LINE: what comes of them, and the image by then
 pub record LinesRead : Type 0 where
-  pub outcome : Outcome
+  pub outcome : Result (Unit {0}) Refusal
   pub image : List ℕ
 
 abbrev pub stopped_at : Fault → ℕ → List ℕ → LinesRead
-stopped_at f line image = record { outcome = Stopped (record { kind = f.0; line = line; byte = f.1 }); image = image }
+stopped_at f line image = record { outcome = Err (record { kind = f.0; line = line; byte = f.1 }); image = image }
 
 -- behind the last line: no end record, told with the number "one past the last" and byte 1
-abbrev pub after_last : State → ℕ → Outcome
-after_last s line = cond s.over Through (Stopped (record { kind = H6; line = line; byte = 1 }))
+abbrev pub after_last : State → ℕ → Result (Unit {0}) Refusal
+after_last s line = cond s.over (Ok tt) (Err (record { kind = H6; line = line; byte = 1 }))
 
 abbrev pub goes : Result Found Fault → (Fault → LinesRead) → (Found → LinesRead) → LinesRead
 goes (Err f) stop on = stop f
@@ -62,13 +61,13 @@ at_start = record { upper = 0; last = 0; over = false }
 
 -- THE TEXT
 pub record Reading : Type 0 where
-  pub answer : Answer
+  pub answer : Result (Unit {0}) ReadError
   pub image : List ℕ
 
 -- a text that is refused leaves nothing but 0xFF
-abbrev pub reading_of : ℕ → Outcome → List ℕ → Reading
-reading_of size (Stopped r) image = record { answer = Refused r; image = replicate size 0xFF }
-reading_of size Through image = record { answer = Accepted; image = image }
+abbrev pub reading_of : ℕ → Result (Unit {0}) Refusal → List ℕ → Reading
+reading_of size (Err r) image = record { answer = Err (Line r); image = replicate size 0xFF }
+reading_of size (Ok done) image = record { answer = Ok done; image = image }
 
 -- the lines of a text for a bank of n sectors, whose image is all 0xFF at first
 abbrev pub lines_read : List ℕ → Bank → ℕ → LinesRead
@@ -80,8 +79,8 @@ text_read text bank n image =
     cond (good_n n)
     (cond (length image == sector_size * n)
     (reading_of (sector_size * n) (lines_read text bank n).outcome (lines_read text bank n).image)
-    (record { answer = BadLength; image = image }))
-    (record { answer = BadN; image = image })
+    (record { answer = Err BadLength; image = image }))
+    (record { answer = Err BadN; image = image })
 
 -- THE PAPER'S NUMBERS: of each fault, and of each answer
 abbrev pub kind_number : Kind → ℕ
@@ -95,19 +94,19 @@ kind_number H6 = 6
 abbrev pub IsKindNumber : Kind → ℕ → Type 0
 IsKindNumber kind r = r ≡ kind_number kind
 
-abbrev pub answer_said : Answer → Said
-answer_said BadN = number 3
-answer_said BadLength = number 2
-answer_said (Refused r) = fault (kind_number r.kind) r.line r.byte
-answer_said Accepted = accepted
+abbrev pub answer_said : Result (Unit {0}) ReadError → Said
+answer_said (Err BadN) = number 3
+answer_said (Err BadLength) = number 2
+answer_said (Err (Line r)) = fault (kind_number r.kind) r.line r.byte
+answer_said (Ok done) = accepted
 
-abbrev pub IsAnswerNumber : Answer → ℕ → Type 0
+abbrev pub IsAnswerNumber : Result (Unit {0}) ReadError → ℕ → Type 0
 IsAnswerNumber answer r = r ≡ code (answer_said answer)
 
 -- what is said of a text, in their order: 3, 2, then the fault of the first faulty line
-abbrev pub lines_say : Outcome → Said
-lines_say (Stopped r) = fault (kind_number r.kind) r.line r.byte
-lines_say Through = accepted
+abbrev pub lines_say : Result (Unit {0}) Refusal → Said
+lines_say (Err r) = fault (kind_number r.kind) r.line r.byte
+lines_say (Ok done) = accepted
 
 unfoldable pub read_says : List ℕ → Bank → ℕ → List ℕ → Said
 read_says text bank n image =
@@ -115,7 +114,7 @@ read_says text bank n image =
     (cond (length image == sector_size * n) (lines_say (lines_read text bank n).outcome) (number 2))
     (number 3)
 
-pub record IsRead (text : List ℕ) (bank : Bank) (n : ℕ) (before after : List ℕ) (r : Answer) : Type 0 where
+pub record IsRead (text : List ℕ) (bank : Bank) (n : ℕ) (before after : List ℕ) (r : Result (Unit {0}) ReadError) : Type 0 where
   pub answer : r ≡ (text_read text bank n before).answer
   pub said : answer_said r ≡ read_says text bank n before
   pub image : after ≡ (text_read text bank n before).image

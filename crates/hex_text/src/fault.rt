@@ -12,16 +12,19 @@ pub enum Kind {
     H6,
 }
 
-pub fn kind_number(kind: Kind) -> u8
-    ensures { IsKindNumber kind result }
-{
-    match kind {
-        Kind::H1 => 1,
-        Kind::H2 => 2,
-        Kind::H3 => 3,
-        Kind::H4 => 4,
-        Kind::H5 => 5,
-        Kind::H6 => 6,
+// Its number in the paper.
+impl From<Kind> for u8 {
+    ghost from_gives = { IsKindNumber };
+
+    fn from(kind: Kind) -> u8 {
+        match kind {
+            Kind::H1 => 1,
+            Kind::H2 => 2,
+            Kind::H3 => 3,
+            Kind::H4 => 4,
+            Kind::H5 => 5,
+            Kind::H6 => 6,
+        }
     }
 }
 

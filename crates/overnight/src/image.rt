@@ -2,7 +2,7 @@
 ghost use Rattle.std.specs.Prelude.{◌≤◌};
 
 use crate::{refusals, talk};
-use hex_text::read::Answer;
+use hex_text::read::ReadError;
 use layout::{Bank, SECTOR};
 use script::input;
 use script::input::Input;
@@ -23,8 +23,8 @@ fn read_into(
 ) {
     let answer = hex_text::read::read(hex_text, bank, n, image);
     match answer {
-        Answer::Refused(refusal) => refusals::line(rt, refusal),
-        Answer::Accepted => talk::run(rt, image, bank, n, tries),
+        Err(ReadError::Line(refusal)) => refusals::line(rt, refusal),
+        Ok(()) => talk::run(rt, image, bank, n, tries),
         _ => refusals::number(rt, hex_text::read::answer_number(answer)),
     }
 }

@@ -15,8 +15,7 @@ pub(crate) fn number(rt: &impl Env, number: usize) {
 }
 
 pub(crate) fn line(rt: &impl Env, refusal: Refusal) {
-    let kind = refusal.kind;
-    let number = hex_text::fault::kind_number(kind) as usize;
+    let number = usize::from(u8::from(refusal.kind));
     say::refused_place(rt, number, refusal.line, refusal.byte);
     end(rt);
 }

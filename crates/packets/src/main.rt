@@ -4,7 +4,7 @@
 
 use frame::read::{Footer, Frame};
 use hex_text::fault::Refusal;
-use hex_text::read::Answer;
+use hex_text::read::ReadError;
 use layout::{Bank, SECTOR};
 use script::input::Input;
 use script::{call, input, say};
@@ -70,8 +70,7 @@ fn list(rt: &impl Env, image: &[u8]) {
 }
 
 fn say_refusal(rt: &impl Env, refusal: Refusal) {
-    let kind = refusal.kind;
-    let number = hex_text::fault::kind_number(kind) as usize;
+    let number = usize::from(u8::from(refusal.kind));
     say::refused_place(rt, number, refusal.line, refusal.byte);
     say::end(rt);
     call::refused(rt);
@@ -81,8 +80,8 @@ fn answer(rt: &impl Env, text: &[u8]) {
     let mut image = [0u8; SECTOR * N];
     let answer = hex_text::read::read(text, Bank::Zero, N, &mut image);
     match answer {
-        Answer::Refused(refusal) => say_refusal(rt, refusal),
-        Answer::Accepted => list(rt, &image),
+        Err(ReadError::Line(refusal)) => say_refusal(rt, refusal),
+        Ok(()) => list(rt, &image),
         _ => say_refused(rt, hex_text::read::answer_number(answer)),
     }
 }

@@ -2,7 +2,7 @@
 use crate::held;
 use crate::held::{Answered, Held, LONGEST_IMAGE};
 use hex_text::fault::Refusal;
-use hex_text::read::Answer;
+use hex_text::read::ReadError;
 use layout::Bank;
 use script::{say, text};
 use std::env::Env;
@@ -47,15 +47,14 @@ pub(crate) fn more(rt: &impl Env, hex_text: &mut [u8], held: Held, fields: &[u8]
 }
 
 fn say_refusal(rt: &impl Env, refusal: Refusal) {
-    let kind = refusal.kind;
-    let number = hex_text::fault::kind_number(kind) as usize;
+    let number = usize::from(u8::from(refusal.kind));
     say::refused_place(rt, number, refusal.line, refusal.byte);
 }
 
-fn say_read(rt: &impl Env, answer: Answer, image: &[u8]) {
+fn say_read(rt: &impl Env, answer: Result<(), ReadError>, image: &[u8]) {
     match answer {
-        Answer::Refused(refusal) => say_refusal(rt, refusal),
-        Answer::Accepted => say::text(rt, b"accepted"),
+        Err(ReadError::Line(refusal)) => say_refusal(rt, refusal),
+        Ok(()) => say::text(rt, b"accepted"),
         _ => say::refused(rt, hex_text::read::answer_number(answer)),
     }
     say::text(rt, b" ");

@@ -9,7 +9,7 @@ mod refusals;
 ghost use Rattle.std.specs.Prelude.{◌≤◌};
 
 use bank::check::Verdict;
-use hex_text::read::Answer;
+use hex_text::read::ReadError;
 use layout::{Bank, MOST, SECTOR};
 use script::input::Input;
 use script::{call, input, say, text};
@@ -77,8 +77,8 @@ fn judged(rt: &impl Env, image: &[u8], target: Bank, n: usize) {
 fn read_into(rt: &impl Env, hex_text: &[u8], target: Bank, n: usize, image: &mut [u8]) {
     let answer = hex_text::read::read(hex_text, target, n, image);
     match answer {
-        Answer::Refused(refusal) => refusals::line(rt, refusal),
-        Answer::Accepted => judged(rt, image, target, n),
+        Err(ReadError::Line(refusal)) => refusals::line(rt, refusal),
+        Ok(()) => judged(rt, image, target, n),
         _ => refusals::number(rt, hex_text::read::answer_number(answer)),
     }
 }
