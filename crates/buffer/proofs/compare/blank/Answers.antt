@@ -1,6 +1,6 @@
 -- `buffer::compare::blank` meets its contract: all runs are blank, and the rest, or one run is not.
 -- Assumes nothing.
-use Rattle.std.proofs.Common.{rules, ℕ, ◌/◌, ◌<◌, List, [], Some, true, false, length, slice_index_or, ap, ◌∙◌, arith, ◌≡◌}
+use Rattle.std.proofs.Common.{rules, ℕ, ◌/◌, List, [], Some, true, false, length, slice_index_or, ap, ◌∙◌, arith, ◌≡◌}
 use Rattle.std.specs.Slice.Iter.{iter_rest}
 use Rattle.buffer.specs.Compare.{blank_of}
 use Rattle.buffer.proofs.Chains.{of_each, of_some}
@@ -21,7 +21,7 @@ returns-then-all c =
     (items.2 k [] (omega (arith, items.1 p.2.0)) ∙ ap (λ (runs : List (List ℕ)). Some (slice_index_or runs k [])) (from ∙ c.as_chunks.ensures.front)) (p.2.1 (search rules) k))
 
 pub returns-else-all : goal.returns-else-all
-returns-else-all c = 
+returns-else-all c =
     let l = c.args.bytes.now in
     let p = c.if-all.ensures.runs in
     let items = c.iter.ensures.runs p.0 p.0.seen in

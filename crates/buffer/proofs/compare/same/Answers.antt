@@ -1,6 +1,6 @@
 -- `buffer::compare::same` meets its contract: all runs are the same, and the rest, or two runs are not.
 -- Assumes nothing.
-use Rattle.std.proofs.Common.{rules, ℕ, ◌+◌, ◌*◌, ◌/◌, ◌%◌, ◌≤◌, ◌<◌, List, [], Some, true, false, length, drop, slice_index_or, sym, ap, ap₂, ◌∙◌, arith, ◌≡◌}
+use Rattle.std.proofs.Common.{rules, ℕ, ◌*◌, ◌/◌, List, [], Some, true, false, length, drop, slice_index_or, sym, ap, ap₂, ◌∙◌, arith, ◌≡◌}
 use Rattle.std.specs.Option.{option_map}
 use Rattle.std.specs.Simd.{first_chunks}
 use Rattle.std.specs.Slice.Iter.{iter_rest}

@@ -1,6 +1,6 @@
 -- `buffer::compare::same_run` meets its contract.
 -- Assumes nothing.
-use Rattle.std.proofs.Common.{rules, ℕ, Bool, true, ◌&&◌, nat_eq, List, length, slice_index_or, Some, map, sym, ap, ◌∙◌, ◌≡◌, arith}
+use Rattle.std.proofs.Common.{rules, ℕ, Bool, true, ◌&&◌, nat_eq, List, length, slice_index_or, Some, map, sym, ap, ◌∙◌, ◌≡◌}
 use denote.Ref.{Bor}
 use Rattle.std.specs.Slice.Iter.{iter_rest}
 use Rattle.buffer.proofs.Chains.{run_lends_all, zip_len}
