@@ -126,12 +126,6 @@ fn read_lines(text: &[u8], base: usize, image: &mut [u8]) -> Outcome
     }
 }
 
-fn wide4(number: u32) -> usize
-    ensures { (result ≡ number) × (result < 4294967296) }
-{
-    number as usize
-}
-
 // The text's bytes in the image of a bank of `n` sectors.
 pub fn read(text: &[u8], bank: Bank, n: usize, image: &mut [u8]) -> Answer
     ensures { IsRead text.now bank n image.old image.new result }
@@ -143,7 +137,7 @@ pub fn read(text: &[u8], bank: Bank, n: usize, image: &mut [u8]) -> Answer
         return Answer::BadLength;
     }
     buffer::fill::fill(image, 0xFF);
-    let base = wide4(layout::start_address(bank));
+    let base = layout::start_address(bank) as usize;
     let outcome = read_lines(text, base, image);
     match outcome {
         Outcome::Stopped(refusal) => {

@@ -69,19 +69,13 @@ fn all_digits(text: &[u8], base: u8) -> bool
 
 const LARGEST_VALUE: usize = 0xFFFF_FFFF;
 
-fn wide(byte: u8) -> usize
-    ensures { (result ≡ byte) × (result < 256) }
-{
-    byte as usize
-}
-
 // One digit more behind a number.
 fn more(number: usize, base: u8, digit: u8) -> usize
     requires { (number ≤ 0xFFFFFFFF) × (base ≤ 16) }
     ensures { result ≡ with_digit base number digit }
 {
-    let unit = wide(base);
-    let worth = wide(digits::value(digit));
+    let unit = usize::from(base);
+    let worth = usize::from(digits::value(digit));
     number * unit + worth
 }
 

@@ -12,36 +12,36 @@ returns-then-datagram-lt2 c =
 
 pub returns-then-l-eq0 : goal.returns-then-l-eq0
 returns-then-l-eq0 c =
-    control_empty c.args.datagram.now c.wide-l.result c.wide-l.ensures
+    control_empty c.args.datagram.now c.from-l.result c.from-l.ensures
     (eq-eqb _ _ c.if-l-eq0.true)
 
 pub overflow_add-l : goal.overflow_add-l
-overflow_add-l c = omega (arith, c.wide-l.ensures, c.shared_slice_known-2-1.given 1)
+overflow_add-l c = omega (arith, c.from-l.ensures, c.shared_slice_known-2-1.given 1)
 
 pub returns-then-datagram-l : goal.returns-then-datagram-l
 returns-then-datagram-l c =
-    control_length c.args.datagram.now c.wide-l.result
-    c.wide-l.ensures (ne_eqb _ _ c.if-l-eq0.false) (ne_eqb _ _ c.if-datagram-l.true)
+    control_length c.args.datagram.now c.from-l.result
+    c.from-l.ensures (ne_eqb _ _ c.if-l-eq0.false) (ne_eqb _ _ c.if-datagram-l.true)
 
 pub returns-then-not-checked : goal.returns-then-not-checked
 returns-then-not-checked c =
     control_checksum c.args.datagram.now
-    c.wide-l.result c.wide-l.ensures
+    c.from-l.result c.from-l.ensures
     (ne_eqb _ _ c.if-l-eq0.false) (eq-eqb _ _ c.if-datagram-l.false)
     (sym c.checked.ensures ∙ c.if-not-checked.true)
 
 pub returns-then-datagram-l-ne3 : goal.returns-then-datagram-l-ne3
 returns-then-datagram-l-ne3 c =
     control_footer c.args.datagram.now
-    c.wide-l.result c.wide-l.ensures
+    c.from-l.result c.from-l.ensures
     (ne_eqb _ _ c.if-l-eq0.false) (eq-eqb _ _ c.if-datagram-l.false)
     (sym c.checked.ensures ∙ c.if-not-checked.false) (ne_eqb _ _ c.if-datagram-l-ne3.true)
 
 pub returns : goal.returns
 returns c =
     control_good c.args.datagram.now
-    c.wide-l.result
-    c.wide-l.ensures
+    c.from-l.result
+    c.from-l.ensures
     (ne_eqb _ _ c.if-l-eq0.false)
     (eq-eqb _ _ c.if-datagram-l.false)
     (sym c.checked.ensures ∙ c.if-not-checked.false)

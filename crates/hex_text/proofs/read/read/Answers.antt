@@ -30,7 +30,7 @@ pub returns-in-Stopped : goal.returns-in-Stopped
 returns-in-Stopped c =
     let a = c.args in
     let g = sym c.good_n.ensures ∙ c.if-not-good_n.false in
-    read-refused a.text.now a.bank a.n a.image.now g c.if-image-n.false (c.wide4-base.ensures.0 ∙ c.start_address.ensures)
+    read-refused a.text.now a.bank a.n a.image.now g c.if-image-n.false c.start_address-base.ensures
     c.fill.ensures
     _ c.read_lines-outcome.new.image c.in-Stopped.ensures c.read_lines-outcome.auto.image
     c.fill-in-Stopped.ensures
@@ -39,6 +39,6 @@ pub returns-in-Through : goal.returns-in-Through
 returns-in-Through c =
     let a = c.args in
     let g = sym c.good_n.ensures ∙ c.if-not-good_n.false in
-    read-accepted a.text.now a.bank a.n a.image.now g c.if-image-n.false (c.wide4-base.ensures.0 ∙ c.start_address.ensures)
+    read-accepted a.text.now a.bank a.n a.image.now g c.if-image-n.false c.start_address-base.ensures
     c.fill.ensures
     c.in-Through.ensures

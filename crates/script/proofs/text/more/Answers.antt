@@ -10,10 +10,10 @@ below : (n base : ℕ) → n ≤ 0xFFFFFFFF → base ≤ 16 → n * base ≤ 687
 below n base h b = omega (arith, mul-le-mul_right base h)
 
 pub overflow_mul-result : goal.overflow_mul-result
-overflow_mul-result c = omega (arith, below c.args.number c.wide-unit.result c.requires.0 (omega arith))
+overflow_mul-result c = omega (arith, below c.args.number c.from-unit.result c.requires.0 (omega arith))
 
 pub overflow_add-result : goal.overflow_add-result
-overflow_add-result c = omega (arith, below c.args.number c.wide-unit.result c.requires.0 (omega arith))
+overflow_add-result c = omega (arith, below c.args.number c.from-unit.result c.requires.0 (omega arith))
 
 pub returns : goal.returns
-returns c = rw (c.wide-unit.ensures.0, c.wide-worth.ensures.0, c.value.ensures)
+returns c = rw (c.from-unit.ensures, c.from-worth.ensures, c.value.ensures)
