@@ -4,7 +4,7 @@ ghost use Rattle.hex_text.specs.Record.{record_count, data_at, typed};
 ghost use Rattle.hex_text.specs.Places.{bytes_at, SpelledAt, Summed, LookFits, Looked};
 
 use crate::fault::{Fault, Kind};
-use crate::pair::{pair_at, value_at, wide};
+use crate::pair::{pair_at, value_at};
 use buffer::number::number2;
 
 // As many bytes as a record has at most: a count of 255, and 5 beside the data.
@@ -55,7 +55,7 @@ fn spell(line: &[u8], k: usize, bytes: &mut [u8]) -> usize
         left -= 1;
     }
     if good {
-        return wide(sum);
+        return usize::from(sum);
     }
     NO_SUM
 }
@@ -83,7 +83,7 @@ fn record_sum(line: &[u8], bytes: &mut [u8]) -> usize
     if sum == NO_SUM {
         return NO_SUM;
     }
-    if k != wide(bytes[0]) + 5 {
+    if k != usize::from(bytes[0]) + 5 {
         return NO_SUM;
     }
     sum
@@ -129,7 +129,7 @@ fn typed_at(bytes: &[u8], base: usize, size: usize, state: State) -> Result<Foun
             size,
             state.last,
             state.upper * 65536 + address,
-            wide(n),
+            usize::from(n),
         );
     }
     if address != 0 {

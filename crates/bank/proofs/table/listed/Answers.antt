@@ -19,14 +19,14 @@ bounds-bank-3 c = omega (arith, long _ c.requires)
 pub returns-then-n-gt-MOST_BODIES : goal.returns-then-n-gt-MOST_BODIES
 returns-then-n-gt-MOST_BODIES c =
     count-many _ c.requires _ c.number2.ensures c.if-number2-ne1024.false c.if-bank-ne1.false _
-    c.wide-n.ensures.0 c.if-n-gt-MOST_BODIES.true
+    c.from-n.ensures c.if-n-gt-MOST_BODIES.true
 
 pub returns-then-bank-end : goal.returns-then-bank-end
 returns-then-bank-end c =
     count-unfit _ c.requires _ c.number2.ensures c.if-number2-ne1024.false c.if-bank-ne1.false _
-    c.wide-n.ensures.0 c.if-n-gt-MOST_BODIES.false (omega (arith, c.end.ensures))
+    c.from-n.ensures c.if-n-gt-MOST_BODIES.false (omega (arith, c.end.ensures))
 
 pub returns : goal.returns
 returns c =
     count_is _ c.requires _ c.number2.ensures c.if-number2-ne1024.false c.if-bank-ne1.false _
-    c.wide-n.ensures.0 c.if-n-gt-MOST_BODIES.false (omega (arith, c.end.ensures))
+    c.from-n.ensures c.if-n-gt-MOST_BODIES.false (omega (arith, c.end.ensures))

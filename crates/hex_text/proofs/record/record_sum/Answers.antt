@@ -20,13 +20,13 @@ returns-then-sum-eq-NO_SUM c =
     let a = c.args in
     summed-bytes a.line.now a.bytes.now _ c.if-len-eq0.false c.spell-sum.ensures.sum c.if-sum-eq-NO_SUM.true
 
-pub returns-then-k-wide : goal.returns-then-k-wide
-returns-then-k-wide c =
+pub returns-then-k-from : goal.returns-then-k-from
+returns-then-k-from c =
     let a = c.args in
     let s = c.spell-sum.ensures in
     let good = c.if-sum-eq-NO_SUM.false in
     summed-count a.line.now a.bytes.now _ c.if-len-eq0.false s.sum good c.if-line-ne58.false
-    c.if-len-lt11.false c.if-len.false c.requires (s.put good) c.wide.ensures.0 c.if-k-wide.true
+    c.if-len-lt11.false c.if-len.false c.requires (s.put good) c.from.ensures c.if-k-from.true
 
 pub returns : goal.returns
 returns c =
@@ -34,4 +34,4 @@ returns c =
     let s = c.spell-sum.ensures in
     let good = c.if-sum-eq-NO_SUM.false in
     summed a.line.now a.bytes.now _ c.if-len-eq0.false s.sum good c.if-line-ne58.false
-    c.if-len-lt11.false c.if-len.false c.requires (s.put good) c.wide.ensures.0 c.if-k-wide.false
+    c.if-len-lt11.false c.if-len.false c.requires (s.put good) c.from.ensures c.if-k-from.false
