@@ -8,7 +8,6 @@ mod refusals;
 
 ghost use Rattle.std.specs.Prelude.{◌≤◌};
 
-use bank::check::Verdict;
 use hex_text::read::Answer;
 use layout::{Bank, MOST, SECTOR};
 use script::input::Input;
@@ -71,8 +70,8 @@ fn counted(rt: &impl Env, image: &[u8], target: Bank, n: usize) {
 
 fn judged(rt: &impl Env, image: &[u8], target: Bank, n: usize) {
     match bank::check::check(image) {
-        Verdict::Sound => counted(rt, image, target, n),
-        _ => refusals::unsound(rt),
+        Ok(()) => counted(rt, image, target, n),
+        Err(_) => refusals::unsound(rt),
     }
 }
 

@@ -3,7 +3,7 @@ ghost use Rattle.std.specs.Prelude.{◌≤◌, length};
 ghost use Rattle.io.specs.Counts.{IsPrefixLen};
 
 use crate::{lists, sums};
-use bank::check::Verdict;
+use bank::check::Fault;
 use layout::{Bank, Counted};
 use script::{say, text};
 use std::env::Env;
@@ -142,9 +142,9 @@ enum Ask {
 
 fn say_verdict(rt: &impl Env, bank: &[u8]) {
     match bank::check::check(bank) {
-        Verdict::Refused => say::text(rt, b"refused\n"),
-        Verdict::Sound => say::text(rt, b"sound\n"),
-        Verdict::Unsound => say::text(rt, b"unsound\n"),
+        Ok(()) => say::text(rt, b"sound\n"),
+        Err(Fault::BadLength) => say::text(rt, b"refused\n"),
+        Err(Fault::Unsound) => say::text(rt, b"unsound\n"),
     }
 }
 
