@@ -64,9 +64,11 @@ def functions(text):
 
 
 def methods(text):
-    """(type, from, to) of each block of methods of a blanked source."""
+    """(type, from, to) of each block of methods of a blanked source. A trait's goes by the name that a log has for it, as RefusalFromFault."""
     for found in re.finditer(r"\bimpl\b\s*(?:<[^>]*>)?\s*(\w+)[^{;]*", text):
-        yield found.group(1), found.start(), closing(text, found.end())
+        held = re.match(r"impl\s*(?:<[^>]*>)?\s*(?:\w+::)*(\w+)\s*(?:<(\w+)>)?\s+for\s+(\w+)", found.group(0))
+        parts = [held.group(3), held.group(1), held.group(2) or ""] if held else [found.group(1)]
+        yield "".join(part[:1].upper() + part[1:] for part in parts), found.start(), closing(text, found.end())
 
 
 def constants(text):

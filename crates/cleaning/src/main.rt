@@ -1,7 +1,7 @@
 // A traded-in bank, from standard input, cleaned: its bytes go to where `./run` takes the file OUT, and what was cleared is listed.
 #![tactic(auto)]
 
-use clean::{Cleaned, MOST_RUNS};
+use clean::{Counts, MOST_RUNS};
 use layout::{MOST, SECTOR};
 use script::input::Input;
 use script::{call, input, say};
@@ -54,18 +54,18 @@ fn list_sectors(rt: &impl Env, list: &[u16], count: usize) {
     }
 }
 
-fn say_cleaned(rt: &impl Env, runs: usize, sectors: usize) {
+fn say_cleaned(rt: &impl Env, counts: Counts) {
     say::text(rt, b"cleaned ");
-    say::decimal(rt, runs);
+    say::decimal(rt, counts.runs);
     say::text(rt, b" runs, ");
-    say::decimal(rt, sectors);
+    say::decimal(rt, counts.sectors);
     say::text(rt, b" sectors\n");
 }
 
-fn list(rt: &impl Env, run_list: &[u32], runs: usize, sector_list: &[u16], sectors: usize) {
-    list_runs(rt, run_list, runs);
-    list_sectors(rt, sector_list, sectors);
-    say_cleaned(rt, runs, sectors);
+fn list(rt: &impl Env, runs: &[u32], sectors: &[u16], counts: Counts) {
+    list_runs(rt, runs, counts.runs);
+    list_sectors(rt, sectors, counts.sectors);
+    say_cleaned(rt, counts);
 }
 
 // Whether the bank is where it was to go. Started without `./run` it goes nowhere.
@@ -84,19 +84,19 @@ fn placed(rt: &impl Env, bank: &[u8], given: bool) -> bool {
 fn clean_into(
     rt: &impl Env,
     bank: &mut [u8],
-    run_list: &mut [u32],
-    sector_list: &mut [u16],
+    runs: &mut [u32],
+    sectors: &mut [u16],
     given: bool,
 ) {
-    let cleaned = clean::clean(bank, run_list, sector_list);
-    if let Cleaned::Done { runs, sectors } = cleaned {
-        // Of a bank that could not be written nothing is listed: who reads the list takes the sectors from there.
-        if placed(rt, bank, given) {
-            list(rt, run_list, runs, sector_list, sectors);
+    match clean::clean(bank, runs, sectors) {
+        Ok(counts) => {
+            // Of a bank that could not be written nothing is listed: who reads the list takes the sectors from there.
+            if placed(rt, bank, given) {
+                list(rt, runs, sectors, counts);
+            }
         }
-        return;
+        Err(refusal) => say_refused(rt, usize::from(refusal)),
     }
-    say_refused(rt, clean::cleaned_number(cleaned));
 }
 
 fn clean_bank(rt: &impl Env, bank: &mut [u8], given: bool) {

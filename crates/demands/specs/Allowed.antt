@@ -5,11 +5,9 @@ use Rattle.std.specs.Prelude.{◌≡◌, List, ℕ, length, Result}
 use Rattle.layout.specs.declared.Bank.{Bank}
 use Rattle.layout.specs.Layout.{bank_size}
 use Rattle.layout.specs.Pair.{Banks, banks, bank_in}
-use Rattle.bank.specs.declared.check.Verdict.{Verdict}
 use Rattle.bank.specs.Said.{IsCheck}
-use Rattle.bank.specs.Sound.{verdict_of}
-use Rattle.clean.specs.declared.Cleaned.{Cleaned}
-use Rattle.clean.specs.Clean.{IsClean}
+use Rattle.bank.specs.Sound.{Verdict, verdict_of}
+use Rattle.clean.specs.Clean.{Cleaned, IsClean}
 use Rattle.clean.specs.Meaning.{cleaned, cleaner}
 use Rattle.hex_text.specs.declared.read.ReadError.{ReadError}
 use Rattle.hex_text.specs.Read.{text_read}
