@@ -64,11 +64,10 @@ def functions(text):
 
 
 def methods(text):
-    """(type, from, to) of each block of methods of a blanked source. A trait's goes by the name that a log has for it, as RefusalFromFault."""
-    for found in re.finditer(r"\bimpl\b\s*(?:<[^>]*>)?\s*(\w+)[^{;]*", text):
-        held = re.match(r"impl\s*(?:<[^>]*>)?\s*(?:\w+::)*(\w+)\s*(?:<(\w+)>)?\s+for\s+(\w+)", found.group(0))
-        parts = [held.group(3), held.group(1), held.group(2) or ""] if held else [found.group(1)]
-        yield "".join(part[:1].upper() + part[1:] for part in parts), found.start(), closing(text, found.end())
+    """(type, from, to) of each block of methods of a blanked source. A trait's are called as a log calls them, `U8FromBank` for `From<Bank> for u8`."""
+    for found in re.finditer(r"\bimpl\b\s*(?:<[^>]*>)?\s*(?:(?:\w+::)*(\w+)(?:<(\w+)>)?\s+for\s+)?(\w+)[^{;]*", text):
+        trait, other, name = found.groups("")
+        yield "".join(word[:1].upper() + word[1:] for word in (name, trait, other)), found.start(), closing(text, found.end())
 
 
 def constants(text):
