@@ -2,7 +2,7 @@
 -- equal"). One line for each relation that a public function's contract cites; those of
 -- `exports` alone stand in its own Determined.antt.
 -- Assumes nothing.
-use Rattle.std.specs.Prelude.{Bool, List, ℕ, Result}
+use Rattle.std.specs.Prelude.{Bool, List, ℕ, Option, Result}
 use Rattle.std.specs.Borrow.{Bor}
 use Rattle.outcomes.specs.Once.{Once, Twice, Thrice, Fourfold}
 use Rattle.frame.specs.declared.read.Footer.{Footer}
@@ -10,7 +10,6 @@ use Rattle.layout.specs.declared.Bank.{Bank}
 use Rattle.lines.specs.declared.line.LineReader.{LineReader}
 use Rattle.hex_text.specs.declared.fault.Kind.{Kind}
 use Rattle.hex_text.specs.declared.read.ReadError.{ReadError}
-use Rattle.rows.specs.declared.text.Written.{Written}
 use Rattle.clean.specs.declared.Refusal.{Refusal as CleanRefusal}
 use Rattle.sender.specs.declared.made.Refusal.{Refusal as Unmade}
 use Rattle.sender.specs.declared.request.Request.{Request}
@@ -128,7 +127,7 @@ pub record Determined : Type 0 where
   pub unmade_number : (why : Unmade) → Once (IsUnmadeNumber why)
   pub response_number : (response : Response) → Once (IsResponseNumber response)
   pub read_text : (text : List ℕ) (bank : Bank) (n : ℕ) (before : List ℕ) → Twice (IsReadText text bank n before)
-  pub written_number : (written : Written) → Once (IsWrittenNumber written)
+  pub written_number : (written : Option ℕ) → Once (IsWrittenNumber written)
   pub text_length : (image : List ℕ) (bank : Bank) → Once (IsLength image bank)
   pub write_text : (image : List ℕ) (bank : Bank) (before : List ℕ) → Twice (IsWrite image bank before)
   -- the sender

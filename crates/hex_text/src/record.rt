@@ -13,9 +13,6 @@ pub(crate) const LONGEST: usize = 260;
 // The byte of a line that its colon is: there H3 to H5 are told, which are of the whole record.
 const COLON: usize = 1;
 
-// Stands for the sum of what is no record.
-const NO_SUM: usize = 256;
-
 // Where the reading stands: the upper half of addresses, the end of earlier data, whether the end record was seen.
 #[derive(Clone, Copy)]
 pub struct State {
@@ -33,9 +30,9 @@ pub enum Found {
     Other,
 }
 
-// What `k` pairs of digits behind the line's first byte spell, to the front of `bytes`, and their sum modulo 256; `NO_SUM` where one pair is no
-// byte. The loop has no way out, so that the compiler takes many at once.
-fn spell(line: &[u8], k: usize, bytes: &mut [u8]) -> usize
+// What `k` pairs of digits behind the line's first byte spell, to the front of `bytes`, and their sum modulo 256; `None` where one pair is no byte.
+// The loop has no way out, so that the compiler takes many at once.
+fn spell(line: &[u8], k: usize, bytes: &mut [u8]) -> Option<u8>
     requires { (1 + 2 * k ≤ length line.now) × (k ≤ length bytes.old) }
     ensures { SpelledAt (bytes_at line.now 1 k) bytes.old bytes.new result }
 {
@@ -54,39 +51,33 @@ fn spell(line: &[u8], k: usize, bytes: &mut [u8]) -> usize
         j += 1;
         left -= 1;
     }
-    if good {
-        return usize::from(sum);
-    }
-    NO_SUM
+    if good { Some(sum) } else { None }
 }
 
-// The bytes of the line's record, to the front of `bytes`, and their sum modulo 256; `NO_SUM` where the line is no record.
-fn record_sum(line: &[u8], bytes: &mut [u8]) -> usize
+// The bytes of the line's record, to the front of `bytes`, and their sum modulo 256; `None` where the line is no record.
+fn record_sum(line: &[u8], bytes: &mut [u8]) -> Option<u8>
     requires { 260 ≤ length bytes.old }
     ensures { Summed line.now bytes.old bytes.new result }
 {
     let len = line.len();
     if len < 11 {
-        return NO_SUM;
+        return None;
     }
     if 2 * LONGEST + 1 < len {
-        return NO_SUM;
+        return None;
     }
     if len % 2 == 0 {
-        return NO_SUM;
+        return None;
     }
     if line[0] != b':' {
-        return NO_SUM;
+        return None;
     }
     let k = len / 2;
-    let sum = spell(line, k, bytes);
-    if sum == NO_SUM {
-        return NO_SUM;
-    }
+    let sum = spell(line, k, bytes)?;
     if k != usize::from(bytes[0]) + 5 {
-        return NO_SUM;
+        return None;
     }
-    sum
+    Some(sum)
 }
 
 // `count` data bytes from `start` on: inside the bank, and not below the end of earlier data.
@@ -170,10 +161,9 @@ pub(crate) fn look(
     if state.over {
         return Err(Fault(Kind::H6, 1));
     }
-    let sum = record_sum(line, bytes);
-    if sum == NO_SUM {
+    let Some(sum) = record_sum(line, bytes) else {
         return Err(Fault(Kind::H1, crate::place::place_of(line)));
-    }
+    };
     if sum != 0 {
         return Err(Fault(Kind::H2, line.len() - 1));
     }

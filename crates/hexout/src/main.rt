@@ -2,7 +2,7 @@
 #![tactic(auto)]
 
 use layout::{Bank, MOST, SECTOR};
-use rows::text::{LONGEST, Written};
+use rows::text::LONGEST;
 use script::input::Input;
 use script::{call, input, say, text};
 use std::env::Env;
@@ -27,8 +27,8 @@ fn say_text(rt: &impl Env, hex_text: &[u8], size: usize) {
 fn write_into(rt: &impl Env, image: &[u8], bank: Bank, hex_text: &mut [u8]) {
     let written = rows::text::write(image, bank, hex_text);
     match written {
-        Written::Text(size) => say_text(rt, hex_text, size),
-        _ => say_refused(rt, rows::text::written_number(written)),
+        Some(size) => say_text(rt, hex_text, size),
+        None => say_refused(rt, rows::text::written_number(written)),
     }
 }
 

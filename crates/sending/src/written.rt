@@ -2,17 +2,16 @@
 use crate::held;
 use crate::held::{Answered, Held, LONGEST_TEXT};
 use layout::Bank;
-use rows::text::Written;
 use script::{say, text};
 use std::env::Env;
 
-fn say_told(rt: &impl Env, word: &[u8], written: Written) {
+fn say_told(rt: &impl Env, word: &[u8], written: Option<usize>) {
     match written {
-        Written::Text(size) => {
+        Some(size) => {
             say::text(rt, word);
             say::decimal(rt, size);
         }
-        _ => say::refused(rt, rows::text::written_number(written)),
+        None => say::refused(rt, rows::text::written_number(written)),
     }
 }
 
@@ -32,13 +31,6 @@ pub(crate) fn length(rt: &impl Env, image: &[u8], fields: &[u8]) -> bool {
     false
 }
 
-fn size_of(written: Written, room: usize) -> usize {
-    match written {
-        Written::Text(size) => size,
-        _ => room,
-    }
-}
-
 // How much of the room is the text then: what was written, or all of it.
 fn write_into(rt: &impl Env, image: &[u8], bank: Bank, room: &mut [u8]) -> usize {
     buffer::fill::fill(room, 0xA5);
@@ -47,7 +39,7 @@ fn write_into(rt: &impl Env, image: &[u8], bank: Bank, room: &mut [u8]) -> usize
     say::text(rt, b" ");
     say::quad(rt, crc::crc32(room));
     say::end(rt);
-    size_of(written, room.len())
+    written.unwrap_or(room.len())
 }
 
 fn write_bank(
