@@ -1,7 +1,7 @@
 -- From the contracts to the demands: what a public function's contract allows of its result and of lent memory is the very outcome of the machine,
 -- the maker or the reader of which a demand is proved. One line for each such function.
 -- Assumes nothing.
-use Rattle.std.specs.Prelude.{◌≡◌, List, ℕ, length}
+use Rattle.std.specs.Prelude.{◌≡◌, List, ℕ, length, Option}
 use Rattle.layout.specs.declared.Bank.{Bank}
 use Rattle.layout.specs.Layout.{bank_size}
 use Rattle.layout.specs.Pair.{Banks, banks, bank_in}
@@ -116,4 +116,4 @@ pub record Contracts : Type 0 where
   pub night_silent : {night : Night} {image before : List ℕ} {r : Called} {after : List ℕ}
       → IsNightSilent night image before r after → night_sender.event night Silence image before ≡ told_back r after
   -- what comes back to either
-  pub read_response : {datagram : List ℕ} {r : Response} → IsResponse datagram r → response_of datagram ≡ r
+  pub read_response : {datagram : List ℕ} {r : Option Response} → IsResponse datagram r → response_of datagram ≡ r

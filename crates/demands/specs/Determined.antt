@@ -2,7 +2,7 @@
 -- equal"). One line for each relation that a public function's contract cites; those of
 -- `exports` alone stand in its own Determined.antt.
 -- Assumes nothing.
-use Rattle.std.specs.Prelude.{Bool, List, ℕ}
+use Rattle.std.specs.Prelude.{Bool, List, ℕ, Option}
 use Rattle.std.specs.Borrow.{Bor}
 use Rattle.outcomes.specs.Once.{Once, Twice, Thrice, Fourfold}
 use Rattle.frame.specs.declared.read.Footer.{Footer}
@@ -127,7 +127,7 @@ pub record Determined : Type 0 where
   pub answer_number : (answer : ReadAnswer) → Once (IsAnswerNumber answer)
   pub made_number : (made : Made) → Once (IsMadeNumber made)
   pub tally_number : (tally : Tally) → Once (IsTallyNumber tally)
-  pub response_number : (response : Response) → Once (IsResponseNumber response)
+  pub response_number : (response : Option Response) → Once (IsResponseNumber response)
   pub read_text : (text : List ℕ) (bank : Bank) (n : ℕ) (before : List ℕ) → Twice (IsReadText text bank n before)
   pub written_number : (written : Written) → Once (IsWrittenNumber written)
   pub text_length : (image : List ℕ) (bank : Bank) → Once (IsLength image bank)
