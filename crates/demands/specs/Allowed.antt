@@ -112,4 +112,4 @@ pub record Contracts : Type 0 where
   pub night_silent : {night : Night} {image before : List ℕ} {r : Called} {after : List ℕ}
       → IsNightSilent night image before r after → night_sender.event night Silence image before ≡ told_back r after
   -- what comes back to either
-  pub read_response : {datagram : List ℕ} {r : Response} → IsResponse datagram r → response_of datagram ≡ r
+  pub read_response : {datagram : List ℕ} {r : Option Response} → IsResponse datagram r → response_of datagram ≡ r

@@ -125,7 +125,7 @@ pub record Determined : Type 0 where
   pub kind_number : (kind : Kind) → Once (IsKindNumber kind)
   pub answer_number : (answer : Result (Unit {0}) ReadError) → Once (IsAnswerNumber answer)
   pub unmade_number : (why : Unmade) → Once (IsUnmadeNumber why)
-  pub response_number : (response : Response) → Once (IsResponseNumber response)
+  pub response_number : (response : Option Response) → Once (IsResponseNumber response)
   pub read_text : (text : List ℕ) (bank : Bank) (n : ℕ) (before : List ℕ) → Twice (IsReadText text bank n before)
   pub written_number : (written : Option ℕ) → Once (IsWrittenNumber written)
   pub text_length : (image : List ℕ) (bank : Bank) → Once (IsLength image bank)
