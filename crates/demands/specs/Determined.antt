@@ -2,7 +2,7 @@
 -- equal"). One line for each relation that a public function's contract cites; those of
 -- `exports` alone stand in its own Determined.antt.
 -- Assumes nothing.
-use Rattle.std.specs.Prelude.{Bool, List, ℕ, Option}
+use Rattle.std.specs.Prelude.{Bool, List, ℕ, Option, Result}
 use Rattle.std.specs.Borrow.{Bor}
 use Rattle.outcomes.specs.Once.{Once, Twice, Thrice, Fourfold}
 use Rattle.frame.specs.declared.read.Footer.{Footer}
@@ -21,7 +21,7 @@ use Rattle.response.specs.declared.read.Response.{Response}
 use Rattle.night.specs.declared.record.Next.{Next}
 use Rattle.night.specs.declared.record.Night.{Night}
 use Rattle.exchange.specs.declared.answer.Refusal.{Refusal}
-use Rattle.exchange.specs.declared.request.Asked.{Asked}
+use Rattle.exchange.specs.declared.request.Unasked.{Unasked}
 use Rattle.exchange.specs.declared.request.Request.{Request as Received}
 use Rattle.exchange.specs.declared.state.State.{State}
 use Rattle.decision.specs.declared.plan.Standing.{Standing}
@@ -160,7 +160,7 @@ pub record Determined : Type 0 where
   pub refusal_number : (why : Refusal) → Once (IsRefusalNumber why)
   pub say : (answer : Answer) (before : List ℕ) → Twice (IsSay answer before)
   -- the client
-  pub plan : (standing : Standing) (target : ℕ) (marks address : List ℕ) (buffer : ℕ) (asked : Asked) → Once (IsPlan standing target marks address buffer asked)
+  pub plan : (standing : Standing) (target : ℕ) (marks address : List ℕ) (buffer : ℕ) (asked : Result Received Unasked) → Once (IsPlan standing target marks address buffer asked)
   pub told_number : (told : Told) → Once (IsTold told)
   pub notice_code : (kind : NoticeKind) → Once (IsNoticeCode kind)
   pub new : (n : ℕ) (running : Bank) (major minor revision : ℕ) → Once (IsNew n running major minor revision)
