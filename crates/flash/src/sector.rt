@@ -30,8 +30,5 @@ pub(crate) fn holds(sector: &[u8], bytes: &[u8]) -> bool
     ensures { result ≡ same_of sector.now (padded_of bytes.now) }
 {
     let m = bytes.len();
-    if !buffer::compare::same(&sector[..m], bytes) {
-        return false;
-    }
-    buffer::compare::blank(&sector[m..])
+    buffer::compare::same(&sector[..m], bytes) && buffer::compare::blank(&sector[m..])
 }
