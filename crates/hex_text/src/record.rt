@@ -126,24 +126,12 @@ fn typed_at(bytes: &[u8], base: usize, size: usize, state: State) -> Result<Foun
     if address != 0 {
         return Err(Fault(Kind::H3, COLON));
     }
-    if kind == 1 {
-        if n == 0 {
-            return Ok(Found::End);
-        }
-        return Err(Fault(Kind::H3, COLON));
+    match (kind, n) {
+        (1, 0) => Ok(Found::End),
+        (4, 2) => Ok(Found::Upper(number2(bytes, 4) as usize)),
+        (5, 4) => Ok(Found::Other),
+        _ => Err(Fault(Kind::H3, COLON)),
     }
-    if kind == 4 {
-        if n == 2 {
-            return Ok(Found::Upper(number2(bytes, 4) as usize));
-        }
-        return Err(Fault(Kind::H3, COLON));
-    }
-    if kind == 5 {
-        if n == 4 {
-            return Ok(Found::Other);
-        }
-    }
-    Err(Fault(Kind::H3, COLON))
 }
 
 // What a line says; its record's bytes go to the front of `bytes`. Where a line that is no record goes wrong is looked for only then, so that good
