@@ -118,10 +118,10 @@ fn accepted(command: Command, parameters: &[u8]) -> Response
         },
         Command::BankInfo => named(parameters[1]),
         Command::VersionInfo => Response::Firmware {
-            id: buffer::number::number2(parameters, 1),
+            id: buffer::number::number(parameters, 1),
             major: parameters[3],
             minor: parameters[4],
-            revision: buffer::number::number4(parameters, 5),
+            revision: buffer::number::number(parameters, 5),
         },
         Command::WriteStart => Response::Plain {
             command,
@@ -215,7 +215,7 @@ fn written(sector: u16, bytes: &[u8]) -> Response
     }
     let response = bytes[0];
     let write = bytes[1];
-    let crc = buffer::number::number4(bytes, 2);
+    let crc = buffer::number::number(bytes, 2);
     if !may_carry(false, response) {
         return Response::Unreadable;
     }

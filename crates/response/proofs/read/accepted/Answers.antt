@@ -33,7 +33,7 @@ pub returns-in-VersionInfo : goal.returns-in-VersionInfo
 returns-in-VersionInfo c =
     let args = c.args in
     let l : List ℕ = args.parameters.now in
-    ap₂ (λ (x y : ℕ). Firmware x (byte_at l 3) (byte_at l 4) y) c.number2.ensures c.number4.ensures
+    ap₂ (λ (x y : ℕ). Firmware x (byte_at l 3) (byte_at l 4) y) c.number.ensures c.number-in-VersionInfo.ensures
     ∙ sym (ap (λ (k : Command). accepted_of k l) c.in-VersionInfo.is)
 
 pub returns-in-WriteStart : goal.returns-in-WriteStart
