@@ -20,7 +20,7 @@ pub(crate) fn size_at(slots: &[u8], k: usize) -> usize
     requires { (k + 1) * slot_size ≤ length slots.now }
     ensures { result ≡ size_at slots.now k }
 {
-    buffer::number::number2(slots, k * SLOT) as usize
+    usize::from(buffer::number::number::<u16, _>(slots, k * SLOT))
 }
 
 // Whether no slot says more than it has room for.

@@ -34,7 +34,7 @@ fn put_word(bank: &mut [u8], k: usize, bytes: &[u8], i: usize)
     ensures { StoresLeave (word_store k bytes.now i) bank.old bank.new }
 {
     let at = i * WORD;
-    let word = buffer::number::number4(&bytes[at..], 0);
+    let word: u32 = buffer::number::number(&bytes[at..], 0);
     if word == 0xFFFF_FFFF {
         return;
     }

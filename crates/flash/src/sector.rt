@@ -20,7 +20,7 @@ pub(crate) fn make(sector: &mut [u8], store: Store)
 {
     match store {
         Store::Erase => buffer::fill::fill(sector, 0xFF),
-        Store::Word { at, word } => buffer::number::put_number4(sector, at, word),
+        Store::Word { at, word } => buffer::number::put_number(sector, at, word),
     }
 }
 

@@ -5,7 +5,7 @@ ghost use Rattle.hex_text.specs.Places.{bytes_at, SpelledAt, Summed, LookFits, L
 
 use crate::fault::{Fault, Kind};
 use crate::pair::{pair_at, value_at};
-use buffer::number::number2;
+use buffer::number::number;
 
 // As many bytes as a record has at most: a count of 255, and 5 beside the data.
 pub(crate) const LONGEST: usize = 260;
@@ -112,7 +112,7 @@ fn typed_at(bytes: &[u8], base: usize, size: usize, state: State) -> Result<Foun
     ensures { result ≡ typed base size state.upper state.last bytes.now }
 {
     let n = bytes[0];
-    let address = number2(bytes, 1) as usize;
+    let address = usize::from(number::<u16, _>(bytes, 1));
     let kind = bytes[3];
     if kind == 0 {
         return data_at(
@@ -128,7 +128,7 @@ fn typed_at(bytes: &[u8], base: usize, size: usize, state: State) -> Result<Foun
     }
     match (kind, n) {
         (1, 0) => Ok(Found::End),
-        (4, 2) => Ok(Found::Upper(number2(bytes, 4) as usize)),
+        (4, 2) => Ok(Found::Upper(usize::from(number::<u16, _>(bytes, 4)))),
         (5, 4) => Ok(Found::Other),
         _ => Err(Fault(Kind::H3, COLON)),
     }

@@ -71,13 +71,13 @@ pub fn byte(rt: &impl Env, value: u8) {
 
 pub fn pair(rt: &impl Env, value: u16) {
     let mut two = [0u8; 2];
-    buffer::number::put_number2(&mut two, 0, value);
+    buffer::number::put_number(&mut two, 0, value);
     hex(rt, &two);
 }
 
 pub fn quad(rt: &impl Env, value: u32) {
     let mut four = [0u8; 4];
-    buffer::number::put_number4(&mut four, 0, value);
+    buffer::number::put_number(&mut four, 0, value);
     hex(rt, &four);
 }
 
