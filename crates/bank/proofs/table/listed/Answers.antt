@@ -18,7 +18,7 @@ bounds-bank-3 c = omega (arith, long _ c.requires)
 
 pub returns-then-n-lt1 : goal.returns-then-n-lt1
 returns-then-n-lt1 c =
-    listed-none _ c.requires _ c.number2.ensures c.if-number2-ne1024.false c.if-bank-ne1.false _
+    listed-none _ c.requires _ c.number.ensures c.if-number-ne1024.false c.if-bank-ne1.false _
     c.from-n.ensures c.if-n-lt1.true
 
 pub returns-then-n-gt-MOST_BODIES : goal.returns-then-n-gt-MOST_BODIES
