@@ -38,18 +38,12 @@ fn spell(line: &[u8], k: usize, bytes: &mut [u8]) -> Option<u8>
 {
     let mut sum: u8 = 0;
     let mut good = true;
-    let mut p: usize = 1;
-    let mut j = 0;
-    let mut left = k;
-    while 0 < left {
-        let g = pair_at(line, p);
-        let b = value_at(line, p);
+    for j in 0..k {
+        let g = pair_at(line, 2 * j + 1);
+        let b = value_at(line, 2 * j + 1);
         bytes[j] = b;
         good = good & g;
-        sum = std::num::wrapping_add_u8(sum, b);
-        p += 2;
-        j += 1;
-        left -= 1;
+        sum = sum.wrapping_add(b);
     }
     if good { Some(sum) } else { None }
 }

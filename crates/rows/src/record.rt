@@ -20,15 +20,10 @@ fn spell(bytes: &[u8], sum: u8, text: &mut [u8], at: usize) -> u8
     ensures { Spelt bytes.now sum text.old at result text.new }
 {
     let mut added = sum;
-    let mut p = at;
-    let mut j = 0;
-    while j < bytes.len() {
-        let byte = bytes[j];
-        text[p] = digits::digit(byte / 16);
-        text[p + 1] = digits::digit(byte);
-        added = std::num::wrapping_add_u8(added, byte);
-        p += 2;
-        j += 1;
+    for (j, byte) in bytes.iter().enumerate() {
+        text[at + 2 * j] = digits::digit(*byte / 16);
+        text[at + 2 * j + 1] = digits::digit(*byte);
+        added = added.wrapping_add(*byte);
     }
     added
 }
