@@ -34,7 +34,7 @@ pub fn answer_number(answer: Result<(), ReadError>) -> usize
 
 // One line: looked at, and what it says done.
 fn take_line(line: &[u8], base: usize, state: State, image: &mut [u8]) -> Result<State, Fault>
-    requires { LookFits base (length image.old) state }
+    requires { LookFits base (length image.old) }
     ensures { Took base state line.now image.old image.new result }
 {
     let mut bytes = [0u8; crate::record::LONGEST];

@@ -11,5 +11,4 @@ abbrev pub invariant-loop-bytes : goal.invariant-loop-bytes
 invariant-loop-bytes l =
     (l.line + length (lines_left l.bytes-iterator) ≤ length l.text + 1)
     × (length l.image ≡ length l.initial.image)
-    × (l.state.upper < 65536)
     × (read_lines l.base (length l.initial.image) at_start 1 l.initial.image (lines l.text) ≡ read_lines l.base (length l.initial.image) l.state l.line l.image (lines_left l.bytes-iterator))
