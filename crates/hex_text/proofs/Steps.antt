@@ -1,6 +1,6 @@
 -- A line taken, line after line, and the whole text: case by case.
 -- Assumes nothing.
-use Rattle.std.proofs.Common.{◌≡◌, ℕ, ◌+◌, ◌-◌, ◌*◌, ◌<◌, ◌≤◌, true, false, List, [], ◌∷◌, length, take, drop, replicate, sym, refl, ap, ◌∙◌, arith, eq-eqb, ne_eqb}
+use Rattle.std.proofs.Common.{◌≡◌, ℕ, ◌+◌, ◌-◌, ◌*◌, ◌≤◌, true, false, List, [], ◌∷◌, length, take, drop, replicate, sym, refl, ap, ◌∙◌, arith, eq-eqb, ne_eqb}
 use lib.ListN.{length-replicate}
 use lib.Seq.{sets-eq}
 use Rattle.buffer.proofs.Bools.{no_way}
@@ -15,7 +15,7 @@ use Rattle.hex_text.specs.declared.fault.Fault.{Fault}
 use Rattle.hex_text.specs.declared.fault.Refusal.{Refusal}
 use Rattle.hex_text.specs.declared.record.State.{State}
 use Rattle.hex_text.specs.declared.record.Found.{Found}
-use Rattle.hex_text.specs.declared.record.Found.TheVariants.{Data, Upper, End, Other}
+use Rattle.hex_text.specs.declared.record.Found.TheVariants.{Data}
 use Rattle.hex_text.specs.declared.read.ReadError.TheVariants.{BadN, BadLength, Line}
 use Rattle.hex_text.specs.Spell.{line_bytes}
 use Rattle.hex_text.specs.Record.{record_data, found_of}

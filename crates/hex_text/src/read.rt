@@ -72,7 +72,7 @@ fn finish(state: State, line: usize) -> Result<(), Refusal>
 
 // Line after line, up to the first fault.
 fn read_lines(text: &[u8], base: usize, image: &mut [u8]) -> Result<(), Refusal>
-    requires { (base < 4294967296) × (length image.old < 4294967296) }
+    requires { LookFits base (length image.old) }
     ensures { Came (read_lines base (length image.old) at_start 1 image.old (lines text.now)) result image.new }
 {
     let mut state = State {

@@ -102,7 +102,7 @@ fn data_at(
 
 // What a record of these bytes says.
 fn typed_at(bytes: &[u8], base: usize, size: usize, state: State) -> Result<Found, Fault>
-    requires { (record_count bytes.now + 5 ≤ length bytes.now) × ((base < 4294967296) × (size < 4294967296)) }
+    requires { (record_count bytes.now + 5 ≤ length bytes.now) × LookFits base size }
     ensures { result ≡ typed base size state.upper state.last bytes.now }
 {
     let n = bytes[0];

@@ -44,7 +44,7 @@ pub(crate) fn put_line(text: &mut [u8], at: usize, address: usize, kind: u8, byt
     let begun = spell(&head, 0, text, at + 1);
     let sum = spell(bytes, begun, text, at + 9);
     let end = at + 9 + 2 * n;
-    let checksum = [std::num::wrapping_sub_u8(0, sum)];
+    let checksum = [0u8.wrapping_sub(sum)];
     spell(&checksum, 0, text, end);
     text[end + 2] = b'\r';
     text[end + 3] = b'\n';
