@@ -16,7 +16,7 @@ const COLON: usize = 1;
 // Where the reading stands: the upper half of addresses, the end of earlier data, whether the end record was seen.
 #[derive(Clone, Copy)]
 pub struct State {
-    pub upper: usize,
+    pub upper: u16,
     pub last: usize,
     pub over: bool,
 }
@@ -25,7 +25,7 @@ pub struct State {
 #[derive(Clone, Copy, PartialEq, Eq)]
 pub enum Found {
     Data { start: usize, n: usize },
-    Upper(usize),
+    Upper(u16),
     End,
     Other,
 }
@@ -38,18 +38,12 @@ fn spell(line: &[u8], k: usize, bytes: &mut [u8]) -> Option<u8>
 {
     let mut sum: u8 = 0;
     let mut good = true;
-    let mut p: usize = 1;
-    let mut j = 0;
-    let mut left = k;
-    while 0 < left {
-        let g = pair_at(line, p);
-        let b = value_at(line, p);
+    for j in 0..k {
+        let g = pair_at(line, 2 * j + 1);
+        let b = value_at(line, 2 * j + 1);
         bytes[j] = b;
         good = good & g;
-        sum = std::num::wrapping_add_u8(sum, b);
-        p += 2;
-        j += 1;
-        left -= 1;
+        sum = sum.wrapping_add(b);
     }
     if good { Some(sum) } else { None }
 }
@@ -108,7 +102,7 @@ fn data_at(
 
 // What a record of these bytes says.
 fn typed_at(bytes: &[u8], base: usize, size: usize, state: State) -> Result<Found, Fault>
-    requires { (record_count bytes.now + 5 ≤ length bytes.now) × ((state.upper < 65536) × ((base < 4294967296) × (size < 4294967296))) }
+    requires { (record_count bytes.now + 5 ≤ length bytes.now) × LookFits base size }
     ensures { result ≡ typed base size state.upper state.last bytes.now }
 {
     let n = bytes[0];
@@ -119,7 +113,7 @@ fn typed_at(bytes: &[u8], base: usize, size: usize, state: State) -> Result<Foun
             base,
             size,
             state.last,
-            state.upper * 65536 + address,
+            usize::from(state.upper) * 65536 + address,
             usize::from(n),
         );
     }
@@ -128,7 +122,7 @@ fn typed_at(bytes: &[u8], base: usize, size: usize, state: State) -> Result<Foun
     }
     match (kind, n) {
         (1, 0) => Ok(Found::End),
-        (4, 2) => Ok(Found::Upper(usize::from(number::<u16, _>(bytes, 4)))),
+        (4, 2) => Ok(Found::Upper(number(bytes, 4))),
         (5, 4) => Ok(Found::Other),
         _ => Err(Fault(Kind::H3, COLON)),
     }
@@ -143,7 +137,7 @@ pub(crate) fn look(
     state: State,
     bytes: &mut [u8],
 ) -> Result<Found, Fault>
-    requires { LookFits base size state × (260 ≤ length bytes.old) }
+    requires { LookFits base size × (260 ≤ length bytes.old) }
     ensures { Looked line.now base size state bytes.new result }
 {
     if state.over {

@@ -21,7 +21,7 @@ returns-in-1-eq0 c =
 pub returns-in-4-eq2 : goal.returns-in-4-eq2
 returns-in-4-eq2 c =
     let address = address_read _ c.requires.0 (c.from-address.ensures ∙ c.number.ensures) in
-    let upper = upper_read _ c.requires.0 c.in-4-eq2.is-1 (c.from-in-4-eq2.ensures ∙ c.number-in-4-eq2.ensures) in
+    let upper = upper_read _ c.requires.0 c.in-4-eq2.is-1 c.number-in-4-eq2.ensures in
     sym (typed-upper _ _ _ _ _ address c.if-kind-eq0.false c.if-address-ne0.false upper c.in-4-eq2.is-0 c.in-4-eq2.is-1)
 
 pub returns-in-5-eq4 : goal.returns-in-5-eq4
