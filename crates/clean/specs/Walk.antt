@@ -3,7 +3,7 @@
 use Rattle.std.specs.Prelude.{◌≡◌, Bool, true, false, not, List, ◌++◌, ℕ, ◌+◌, ◌*◌, ◌/◌, ◌≤◌, ◌<◌, min, eqb, length, get_or, take, drop, replicate}
 use Rattle.std.proofs.lemmas.List.Edits.{sets}
 use Rattle.layout.specs.Layout.{sector_size, most_sectors, whole_length}
-use Rattle.bank.specs.declared.gaps.Gaps.{Gaps}
+use Rattle.bank.specs.declared.gaps.Gap.{Gap}
 use Rattle.bank.specs.Gaps.{GapsAt, Gapped, outside}
 use Rattle.clean.specs.declared.count.Seen.{Seen}
 use Rattle.clean.specs.declared.list.Progress.{Progress}
@@ -12,7 +12,7 @@ use Rattle.clean.specs.Runs.{open_at, open_run, runs_at, flat}
 use Rattle.clean.specs.Sectors.{held_at}
 
 -- a bank of some length with good contents, and its gaps
-pub record GoodBank (b : List ℕ) (gaps : Gaps) : Type 0 where
+pub record GoodBank (b : List ℕ) (gaps : List Gap) : Type 0 where
   pub whole : whole_length (length b) ≡ true
   pub gapped : Gapped b
   pub are : GapsAt b gaps

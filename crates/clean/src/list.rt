@@ -6,7 +6,7 @@ ghost use Rattle.clean.specs.Old.{old};
 ghost use Rattle.clean.specs.Runs.{run_before, flat};
 ghost use Rattle.clean.specs.Walk.{GoodBank, Piece, AtGap, MarksAt, Reached, ListsOn, ListsGap, MarkTells, met};
 
-use bank::gaps::Gaps;
+use bank::gaps::Gap;
 use layout::SECTOR;
 
 // What is listed behind some bytes.
@@ -66,10 +66,8 @@ fn list_piece(bank: &[u8], from: usize, to: usize, listed: Progress, runs: &mut 
     ensures lists_on { ListsOn (old bank.now) from to runs.old runs.new }
 {
     let mut so_far = listed;
-    let mut at = from;
-    while at < to {
+    for at in from..to {
         so_far = list_byte(bank, at, so_far, runs);
-        at += 1;
     }
     so_far
 }
@@ -111,6 +109,7 @@ fn list_gap(
 {
     let mut listed = Progress { runs: n, length: 0 };
     let mut at = from;
+    // The index is kept: the pieces are of unlike length, for a gap starts and ends anywhere.
     while at < to {
         let end = crate::piece::end(at, to);
         listed = list_marked(bank, at, end, marks[at / SECTOR], listed, runs);
@@ -121,17 +120,13 @@ fn list_gap(
 }
 
 // All gaps. There is room for all runs.
-pub(crate) fn list(bank: &[u8], gaps: Gaps, marks: &[bool], runs: &mut [u32])
-    requires good_bank { GoodBank bank.now gaps × MarksAt (old bank.now) (length bank.now) marks.now }
+pub(crate) fn list(bank: &[u8], gaps: &[Gap], marks: &[bool], runs: &mut [u32])
+    requires good_bank { GoodBank bank.now gaps.now × MarksAt (old bank.now) (length bank.now) marks.now }
     requires bank_in_bounds { length (runs_of bank.now) ≤ length runs.old / 2 }
     ensures { runs.new ≡ sets runs.old 0 (flat (runs_of bank.now)) }
 {
     let mut n = 0;
-    let mut i = 0;
-    while i < gaps.count {
-        let from = gaps.starts[i];
-        let to = gaps.ends[i];
-        n = list_gap(bank, from, to, marks, n, runs);
-        i += 1;
+    for gap in gaps {
+        n = list_gap(bank, gap.start, gap.end, marks, n, runs);
     }
 }

@@ -1,11 +1,9 @@
 -- Do: a plan carried out on the target bank (01, 'The client, step by step'). The running bank is never seen here.
 -- Assumes nothing.
-use Rattle.std.specs.Prelude.{◌≡◌, Ok, Err, ◌⊎◌, Bool, true, false, ◌||◌, cond, List, ℕ, ◌≤◌}
+use Rattle.std.specs.Prelude.{◌≡◌, Ok, Err, ◌⊎◌, Bool, true, false, ◌||◌, cond, List, ℕ, ◌≤◌, is_ok}
 use Rattle.buffer.specs.Compare.{blank_of}
 use Rattle.crc.specs.Crc.{crc_of}
 use Rattle.flash.specs.Bank.{written_at, already_at, swept_of}
-use Rattle.bank.specs.declared.check.Verdict.{Verdict}
-use Rattle.bank.specs.declared.check.Verdict.TheVariants as verdict
 use Rattle.bank.specs.Sound.{verdict_of}
 use Rattle.layout.specs.Layout.{bank_size, most_sectors, other_of, sector_of}
 use Rattle.commands.specs.declared.Command.TheVariants.{ModeStart, WriteStart, WriteEnd, ModeEnd}
@@ -20,15 +18,10 @@ use Rattle.client.specs.declared.record.Client.{Client}
 use Rattle.client.specs.declared.record.Latest.TheVariants.{Good, Otherwise}
 use Rattle.client.specs.Record.{starting, opened, mode_ended, begun, marked, ended}
 
--- a sound bank may start next, an unsound one may not ("unsound gives 1E")
-abbrev pub fit_by : Verdict → Bool
-fit_by verdict.Refused = false
-fit_by verdict.Sound = true
-fit_by verdict.Unsound = false
-
--- whether a client may start a bank: by the bank, and by what was fixed when the client was made (of use from 02 §10 on)
+-- whether a client may start a bank: a sound one, and no other ("unsound gives 1E"); by the bank, and by what was fixed when the client was made
+-- (of use from 02 §10 on)
 abbrev pub fit_of : Fixed → List ℕ → Bool
-fit_of fixed bank = fit_by (verdict_of bank)
+fit_of fixed bank = is_ok (verdict_of bank)
 
 -- "1D if the data are all 0xFF", or if the sector already was what it should become
 abbrev pub store_result : Bool → Bool → ℕ

@@ -6,7 +6,6 @@ ghost use Rattle.client.specs.Perform.{fit_of, store_result, sector_crc, store_o
 ghost use Rattle.exchange.specs.declared.answer.Answer.TheVariants.{Response};
 
 use crate::record::{Client, Latest};
-use bank::check::Verdict;
 use commands::Command;
 use decision::plan::{Fixed, Plan};
 use exchange::answer::{Answer, Refusal};
@@ -22,11 +21,7 @@ pub(crate) struct Served {
 fn fit(fixed: Fixed, bank: &[u8]) -> bool
     ensures { result ≡ fit_of fixed bank.now }
 {
-    match bank::check::check(bank) {
-        Verdict::Refused => false,
-        Verdict::Sound => true,
-        Verdict::Unsound => false,
-    }
+    bank::check::check(bank).is_ok()
 }
 
 // 1D where nothing but 0xFF was sent, or the sector already was what it should become.

@@ -40,10 +40,11 @@ determined =
       body_count = λ bank. once _;
       stretch_at = λ bank i. once _;
       gaps = λ bank. once _;
+      gap_slice = λ gaps. once _;
       contents = λ bank x y p q. p.verdict ∙ sym q.verdict;
       check = λ bank x y p q. p.verdict ∙ sym q.verdict;
       body = λ bank i. once _;
-      cleaned_number = λ cleaned. once _;
+      clean_number = λ refusal. once _;
       clean = λ bank runs sectors x y u v s t a b p q. (
         p.answered ∙ sym q.answered,
         (p.bank_then ∙ sym q.bank_then, (p.runs_then ∙ sym q.runs_then, p.sectors_then ∙ sym q.sectors_then)),

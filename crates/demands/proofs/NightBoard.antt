@@ -1,7 +1,7 @@
 -- What a board does with the requests of a night, whatever is lent with them, and with its host's commands: a session that shows nothing but sectors of the
 -- image stays one, and what an answer says to the night sender is so.
 -- Assumes nothing.
-use Rattle.std.specs.Prelude.{Option, Some}
+use Rattle.std.specs.Prelude.{Option, Some, None}
 use mathlib.Core.Path.{◌≡◌, refl, sym, ap, subst, ◌∙◌}
 use mathlib.Core.Logic.{◌⊎◌, inl, inr}
 use mathlib.Core.Bool.{Bool, true, false, not, ◌&&◌, ◌||◌, or-true, false≢true}
@@ -38,7 +38,7 @@ use Rattle.commands.specs.declared.Command.{Command}
 use Rattle.commands.specs.declared.Command.TheVariants as command
 use Rattle.commands.specs.Command.{response_code}
 use Rattle.response.specs.declared.read.Response.{Response}
-use Rattle.response.specs.declared.read.Response.TheVariants.{Unreadable, Plain, Error, Target, Firmware, Written}
+use Rattle.response.specs.declared.read.Response.TheVariants.{Plain, Error, Target, Firmware, Written}
 use Rattle.response.specs.Response.{may_carry, added_of, repeats_of, stored_of, crc_fits, response_in, response_of}
 use Rattle.response.proofs.Answers.{plain_back, error_back, bank_back, version_back, written_back}
 use Rattle.sender.specs.declared.request.Request.TheVariants as request
@@ -132,13 +132,13 @@ is_end command.WriteStart = false
 is_end command.WriteEnd = true
 is_end command.ModeEnd = false
 
-abbrev idle : Response → Bool
-idle Unreadable = true
-idle (Plain c r) = not (is_end c && eqb r 0x06)
-idle (Error r) = true
-idle (Target x) = true
-idle (Firmware id major minor revision) = false
-idle (Written s r w crc) = not (eqb r 0x06 && (eqb w 0x06 || eqb w 0x1D))
+abbrev idle : Option Response → Bool
+idle None = true
+idle (Some (Plain c r)) = not (is_end c && eqb r 0x06)
+idle (Some (Error r)) = true
+idle (Some (Target x)) = true
+idle (Some (Firmware id major minor revision)) = false
+idle (Some (Written s r w crc)) = not (eqb r 0x06 && (eqb w 0x06 || eqb w 0x1D))
 
 empty_idle : idle (response_of []) ≡ true
 unfolding read_of response_in
@@ -184,18 +184,18 @@ module _ (image : List ℕ) (bank : Bank) (n : ℕ) (P : List ℕ → Type 0) wh
     pub done : Clean b g → AllIn image bank n g → Done o.board
 
   -- what a response of this board says, where the request of this name arrived: before it g was shown, and now h is
-  abbrev pub Says : Name → Board → List ℕ → Outcome → List ℕ → Response → Type 0
-  Says k b g o h Unreadable = Unit {0}
-  Says k b g o h (Plain command.ModeStart r) = Unit {0}
-  Says k b g o h (Plain command.BankInfo r) = Unit {0}
-  Says k b g o h (Plain command.VersionInfo r) = Unit {0}
-  Says k b g o h (Plain command.WriteStart r) = Unit {0}
-  Says k b g o h (Plain command.WriteEnd r) = r ≡ 0x06 → Ends k b g o
-  Says k b g o h (Plain command.ModeEnd r) = Unit {0}
-  Says k b g o h (Error r) = Unit {0}
-  Says k b g o h (Target x) = Unit {0}
-  Says k b g o h (Firmware id major minor revision) = Clean o.board h
-  Says k b g o h (Written s r w crc) =
+  abbrev pub Says : Name → Board → List ℕ → Outcome → List ℕ → Option Response → Type 0
+  Says k b g o h None = Unit {0}
+  Says k b g o h (Some (Plain command.ModeStart r)) = Unit {0}
+  Says k b g o h (Some (Plain command.BankInfo r)) = Unit {0}
+  Says k b g o h (Some (Plain command.VersionInfo r)) = Unit {0}
+  Says k b g o h (Some (Plain command.WriteStart r)) = Unit {0}
+  Says k b g o h (Some (Plain command.WriteEnd r)) = r ≡ 0x06 → Ends k b g o
+  Says k b g o h (Some (Plain command.ModeEnd r)) = Unit {0}
+  Says k b g o h (Some (Error r)) = Unit {0}
+  Says k b g o h (Some (Target x)) = Unit {0}
+  Says k b g o h (Some (Firmware id major minor revision)) = Clean o.board h
+  Says k b g o h (Some (Written s r w crc)) =
       r ≡ 0x06 → Accepted w → (is_early k ≡ false) × (Clean b g → Writing o.board → sector_of h s ≡ sector_of image s)
 
   -- what one input does while the request of this name is at hand
@@ -208,7 +208,7 @@ module _ (image : List ℕ) (bank : Bank) (n : ℕ) (P : List ℕ → Type 0) wh
 
 -- ---- answers that tell nothing
 
-plain_idle : (c : Command) (r : ℕ) → may_carry false r ≡ true → added_of c r ≡ 0 → idle (Plain c r) ≡ true
+plain_idle : (c : Command) (r : ℕ) → may_carry false r ≡ true → added_of c r ≡ 0 → idle (Some (Plain c r)) ≡ true
     → idle (response_of (control_frame (response_code c) (r ∷ []))) ≡ true
 plain_idle c r m z i = ap idle (sym (plain_back c r m z)) ∙ i
 
@@ -225,7 +225,7 @@ unfolding may_carry repeats_of crc_fits
 worn_idle s h = ap idle (sym (written_back s 0x06 0x1C 0 h (omega arith) refl refl refl refl))
 
 pub stored_back : (s w crc : ℕ) → s < 65536 → crc < 2 ^ 32 → Accepted w
-    → response_of (write_frame s (written_bytes 0x06 w crc) End) ≡ Written s 0x06 w crc
+    → response_of (write_frame s (written_bytes 0x06 w crc) End) ≡ Some (Written s 0x06 w crc)
 unfolding may_carry repeats_of crc_fits stored_of
 stored_back s w crc h c (inl e) = rw e (sym (written_back s 0x06 0x06 crc h c refl refl refl (or-true (eqb crc 0))))
 stored_back s w crc h c (inr e) = rw e (sym (written_back s 0x06 0x1D crc h c refl refl refl (or-true (eqb crc 0))))
@@ -253,7 +253,7 @@ declined_stored : (code : ℕ) → is_stored (control_frame code (0x15 ∷ [])) 
 unfolding control_frame framed
 declined_stored code = refl
 
-declined_plain : (c : Command) → idle (Plain c 0x15) ≡ true
+declined_plain : (c : Command) → idle (Some (Plain c 0x15)) ≡ true
 declined_plain c = ap not (and_false (is_end c))
 
 -- ---- states
@@ -284,18 +284,18 @@ module _ (image : List ℕ) (bank : Bank) (n : ℕ) (P : List ℕ → Type 0) wh
   still_done b s latest opener received e d =
       record { sectors = d.sectors; target = d.target; is_image = d.is_image; starts_next = d.starts_next; resting = λ w. not_write s e w.0 }
 
-  idle_says : (k : Name) (b : Board) (g : List ℕ) (o : Outcome) (h : List ℕ) (r : Response) → idle r ≡ true → Says image bank n P k b g o h r
-  idle_says k b g o h Unreadable e = tt
-  idle_says k b g o h (Plain command.ModeStart r) e = tt
-  idle_says k b g o h (Plain command.BankInfo r) e = tt
-  idle_says k b g o h (Plain command.VersionInfo r) e = tt
-  idle_says k b g o h (Plain command.WriteStart r) e = tt
-  idle_says k b g o h (Plain command.WriteEnd r) e = λ q. absurd (false≢true (sym (ap (λ (x : ℕ). not (eqb x 0x06)) q) ∙ e))
-  idle_says k b g o h (Plain command.ModeEnd r) e = tt
-  idle_says k b g o h (Error r) e = tt
-  idle_says k b g o h (Target x) e = tt
-  idle_says k b g o h (Firmware id major minor revision) e = absurd (false≢true e)
-  idle_says k b g o h (Written s r w crc) e = λ q a. absurd (false≢true (sym (told q a) ∙ e))
+  idle_says : (k : Name) (b : Board) (g : List ℕ) (o : Outcome) (h : List ℕ) (r : Option Response) → idle r ≡ true → Says image bank n P k b g o h r
+  idle_says k b g o h None e = tt
+  idle_says k b g o h (Some (Plain command.ModeStart r)) e = tt
+  idle_says k b g o h (Some (Plain command.BankInfo r)) e = tt
+  idle_says k b g o h (Some (Plain command.VersionInfo r)) e = tt
+  idle_says k b g o h (Some (Plain command.WriteStart r)) e = tt
+  idle_says k b g o h (Some (Plain command.WriteEnd r)) e = λ q. absurd (false≢true (sym (ap (λ (x : ℕ). not (eqb x 0x06)) q) ∙ e))
+  idle_says k b g o h (Some (Plain command.ModeEnd r)) e = tt
+  idle_says k b g o h (Some (Error r)) e = tt
+  idle_says k b g o h (Some (Target x)) e = tt
+  idle_says k b g o h (Some (Firmware id major minor revision)) e = absurd (false≢true e)
+  idle_says k b g o h (Some (Written s r w crc)) e = λ q a. absurd (false≢true (sym (told q a) ∙ e))
     where
       told : r ≡ 0x06 → Accepted w → not (eqb r 0x06 && (eqb w 0x06 || eqb w 0x1D)) ≡ false
       told q (inl a) = rw (q, a)
@@ -404,7 +404,7 @@ module _ (image : List ℕ) (bank : Bank) (n : ℕ) (P : List ℕ → Type 0) wh
         let answer : List ℕ = control_frame 0x78 (version_bytes f.major f.minor f.revision) in
         let o : Outcome = answered b call answer in
         let e : said o ≡ answer = said_back call answer (version_short f.major f.minor f.revision) room in
-        let reads : response_of (said o) ≡ Firmware 0x0400 f.major f.minor f.revision =
+        let reads : response_of (said o) ≡ Some (Firmware 0x0400 f.major f.minor f.revision) =
         ap response_of e ∙ sym (version_back 0x0400 f.major f.minor f.revision (omega arith) revision) in
         stands VersionInfo b g o (shown VersionInfo b g call o) refl (quietly VersionInfo b g call answer e refl refl)
         (subst (Says image bank n P VersionInfo b g o (shown VersionInfo b g call o)) (sym reads) (λ w. absurd (not_write state.Control refl (sym c ∙ w.0))))
@@ -576,7 +576,7 @@ module _ (image : List ℕ) (bank : Bank) (n : ℕ) (P : List ℕ → Type 0) wh
           ap (exchanged b.client.fixed.n g call.datagram) s
           ∙ stored_shows b.client.fixed.n g call.datagram k result crc (footer_of (packet_count image n) p) taken reads
           ∙ ap (with_sector g k) padded_are in
-          let says-stored : response_of (said o) ≡ Written k 0x06 result crc = ap response_of s ∙ stored_back k result crc small (of_lt (padded_of bytes)) taken in
+          let says-stored : response_of (said o) ≡ Some (Written k 0x06 result crc) = ap response_of s ∙ stored_back k result crc small (of_lt (padded_of bytes)) taken in
           record {
             clean = λ c v.
                 let ours = c (w, v.1) in
@@ -635,7 +635,7 @@ module _ (image : List ℕ) (bank : Bank) (n : ℕ) (P : List ℕ → Type 0) wh
         let o : Outcome = goodEnd in
         let h : List ℕ = shown WriteEnd b g call o in
         let s : said o ≡ control_frame 0x75 (0x06 ∷ []) = said_back call (control_frame 0x75 (0x06 ∷ [])) (control_short 0x75 0x06) room in
-        let reads : response_of (said o) ≡ Plain command.WriteEnd 0x06 = ap response_of s ∙ sym (plain_back command.WriteEnd 0x06 refl refl) in
+        let reads : response_of (said o) ≡ Some (Plain command.WriteEnd 0x06) = ap response_of s ∙ sym (plain_back command.WriteEnd 0x06 refl refl) in
         rests WriteEnd b g o h (not_write state.Control refl) (λ _ d. absurd (d.resting w))
         (subst (Says image bank n P WriteEnd b g o h) (sym reads)
         (λ _.

@@ -1,5 +1,6 @@
 -- The night sender gives up with each reason exactly when it is so, and an end stays.
 -- Assumes nothing.
+use Rattle.std.specs.Prelude.{Option, None}
 use mathlib.Core.Path.{◌≡◌, refl, sym, ap, subst, ◌∙◌}
 use mathlib.Core.Bool.{Bool, true, false, false≢true}
 use mathlib.Core.List.{List, [], ◌∷◌}
@@ -14,7 +15,6 @@ use Rattle.buffer.proofs.Bools.{no_way}
 use Rattle.commands.specs.declared.Command.TheVariants as command
 use Rattle.layout.specs.declared.Bank.{Bank}
 use Rattle.response.specs.declared.read.Response.{Response}
-use Rattle.response.specs.declared.read.Response.TheVariants.{Unreadable}
 use Rattle.response.specs.Response.{response_of}
 use Rattle.sender.specs.Made.{room}
 use Rattle.sender.specs.Packet.{packet_count, packet_sector}
@@ -120,19 +120,19 @@ use Rattle.demands.proofs.NightSettled.{Reads, judge_reads, reads_judged}
 -- ---- what an event is judged to be, of the response as it reads
 
 module _ (image : List ℕ) (bank : Bank) (n : ℕ) (test : Bool) (repeated : Type 0) where
-  abbrev StoppingIs : Why → Name → Response → Type 0
+  abbrev StoppingIs : Why → Name → Option Response → Type 0
   StoppingIs why name r = Stopping why name test bank image (packet_sector image n (number_of name)) r
 
   module _ (there : test ≡ true → repeated) where
-    bank-reads : (why : Why) (r : Response) → StoppingIs why BankInfo r → Stops image bank n why BankInfo repeated r
+    bank-reads : (why : Why) (r : Option Response) → StoppingIs why BankInfo r → Stops image bank n why BankInfo repeated r
     bank-reads why r e = let b = bank_stopped bank r why e in subst (λ (w : Why). Stops image bank n w BankInfo repeated r) b.1 (refl, b.0)
 
-    end_reads : (why : Why) (r : Response) → StoppingIs why WriteEnd r → Stops image bank n why WriteEnd repeated r
+    end_reads : (why : Why) (r : Option Response) → StoppingIs why WriteEnd r → Stops image bank n why WriteEnd repeated r
     end_reads why r e =
         let b = end_stopped command.WriteEnd test r why e in
         subst (λ (w : Why). Stops image bank n w WriteEnd repeated r) b.2 (refl, b.0, there b.1)
 
-    stops-reads : (why : Why) (name : Name) (r : Response) → StoppingIs why name r → Stops image bank n why name repeated r
+    stops-reads : (why : Why) (name : Name) (r : Option Response) → StoppingIs why name r → Stops image bank n why name repeated r
     stops-reads why ModeStart r e = absurd (own_goes command.ModeStart test r why e)
     stops-reads why VersionInfo r e = absurd (version_goes r why e)
     stops-reads why BankInfo r e = bank-reads why r e
@@ -141,19 +141,19 @@ module _ (image : List ℕ) (bank : Bank) (n : ℕ) (test : Bool) (repeated : Ty
     stops-reads why WriteEnd r e = end_reads why r e
     stops-reads why ModeEnd r e = absurd (own_goes command.ModeEnd test r why e)
 
-    done-reads : (name : Name) (r : Response) → Reads image bank n test r name → Done image bank n name repeated r
+    done-reads : (name : Name) (r : Option Response) → Reads image bank n test r name → Done image bank n name repeated r
     done-reads name r (inl x) = inl x
     done-reads name r (inr x) = inr (x.0, there x.1)
 
   module _ (back : repeated → test ≡ true) where
-    reads-stops : (why : Why) (name : Name) (r : Response) → Stops image bank n why name repeated r → StoppingIs why name r
+    reads-stops : (why : Why) (name : Name) (r : Option Response) → Stops image bank n why name repeated r → StoppingIs why name r
     reads-stops Tries name r x = absurd x
     reads-stops WrongBank name r x =
         subst (λ (k : Name). StoppingIs WrongBank k r) (sym x.0) (subst (StoppingIs WrongBank BankInfo) (sym x.1) (stopped_bank bank))
     reads-stops Unknown name r x =
         subst (λ (k : Name). StoppingIs Unknown k r) (sym x.0) (stopped_end command.WriteEnd test r x.1 (back x.2))
 
-    reads-done : (name : Name) (r : Response) → Done image bank n name repeated r → Reads image bank n test r name
+    reads-done : (name : Name) (r : Option Response) → Done image bank n name repeated r → Reads image bank n test r name
     reads-done name r (inl x) = inl x
     reads-done name r (inr x) = inr (x.0, back x.1)
 
@@ -175,7 +175,7 @@ module _ (image : List ℕ) (bank : Bank) (n : ℕ) where
         (judge_reads image bank n (leb 2 gone) (response_of datagram) name e)
     settles-of Silence e =
         absurd
-        (spent_unsettled name (leb 2 gone) bank image (packet_sector image n (number_of name)) Unreadable
+        (spent_unsettled name (leb 2 gone) bank image (packet_sector image n (number_of name)) None
         (silence_judged (leb 2 gone) name bank image (packet_sector image n (number_of name))) e)
 
     of-settles : (event : Event) → Brings event (Done image bank n name repeated) → SettledAt name gone event
@@ -189,7 +189,7 @@ module _ (image : List ℕ) (bank : Bank) (n : ℕ) where
         stops-reads image bank n (leb 2 gone) repeated (λ t. there (leb-true 2 gone t)) why name (response_of datagram) e
     stops-of why Silence e =
         absurd
-        (spent_unstopped name (leb 2 gone) bank image (packet_sector image n (number_of name)) Unreadable why
+        (spent_unstopped name (leb 2 gone) bank image (packet_sector image n (number_of name)) None why
         (silence_judged (leb 2 gone) name bank image (packet_sector image n (number_of name))) e)
 
     of-stops : (why : Why) (event : Event) → Brings event (Stops image bank n why name repeated) → StoppedAt why name gone event

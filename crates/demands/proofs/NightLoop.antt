@@ -1,6 +1,7 @@
 -- The closed loop: each answer that the board has given to the night sender tells of it as it stands now, and what the night sender has passed
 -- it has heard. Told once for any openers whose modes count and any passages, whether others send or not.
 -- Assumes nothing.
+use Rattle.std.specs.Prelude.{Option, Some, None}
 use mathlib.Core.Path.{◌≡◌, refl, sym, ap, subst, ◌∙◌}
 use mathlib.Core.Logic.{◌⊎◌, inl, inr}
 use mathlib.Core.Bool.{true, false, false≢true}
@@ -19,7 +20,7 @@ use Rattle.layout.specs.declared.Bank.{Bank}
 use Rattle.layout.specs.Layout.{bank_size, sector_of}
 use Rattle.commands.specs.declared.Command.TheVariants as command
 use Rattle.response.specs.declared.read.Response.{Response}
-use Rattle.response.specs.declared.read.Response.TheVariants.{Unreadable, Plain, Error, Target, Firmware, Written}
+use Rattle.response.specs.declared.read.Response.TheVariants.{Plain, Error, Target, Firmware, Written}
 use Rattle.response.specs.Response.{response_in, response_of}
 use Rattle.sender.specs.declared.request.Request.TheVariants as request
 use Rattle.sender.specs.Made.{room}
@@ -150,11 +151,11 @@ among_at (x ∷ xs) (suc i) = by (among_at xs i)
     by (inr e) = inr e
 
 -- a response that is heard is one of them, or says nothing
-pub data From (answers : List (List ℕ)) : Response → Type 0 where
+pub data From (answers : List (List ℕ)) : Option Response → Type 0 where
   one : {a : List ℕ} → Among a answers → From answers (response_of a)
-  none : From answers Unreadable
+  none : From answers None
 
-empty_reads : response_of [] ≡ Unreadable
+empty_reads : response_of [] ≡ None
 unfolding read_of response_in
 empty_reads = refl
 
@@ -167,15 +168,15 @@ event_from answers (Answer i) = by (among_at answers i)
     by (inr e) = subst (From answers) (sym (ap response_of e ∙ empty_reads)) none
 
 -- one of the answers reads so
-pub record HeardIn (answers : List (List ℕ)) (Q : Response → Type 0) : Type 0 where
+pub record HeardIn (answers : List (List ℕ)) (Q : Option Response → Type 0) : Type 0 where
   pub bytes : List ℕ
   pub among : Among bytes answers
   pub reads : Q (response_of bytes)
 
-heard_more : {Q : Response → Type 0} (xs ys : List (List ℕ)) → HeardIn xs Q → HeardIn (xs ++ ys) Q
+heard_more : {Q : Option Response → Type 0} (xs ys : List (List ℕ)) → HeardIn xs Q → HeardIn (xs ++ ys) Q
 heard_more xs ys h = record { bytes = h.bytes; among = among_more xs ys h.among; reads = h.reads }
 
-heard_from : (answers : List (List ℕ)) (Q : Response → Type 0) (r : Response) → From answers r → (Q Unreadable → ⊥) → Q r → HeardIn answers Q
+heard_from : (answers : List (List ℕ)) (Q : Option Response → Type 0) (r : Option Response) → From answers r → (Q None → ⊥) → Q r → HeardIn answers Q
 heard_from answers Q r (one {a} m) never q = record { bytes = a; among = m; reads = q }
 heard_from answers Q r none never q = absurd (never q)
 
@@ -195,7 +196,7 @@ module _ (image : List ℕ) (bank : Bank) (n tries : ℕ) (st : Startable image 
   PacketsHeard p answers = (q : ℕ) → q < p → HeardIn answers (Stored image (packet_sector image n q))
 
   abbrev EndHeard : List (List ℕ) → Type 0
-  EndHeard answers = HeardIn answers (λ (r : Response). r ≡ Plain command.WriteEnd 0x06)
+  EndHeard answers = HeardIn answers (λ (r : Option Response). r ≡ Some (Plain command.WriteEnd 0x06))
 
   abbrev pub Past : Name → List (List ℕ) → Type 0
   Past ModeStart answers = Unit {0}
@@ -236,10 +237,10 @@ module _ (image : List ℕ) (bank : Bank) (n tries : ℕ) (st : Startable image 
           let e : p ≡ q = omega arith in
           subst (λ (x : ℕ). HeardIn answers (Stored image (packet_sector image n x))) e h
 
-  no_version : AnyVersion Unreadable → ⊥
-  no_version a = by Unreadable refl a
+  no_version : AnyVersion None → ⊥
+  no_version a = by None refl a
     where
-      by : (r : Response) → r ≡ Unreadable → AnyVersion r → ⊥
+      by : (r : Option Response) → r ≡ None → AnyVersion r → ⊥
       by r e (version id major minor revision) = no_way cc
 
   -- ---- the request at hand
@@ -303,18 +304,18 @@ module _ (image : List ℕ) (bank : Bank) (n tries : ℕ) (st : Startable image 
 -- D is what the answer 06 to the write end brought, by all that was put to the board since `start` and by the board
 module _ (image : List ℕ) (bank : Bank) (n tries : ℕ) (st : Startable image n tries) (P : List ℕ → Type 0) (start : Board)
     (D : List Input → Board → Type 0) where
-  abbrev pub Tells : Name → List Input → Board → List ℕ → Response → Type 0
-  Tells k is b g Unreadable = Unit {0}
-  Tells k is b g (Plain command.ModeStart r) = Unit {0}
-  Tells k is b g (Plain command.BankInfo r) = Unit {0}
-  Tells k is b g (Plain command.VersionInfo r) = Unit {0}
-  Tells k is b g (Plain command.WriteStart r) = Unit {0}
-  Tells k is b g (Plain command.WriteEnd r) = r ≡ 0x06 → (is_ending k ≡ true) × D is b
-  Tells k is b g (Plain command.ModeEnd r) = Unit {0}
-  Tells k is b g (Error r) = Unit {0}
-  Tells k is b g (Target x) = Unit {0}
-  Tells k is b g (Firmware id major minor revision) = Clean image bank n P b g
-  Tells k is b g (Written s r w crc) =
+  abbrev pub Tells : Name → List Input → Board → List ℕ → Option Response → Type 0
+  Tells k is b g None = Unit {0}
+  Tells k is b g (Some (Plain command.ModeStart r)) = Unit {0}
+  Tells k is b g (Some (Plain command.BankInfo r)) = Unit {0}
+  Tells k is b g (Some (Plain command.VersionInfo r)) = Unit {0}
+  Tells k is b g (Some (Plain command.WriteStart r)) = Unit {0}
+  Tells k is b g (Some (Plain command.WriteEnd r)) = r ≡ 0x06 → (is_ending k ≡ true) × D is b
+  Tells k is b g (Some (Plain command.ModeEnd r)) = Unit {0}
+  Tells k is b g (Some (Error r)) = Unit {0}
+  Tells k is b g (Some (Target x)) = Unit {0}
+  Tells k is b g (Some (Firmware id major minor revision)) = Clean image bank n P b g
+  Tells k is b g (Some (Written s r w crc)) =
       r ≡ 0x06 → Accepted w → (is_early k ≡ false) × (Writing image bank n P b → 1 ≤ s → s ≤ n → sector_of g s ≡ sector_of image s)
 
   pub record Inv (k : Name) (is : List Input) (b : Board) (answers : List (List ℕ)) : Type 0 where
@@ -330,7 +331,7 @@ module _ (image : List ℕ) (bank : Bank) (n tries : ℕ) (st : Startable image 
     pub clean-heard : VersionHeard image bank n tries st answers → Clean image bank n P b v.ghost
     clean-heard h = by (response_of h.bytes) h.reads (v.known h.bytes h.among)
       where
-        by : (r : Response) → AnyVersion r → Tells k is b v.ghost r → Clean image bank n P b v.ghost
+        by : (r : Option Response) → AnyVersion r → Tells k is b v.ghost r → Clean image bank n P b v.ghost
         by r (version id major minor revision) t = t
 
     pub end_heard : EndHeard image bank n tries st answers → D is b
@@ -356,18 +357,18 @@ module _ (image : List ℕ) (bank : Bank) (n tries : ℕ) (st : Startable image 
   -- what was told is so still
   tells_still : (k : Name) (is : List Input) (b : Board) (g : List ℕ) (js : List Input) (c : Board) (h : List ℕ) → Cleans k b g
       → (Clean image bank n P b g → Clean image bank n P c h) → BringsOn k b g c h → (is_ending k ≡ true → D is b → D js c)
-      → (r : Response) → Tells k is b g r → Tells k js c h r
-  tells_still k is b g js c h clean m kept d Unreadable t = tt
-  tells_still k is b g js c h clean m kept d (Plain command.ModeStart r) t = tt
-  tells_still k is b g js c h clean m kept d (Plain command.BankInfo r) t = tt
-  tells_still k is b g js c h clean m kept d (Plain command.VersionInfo r) t = tt
-  tells_still k is b g js c h clean m kept d (Plain command.WriteStart r) t = tt
-  tells_still k is b g js c h clean m kept d (Plain command.WriteEnd r) t = λ e. ((t e).0, d (t e).0 (t e).1)
-  tells_still k is b g js c h clean m kept d (Plain command.ModeEnd r) t = tt
-  tells_still k is b g js c h clean m kept d (Error r) t = tt
-  tells_still k is b g js c h clean m kept d (Target x) t = tt
-  tells_still k is b g js c h clean m kept d (Firmware id major minor revision) t = m t
-  tells_still k is b g js c h clean m kept d (Written s r w crc) t = λ e a.
+      → (r : Option Response) → Tells k is b g r → Tells k js c h r
+  tells_still k is b g js c h clean m kept d None t = tt
+  tells_still k is b g js c h clean m kept d (Some (Plain command.ModeStart r)) t = tt
+  tells_still k is b g js c h clean m kept d (Some (Plain command.BankInfo r)) t = tt
+  tells_still k is b g js c h clean m kept d (Some (Plain command.VersionInfo r)) t = tt
+  tells_still k is b g js c h clean m kept d (Some (Plain command.WriteStart r)) t = tt
+  tells_still k is b g js c h clean m kept d (Some (Plain command.WriteEnd r)) t = λ e. ((t e).0, d (t e).0 (t e).1)
+  tells_still k is b g js c h clean m kept d (Some (Plain command.ModeEnd r)) t = tt
+  tells_still k is b g js c h clean m kept d (Some (Error r)) t = tt
+  tells_still k is b g js c h clean m kept d (Some (Target x)) t = tt
+  tells_still k is b g js c h clean m kept d (Some (Firmware id major minor revision)) t = m t
+  tells_still k is b g js c h clean m kept d (Some (Written s r w crc)) t = λ e a.
       let early = (t e a).0 in
       (early, λ write l u. let before = kept early (clean early) write in before.1 s l u ((t e a).1 before.0 l u))
 
@@ -375,21 +376,21 @@ module _ (image : List ℕ) (bank : Bank) (n tries : ℕ) (st : Startable image 
   tells_new : (k : Name) (b : Board) (g : List ℕ) (js : List Input) (o : Outcome) (h : List ℕ) → Cleans k b g
       → (k ≡ WriteEnd → Writing image bank n P b → AllIn image bank n g)
       → (Ends image bank n P k b g o → Done image bank n P o.board → D js o.board)
-      → (r : Response) → Says image bank n P k b g o h r → Tells k js o.board h r
-  tells_new k b g js o h clean all d Unreadable t = tt
-  tells_new k b g js o h clean all d (Plain command.ModeStart r) t = tt
-  tells_new k b g js o h clean all d (Plain command.BankInfo r) t = tt
-  tells_new k b g js o h clean all d (Plain command.VersionInfo r) t = tt
-  tells_new k b g js o h clean all d (Plain command.WriteStart r) t = tt
-  tells_new k b g js o h clean all d (Plain command.WriteEnd r) t = λ e.
+      → (r : Option Response) → Says image bank n P k b g o h r → Tells k js o.board h r
+  tells_new k b g js o h clean all d None t = tt
+  tells_new k b g js o h clean all d (Some (Plain command.ModeStart r)) t = tt
+  tells_new k b g js o h clean all d (Some (Plain command.BankInfo r)) t = tt
+  tells_new k b g js o h clean all d (Some (Plain command.VersionInfo r)) t = tt
+  tells_new k b g js o h clean all d (Some (Plain command.WriteStart r)) t = tt
+  tells_new k b g js o h clean all d (Some (Plain command.WriteEnd r)) t = λ e.
       let x = t e in
       let is : k ≡ WriteEnd = x.hand in
       (ap is_ending is, d x (x.done (clean (ap is_early is)) (all is x.writing)))
-  tells_new k b g js o h clean all d (Plain command.ModeEnd r) t = tt
-  tells_new k b g js o h clean all d (Error r) t = tt
-  tells_new k b g js o h clean all d (Target x) t = tt
-  tells_new k b g js o h clean all d (Firmware id major minor revision) t = t
-  tells_new k b g js o h clean all d (Written s r w crc) t = λ e a. ((t e a).0, λ write l u. (t e a).1 (clean (t e a).0) write)
+  tells_new k b g js o h clean all d (Some (Plain command.ModeEnd r)) t = tt
+  tells_new k b g js o h clean all d (Some (Error r)) t = tt
+  tells_new k b g js o h clean all d (Some (Target x)) t = tt
+  tells_new k b g js o h clean all d (Some (Firmware id major minor revision)) t = t
+  tells_new k b g js o h clean all d (Some (Written s r w crc)) t = λ e a. ((t e a).0, λ write l u. (t e a).1 (clean (t e a).0) write)
 
   all_in : (k : Name) (is : List Input) (b : Board) (answers : List (List ℕ)) (v : Inv k is b answers) → k ≡ WriteEnd → Writing image bank n P b
       → AllIn image bank n v.ghost
@@ -416,18 +417,18 @@ module _ (image : List ℕ) (bank : Bank) (n tries : ℕ) (st : Startable image 
   advance k l early ending is b answers past v =
       record { ghost = v.ghost; known = λ a among. by (response_of a) (v.known a among); past = past; revision = v.revision; at = v.at }
     where
-      by : (r : Response) → Tells k is b v.ghost r → Tells l is b v.ghost r
-      by Unreadable t = tt
-      by (Plain command.ModeStart r) t = tt
-      by (Plain command.BankInfo r) t = tt
-      by (Plain command.VersionInfo r) t = tt
-      by (Plain command.WriteStart r) t = tt
-      by (Plain command.WriteEnd r) t = λ e. (ending (t e).0, (t e).1)
-      by (Plain command.ModeEnd r) t = tt
-      by (Error r) t = tt
-      by (Target x) t = tt
-      by (Firmware id major minor revision) t = t
-      by (Written s r w crc) t = λ e a. (early (t e a).0, (t e a).1)
+      by : (r : Option Response) → Tells k is b v.ghost r → Tells l is b v.ghost r
+      by None t = tt
+      by (Some (Plain command.ModeStart r)) t = tt
+      by (Some (Plain command.BankInfo r)) t = tt
+      by (Some (Plain command.VersionInfo r)) t = tt
+      by (Some (Plain command.WriteStart r)) t = tt
+      by (Some (Plain command.WriteEnd r)) t = λ e. (ending (t e).0, (t e).1)
+      by (Some (Plain command.ModeEnd r)) t = tt
+      by (Some (Error r)) t = tt
+      by (Some (Target x)) t = tt
+      by (Some (Firmware id major minor revision)) t = t
+      by (Some (Written s r w crc)) t = λ e a. (early (t e a).0, (t e a).1)
 
   abbrev pub InvAt : Stand → List Input → Board → List (List ℕ) → Type 0
   InvAt stand is b answers = Inv (lastName image bank n tries st stand) is b answers
@@ -452,7 +453,7 @@ module _ (image : List ℕ) (bank : Bank) (n tries : ℕ) (st : Startable image 
       (v.past.0, subst (λ (x : ℕ). PacketsHeard image bank n tries st x answers) last more) v)
     where
       is-stored : (number result write crc : ℕ) → Fields image (packet_sector image n p) number result write crc
-          → Stored image (packet_sector image n p) (Written number result write crc)
+          → Stored image (packet_sector image n p) (Some (Written number result write crc))
       is-stored number result write crc a =
           record {
             write = write;
@@ -467,7 +468,7 @@ module _ (image : List ℕ) (bank : Bank) (n tries : ℕ) (st : Startable image 
           (packet_settled image (packet_sector image n p) (Stored image (packet_sector image n p)) is-stored (heard_in event) t))
   follow WriteEnd gone event is b answers l t f v =
       advance WriteEnd ModeEnd (λ _. refl) (λ _. refl) is b answers
-      (heard_from answers (λ (r : Response). r ≡ Plain command.WriteEnd 0x06) (heard_in event) f (λ e. no_way cc) (own_ended command.WriteEnd (leb 2 gone) (heard_in event) t)) v
+      (heard_from answers (λ (r : Option Response). r ≡ Some (Plain command.WriteEnd 0x06)) (heard_in event) f (λ e. no_way cc) (own_ended command.WriteEnd (leb 2 gone) (heard_in event) t)) v
   follow ModeEnd gone event is b answers l t f v = v
 
   pub event_keeps : (stand : Stand) (event : Event) (is : List Input) (b : Board) (answers : List (List ℕ)) → Right (packet_count image n) tries stand → From answers (heard_in event)

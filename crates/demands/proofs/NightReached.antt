@@ -1,5 +1,6 @@
 -- T·(P + 6) events can come: each request goes out T times, and the awaited response comes to the last of them.
 -- Assumes nothing.
+use Rattle.std.specs.Prelude.{Option, Some}
 use mathlib.Core.Path.{◌≡◌, refl, sym, ap, subst, ◌∙◌}
 use mathlib.Core.Bool.{false, or-true}
 use mathlib.Core.List.{List, [], ◌∷◌, ◌++◌, foldl}
@@ -104,14 +105,14 @@ module _ (image : List ℕ) (bank : Bank) (n : ℕ) where
   abbrev stored : ℕ → ℕ
   stored p = crc_of (sector_of image (packet_sector image n p))
 
-  abbrev reply : Name → Response
-  reply ModeStart = Plain command.ModeStart 0x06
-  reply VersionInfo = Firmware 0x0400 1 0 0
-  reply BankInfo = Target bank
-  reply WriteStart = Plain command.WriteStart 0x06
-  reply (Packet p) = Written (packet_sector image n p) 0x06 0x06 (stored p)
-  reply WriteEnd = Plain command.WriteEnd 0x06
-  reply ModeEnd = Plain command.ModeEnd 0x06
+  abbrev reply : Name → Option Response
+  reply ModeStart = Some (Plain command.ModeStart 0x06)
+  reply VersionInfo = Some (Firmware 0x0400 1 0 0)
+  reply BankInfo = Some (Target bank)
+  reply WriteStart = Some (Plain command.WriteStart 0x06)
+  reply (Packet p) = Some (Written (packet_sector image n p) 0x06 0x06 (stored p))
+  reply WriteEnd = Some (Plain command.WriteEnd 0x06)
+  reply ModeEnd = Some (Plain command.ModeEnd 0x06)
 
   reply_bytes : (name : Name) → AreBytes (spelled (reply name))
   reply_bytes ModeStart = plain_bytes 0x71 (omega arith)

@@ -1,5 +1,6 @@
 -- A board that waits serves each request of a night: the answer to one that arrives settles it, whether it came before or not.
 -- Assumes nothing.
+use Rattle.std.specs.Prelude.{Option, Some}
 use mathlib.Core.Path.{◌≡◌, refl, sym, ap, subst, ◌∙◌}
 use mathlib.Core.Logic.{◌⊎◌, inl, inr}
 use mathlib.Core.Bool.{Bool, true, false, false≢true}
@@ -136,7 +137,7 @@ module _ (image : List ℕ) (bank : Bank) (n tries : ℕ) (st : Startable image 
       → SettledBy VersionInfo gone (control_frame 0x78 (version_bytes major minor revision))
   unfolding bytes_of
   version_settles major minor revision gone h =
-      subst (λ (r : Response). Settling VersionInfo (leb 2 gone) bank image (packet_sector image n 0) r) (version_back 0x0400 major minor revision (omega arith) h)
+      subst (λ (r : Option Response). Settling VersionInfo (leb 2 gone) bank image (packet_sector image n 0) r) (version_back 0x0400 major minor revision (omega arith) h)
       (settled_version 0x0400 major minor revision)
 
   -- ---- each request that arrives
@@ -211,7 +212,7 @@ module _ (image : List ℕ) (bank : Bank) (n tries : ℕ) (st : Startable image 
         served BankInfo gone _ (control_frame 0x72 (0x06 ∷ bank_number target ∷ []))
         (bank_told b call (in-state state.Control refl c) own c (ap read_of e ∙ request_read request.BankInfo))
         (back (control_frame 0x72 (0x06 ∷ bank_number target ∷ [])) (bank_short target))
-        (settled_bank bank _ (sym (bank_back target) ∙ ap Target f.target)) c holds
+        (settled_bank bank _ (sym (bank_back target) ∙ ap (λ (x : Bank). Some (Target x)) f.target)) c holds
 
     serve-write-start : (gone : ℕ) → call.datagram ≡ request_frame (request.WriteStart bank n) → Phase WriteStart gone b
         → Served address WriteStart gone (step_machine b (Datagram call))
@@ -247,15 +248,15 @@ module _ (image : List ℕ) (bank : Bank) (n tries : ℕ) (st : Startable image 
         let result : ℕ = store_result (blank_of (data_in call.datagram)) already in
         let crc : ℕ = crc_of (padded_of (data_in call.datagram)) in
         let taken : Accepted result = accepted (blank_of (data_in call.datagram)) already in
-        let is : Written k 0x06 result (crc_of (sector_of image k)) ≡ response_of (write_frame k (written_bytes 0x06 result crc) End) =
-        ap (λ (l : List ℕ). Written k 0x06 result (crc_of l)) (sym padded)
+        let is : Some (Written k 0x06 result (crc_of (sector_of image k))) ≡ response_of (write_frame k (written_bytes 0x06 result crc) End) =
+        ap (λ (l : List ℕ). Some (Written k 0x06 result (crc_of l))) (sym padded)
         ∙ sym (stored_back k result crc (omega arith) (of_lt (padded_of (data_in call.datagram))) taken) in
         served (Packet p) gone _ (write_frame k (written_bytes 0x06 result crc) End)
         (packet b call (in-state state.Write refl w) k 512 (footer_of count p) own w (reads image bank n Anyone st.good size p h b [] call e)
         (ap (λ (x : ℕ). values_good x k 512) f.sectors ∙ sym (values-words n k 512 low high (omega arith) (omega arith)))
         (ap (λ (m : List ℕ). is_worn (get_or m (k - 1) 0)) l.marks ∙ ap is_worn (get_or-replicate {A = ℕ} n (k - 1) 0 0 (omega arith))))
         (back (write_frame k (written_bytes 0x06 result crc) End) (written_short k 0x06 result crc))
-        (subst (λ (r : Response). Settling (Packet p) (leb 2 gone) bank image k r) is (settled_packet image k result taken)) w
+        (subst (λ (r : Option Response). Settling (Packet p) (leb 2 gone) bank image k r) is (settled_packet image k result taken)) w
         (λ _. goes_on state.Write refl w)
 
     serve-mode-end : (gone : ℕ) → call.datagram ≡ request_frame request.ModeEnd → Phase ModeEnd gone b

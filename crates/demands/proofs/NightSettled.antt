@@ -1,5 +1,6 @@
 -- The night sender says finished exactly when every request was settled.
 -- Assumes nothing.
+use Rattle.std.specs.Prelude.{Option, Some}
 use mathlib.Core.Path.{◌≡◌, refl, sym, ap, subst, ◌∙◌}
 use mathlib.Core.Bool.{Bool, true}
 use mathlib.Core.List.{List, [], ◌∷◌}
@@ -88,14 +89,14 @@ use Rattle.demands.proofs.NightRuns.{
 
 -- ---- what settles a request, of the response as it reads
 
-module _ (image : List ℕ) (bank : Bank) (n : ℕ) (repeated : Bool) (r : Response) where
+module _ (image : List ℕ) (bank : Bank) (n : ℕ) (repeated : Bool) (r : Option Response) where
   abbrev pub Reads : Name → Type 0
   Reads name = Awaited image bank n name r ⊎ (Declined name r × (repeated ≡ true))
 
   abbrev pub Settled·Is : Name → Type 0
   Settled·Is name = Settling name repeated bank image (packet_sector image n (number_of name)) r
 
-  stored : (sector number result write crc : ℕ) → Fields image sector number result write crc → Stored image sector (Written number result write crc)
+  stored : (sector number result write crc : ℕ) → Fields image sector number result write crc → Stored image sector (Some (Written number result write crc))
   stored sector number result write crc f =
       record { write = write; accepted = f.write-is; reads = rw (f.number_is, f.result-is, f.crc-is) }
 
@@ -110,7 +111,7 @@ module _ (image : List ℕ) (bank : Bank) (n : ℕ) (repeated : Bool) (r : Respo
   judge_reads WriteEnd e = inl (own_ended command.WriteEnd repeated r e)
   judge_reads ModeEnd e = own_done command.ModeEnd repeated r e
 
-  version_judged : {x : Response} → AnyVersion x → Settling VersionInfo repeated bank image (packet_sector image n 0) x
+  version_judged : {x : Option Response} → AnyVersion x → Settling VersionInfo repeated bank image (packet_sector image n 0) x
   version_judged (version id major minor revision) = settled_version id major minor revision
 
   pub reads_judged : (name : Name) → Reads name → Settled·Is name

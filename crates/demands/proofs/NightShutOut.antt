@@ -1,5 +1,6 @@
 -- Night senders that are shut out: finished at once, never over, a packet skipped, given up too early; and one of each class.
 -- Assumes nothing.
+use Rattle.std.specs.Prelude.{Some}
 use mathlib.Core.Path.{◌≡◌, refl, sym, ap, subst, ◌∙◌}
 use mathlib.Core.Bool.{false, or-true, false≢true}
 use mathlib.Core.List.{List, [], ◌∷◌}
@@ -144,8 +145,8 @@ module _ (image : List ℕ) (bank : Bank) (n p : ℕ) where
       by (inl s) =
           let same : Heard h.datagram ≡ Heard datagram = sym h.event-is ∙ e in
           let bytes : h.datagram ≡ datagram = cc in
-          let both : Written (packet_sector image n p) w.result w.write w.crc
-          ≡ Written (packet_sector image n p) 0x06 s.write (crc_of (sector_of image (packet_sector image n p))) =
+          let both : Some (Written (packet_sector image n p) w.result w.write w.crc)
+          ≡ Some (Written (packet_sector image n p) 0x06 s.write (crc_of (sector_of image (packet_sector image n p)))) =
           sym w.reads ∙ sym (ap response_of bytes) ∙ s.reads in
           w.other cc
       by (inr d) = absurd d.0

@@ -1,5 +1,6 @@
 -- The turns of a run of any night sender: which event settles a request, and that a sender that is as asked heard the write end answered.
 -- Assumes nothing.
+use Rattle.std.specs.Prelude.{Some}
 use mathlib.Core.Path.{◌≡◌, refl, sym, ap, ap₂, subst, ◌∙◌}
 use mathlib.Core.Bool.{false}
 use mathlib.Core.List.{List, [], ◌∷◌, ◌++◌}
@@ -111,7 +112,7 @@ unfolding control_frame framed checksum_of taken_away
 end_bytes = refl
 
 -- what reads so are these six bytes
-six_bytes : (d : List ℕ) → ((i : ℕ) → byte_at d i < 256) → response_of d ≡ Plain command.WriteEnd 0x06
+six_bytes : (d : List ℕ) → ((i : ℕ) → byte_at d i < 256) → response_of d ≡ Some (Plain command.WriteEnd 0x06)
     → d ≡ 0x01 ∷ 0x02 ∷ 0x75 ∷ 0x06 ∷ 0x83 ∷ 0x03 ∷ []
 six_bytes d small e =
     let read : six_of d ≡ false = sym (six_exactly d) ∙ ap unreadable e in

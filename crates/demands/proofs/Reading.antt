@@ -57,18 +57,18 @@ use Rattle.demands.proofs.Rows.{given, comes}
 
 -- ---- what is read of each kind of answer
 
-back : (answer : List ℕ) (r : Response) → r ≡ response_of answer → spelled r ≡ answer → paper_number (response_said r) ≡ 0 → Readable answer
-back answer r e s n = record { unnumbered = sym (ap (λ (x : Response). paper_number (response_said x)) e) ∙ n; whole = sym (ap spelled e) ∙ s }
+back : (answer : List ℕ) (r : Option Response) → r ≡ response_of answer → spelled r ≡ answer → paper_number (response_said r) ≡ 0 → Readable answer
+back answer r e s n = record { unnumbered = sym (ap (λ (x : Option Response). paper_number (response_said x)) e) ∙ n; whole = sym (ap spelled e) ∙ s }
 
 -- one byte behind a command's code
 plain : (command : Command) (result : ℕ) → answer_code command ≡ code_for command → may_carry false result ≡ true → added_of command result ≡ 0
     → Readable (control_frame (code_for command) (result ∷ []))
 plain command result c m z =
-    back (control_frame (code_for command) (result ∷ [])) (Plain command result) (plain_back command result m z)
+    back (control_frame (code_for command) (result ∷ [])) (Some (Plain command result)) (plain_back command result m z)
     (ap (λ (x : ℕ). control_frame x (result ∷ [])) c) refl
 
 error_readable : (result : ℕ) → may_carry true result ≡ true → Readable (control_frame 0xE0 (result ∷ []))
-error_readable result m = back (control_frame 0xE0 (result ∷ [])) (Error result) (error_back result m) refl refl
+error_readable result m = back (control_frame 0xE0 (result ∷ [])) (Some (Error result)) (error_back result m) refl refl
 
 -- 15 in the command's own response
 declined : (code : ℕ) → Readable (control_frame (response_code code) (0x15 ∷ []))
@@ -85,7 +85,7 @@ declined code =
 written : (sector result write crc : ℕ) → sector < 65536 → crc < 2 ^ 32 → may_carry false result ≡ true → may_carry false write ≡ true
     → repeats_of result write ≡ true → crc_fits result write crc ≡ true → Readable (write_frame sector (written_bytes result write crc) End)
 written sector result write crc s c m w r f =
-    back (write_frame sector (written_bytes result write crc) End) (Written sector result write crc) (written_back sector result write crc s c m w r f) refl refl
+    back (write_frame sector (written_bytes result write crc) End) (Some (Written sector result write crc)) (written_back sector result write crc s c m w r f) refl refl
 
 -- refused, worn, stored
 packet_declined : (sector : ℕ) → sector < 65536 → Readable (write_frame sector (written_bytes 0x15 0x15 0) End)
@@ -135,12 +135,12 @@ never : {P : Outcome → Type 0} {r : Row} {rows : List Row} → r.when ≡ fals
 never e rest = every (λ t. absurd (false≢true (sym e ∙ t))) rest
 
 bank_readable : (bank : Bank) → Readable (control_frame 0x72 (0x06 ∷ bank_number bank ∷ []))
-bank_readable bank = back (control_frame 0x72 (0x06 ∷ bank_number bank ∷ [])) (Target bank) (bank_back bank) refl refl
+bank_readable bank = back (control_frame 0x72 (0x06 ∷ bank_number bank ∷ [])) (Some (Target bank)) (bank_back bank) refl refl
 
 version_readable : (major minor revision : ℕ) → revision < 2 ^ 32 → Readable (control_frame 0x78 (version_bytes major minor revision))
 unfolding bytes_of
 version_readable major minor revision h =
-    back (control_frame 0x78 (version_bytes major minor revision)) (Firmware 0x0400 major minor revision) (version_back 0x0400 major minor revision (omega arith) h) refl refl
+    back (control_frame 0x78 (version_bytes major minor revision)) (Some (Firmware 0x0400 major minor revision)) (version_back 0x0400 major minor revision (omega arith) h) refl refl
 
 pub bank_short : (bank : Bank) → length (control_frame 0x72 (0x06 ∷ bank_number bank ∷ [])) ≤ 14
 unfolding answer_bytes

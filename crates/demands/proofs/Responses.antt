@@ -1,6 +1,6 @@
 -- The sender's reader of responses is as asked.
 -- Assumes nothing.
-use Rattle.std.proofs.Common.{Option, Some, None}
+use Rattle.std.proofs.Common.{Option, Some, None, option_map}
 use mathlib.Core.Path.{◌≡◌, refl, sym, ap, ap₂, subst, ◌∙◌}
 use mathlib.Core.Bool.{Bool, true, false, ◌&&◌, cond}
 use mathlib.Core.List.{List, [], ◌∷◌, ◌++◌}
@@ -23,16 +23,18 @@ use Rattle.frame.specs.declared.read.Frame.TheVariants.{Control, Write}
 use Rattle.frame.proofs.Parts.{parameters_lie, data_lie}
 use Rattle.frame.proofs.RoundTrip.{control_only, write_only}
 use Rattle.frame.proofs.Told.{Told, told}
+use Rattle.layout.specs.declared.Bank.{Bank}
 use Rattle.layout.specs.Said.{number, result, paper_number}
 use Rattle.commands.specs.declared.Command.{Command}
 use Rattle.commands.specs.declared.Command.TheVariants.{ModeStart, BankInfo, VersionInfo, WriteStart, WriteEnd, ModeEnd}
 use Rattle.commands.specs.Command.{response_code, added_bytes, answered_by}
 use Rattle.commands.proofs.Codes.{response_back}
 use Rattle.response.specs.declared.read.Response.{Response}
-use Rattle.response.specs.declared.read.Response.TheVariants.{Unreadable, Plain, Firmware}
+use Rattle.response.specs.declared.read.Response.TheVariants.{Plain, Firmware, Target}
 use Rattle.response.specs.Response.{
   may_carry,
   added_of,
+  bank_named,
   target_of,
   accepted_of,
   own_of,
@@ -94,10 +96,10 @@ spelt_all l n e = spelt_part l 0 n (omega arith) ∙ take_all n l (omega arith)
 -- ---- a control response
 
 -- what was read gives this back, if it was read
-abbrev Gives : List ℕ → Response → Type 0
+abbrev Gives : List ℕ → Option Response → Type 0
 Gives d r = paper_number (response_said r) ≡ 0 → spelled r ≡ d
 
-gives_six : (d : List ℕ) → Gives d Unreadable
+gives_six : (d : List ℕ) → Gives d None
 gives_six d e = absurd (omega arith)
 
 -- the table, as it is told here
@@ -111,20 +113,21 @@ told_again ModeEnd = refl
 
 module _ (code : ℕ) (ps : List ℕ) (small : Bytes ps) where
   -- a command and a result alone
-  plain : (command : Command) (r : ℕ) → answer_code command ≡ code → byte_at ps 0 ≡ r → length ps ≡ 1 → Gives (control_frame code ps) (Plain command r)
+  plain : (command : Command) (r : ℕ) → answer_code command ≡ code → byte_at ps 0 ≡ r → length ps ≡ 1 → Gives (control_frame code ps) (Some (Plain command r))
   plain command r c z l e = ap₂ control_frame c (ap (λ (x : ℕ). x ∷ []) (sym z) ∙ spelt_all ps 1 l)
 
   bank : 0x72 ≡ code → byte_at ps 0 ≡ 0x06 → length ps ≡ 2 → Gives (control_frame code ps) (target_of (byte_at ps 1))
-  unfolding target_of
+  unfolding bank_named
   bank c r l =
-      split (Gives (control_frame code ps)) (eqb (byte_at ps 1) 0)
+      let P : Option Bank → Type 0 = λ named. Gives (control_frame code ps) (option_map Target named) in
+      split P (eqb (byte_at ps 1) 0)
       (λ z e. ap₂ control_frame c (ap₂ (λ (x y : ℕ). x ∷ y ∷ []) (sym r) (sym (eqb-true (byte_at ps 1) 0 z)) ∙ spelt_all ps 2 l))
-      (λ _. split (Gives (control_frame code ps)) (eqb (byte_at ps 1) 1)
+      (λ _. split P (eqb (byte_at ps 1) 1)
       (λ o e. ap₂ control_frame c (ap₂ (λ (x y : ℕ). x ∷ y ∷ []) (sym r) (sym (eqb-true (byte_at ps 1) 1 o)) ∙ spelt_all ps 2 l))
       (λ _. gives_six (control_frame code ps)))
 
   version : 0x78 ≡ code → byte_at ps 0 ≡ 0x06 → length ps ≡ 9
-      → Gives (control_frame code ps) (Firmware (number_at 2 ps 1) (byte_at ps 3) (byte_at ps 4) (number_at 4 ps 5))
+      → Gives (control_frame code ps) (Some (Firmware (number_at 2 ps 1) (byte_at ps 3) (byte_at ps 4) (number_at 4 ps 5)))
   version c r l e =
       let id = two_back ps 1 small (omega arith) in
       let revision = four_back ps 5 small (omega arith) in
@@ -142,7 +145,7 @@ module _ (code : ℕ) (ps : List ℕ) (small : Bytes ps) where
   accepted WriteEnd c r l = plain WriteEnd 0x06 c r l
   accepted ModeEnd c r l = plain ModeEnd 0x06 c r l
 
-  abbrev P : Response → Type 0
+  abbrev P : Option Response → Type 0
   P = Gives (control_frame code ps)
 
   coded : (coding : Option Command) → ((command : Command) → coding ≡ Some command → answer_code command ≡ code) → P (answer_of coding ps)
@@ -182,7 +185,7 @@ module _ (sector : ℕ) (bytes : List ℕ) (small : Bytes bytes) where
       let response : ℕ = byte_at bytes 0 in
       let write : ℕ = byte_at bytes 1 in
       let crc : ℕ = number_at 4 bytes 2 in
-      let P : Response → Type 0 = Gives (write_frame sector bytes End) in
+      let P : Option Response → Type 0 = Gives (write_frame sector bytes End) in
       split P (eqb (length bytes) 6)
       (λ l.
       let long : length bytes ≡ 6 = eqb-true (length bytes) 6 l in

@@ -36,7 +36,7 @@ use Rattle.night.specs.Call.{at_hand_of, start_of}
 use Rattle.night.specs.Lent.{tries_good, looked_of}
 use Rattle.night.specs.Judge.{own_verdict, fields_awaited}
 use Rattle.night.specs.Record.{again_of}
-use Rattle.response.specs.Response.{may_carry, added_of, target_of, own_of, control_of, repeats_of, stored_of, crc_fits, write_of, response_in}
+use Rattle.response.specs.Response.{may_carry, added_of, bank_named, own_of, control_of, repeats_of, stored_of, crc_fits, write_of, response_in}
 use Rattle.buffer.proofs.Bools.{and_left, and_right, no_way}
 use Rattle.buffer.proofs.Comparing.{same_self}
 use Rattle.layout.specs.declared.Bank.{Bank}
@@ -252,7 +252,7 @@ unfolding image idle_board coming good_n whole_length sector_of end_of same_of b
     body_good all_good bodies_good listed_good contents_good blank_good sound_of verdict_of fits_at laid_out blank_outside crc_place table_end entry_at
     entries_from rest_of stretches_of coded_by counted asked_by answer_bytes told_length lent_good any_worn values_good addresses_good plan_start plan_end
     plan_packet plan_control plan_good is_stranger plan_request plan_asked plan_of carried_of take_of beside_of store_of checked_of served_of none_received
-    sent_of footer_of packet_frame at_hand_of start_of tries_good looked_of own_verdict fields_awaited again_of may_carry added_of target_of own_of control_of
+    sent_of footer_of packet_frame at_hand_of start_of tries_good looked_of own_verdict fields_awaited again_of may_carry added_of bank_named own_of control_of
     repeats_of stored_of crc_fits write_of response_in
 both_end = (refl, refl, refl)
 

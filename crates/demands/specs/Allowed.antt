@@ -1,20 +1,17 @@
 -- From the contracts to the demands: what a public function's contract allows of its result and of lent memory is the very outcome of the machine,
 -- the maker or the reader of which a demand is proved. One line for each such function.
 -- Assumes nothing.
-use Rattle.std.specs.Prelude.{◌≡◌, List, ℕ, length, Result}
+use Rattle.std.specs.Prelude.{◌≡◌, List, ℕ, length, Result, Option}
 use Rattle.layout.specs.declared.Bank.{Bank}
 use Rattle.layout.specs.Layout.{bank_size}
 use Rattle.layout.specs.Pair.{Banks, banks, bank_in}
-use Rattle.bank.specs.declared.check.Verdict.{Verdict}
 use Rattle.bank.specs.Said.{IsCheck}
-use Rattle.bank.specs.Sound.{verdict_of}
-use Rattle.clean.specs.declared.Cleaned.{Cleaned}
-use Rattle.clean.specs.Clean.{IsClean}
+use Rattle.bank.specs.Sound.{Verdict, verdict_of}
+use Rattle.clean.specs.Clean.{Cleaned, IsClean}
 use Rattle.clean.specs.Meaning.{cleaned, cleaner}
 use Rattle.hex_text.specs.declared.read.ReadError.{ReadError}
 use Rattle.hex_text.specs.Read.{text_read}
 use Rattle.hex_text.specs.Read.{IsRead as IsReadText}
-use Rattle.rows.specs.declared.text.Written.{Written}
 use Rattle.rows.specs.Text.{length_of, IsLength, IsWrite}
 use Rattle.sender.specs.declared.made.Place.{Place}
 use Rattle.sender.specs.declared.made.Refusal.{Refusal as Unmade}
@@ -97,8 +94,8 @@ pub record Contracts : Type 0 where
   -- hex text
   pub read_text : {text : List ℕ} {bank : Bank} {n : ℕ} {before after : List ℕ} {r : Result (Unit {0}) ReadError}
       → IsReadText text bank n before after r → text_read text bank n before ≡ record { answer = r; image = after }
-  pub text_length : {image : List ℕ} {bank : Bank} {r : Written} → IsLength image bank r → length_of image bank ≡ r
-  pub write_text : {image : List ℕ} {bank : Bank} {before : List ℕ} {r : Written} {after : List ℕ}
+  pub text_length : {image : List ℕ} {bank : Bank} {r : Option ℕ} → IsLength image bank r → length_of image bank ≡ r
+  pub write_text : {image : List ℕ} {bank : Bank} {before : List ℕ} {r : Option ℕ} {after : List ℕ}
       → IsWrite image bank before r after → text_writer image bank before ≡ wrote r after
   -- the sender
   pub count : {image : List ℕ} {n : ℕ} {r : Result ℕ Unmade} → IsCount image n r → tally_of image n ≡ r
@@ -115,4 +112,4 @@ pub record Contracts : Type 0 where
   pub night_silent : {night : Night} {image before : List ℕ} {r : Called} {after : List ℕ}
       → IsNightSilent night image before r after → night_sender.event night Silence image before ≡ told_back r after
   -- what comes back to either
-  pub read_response : {datagram : List ℕ} {r : Response} → IsResponse datagram r → response_of datagram ≡ r
+  pub read_response : {datagram : List ℕ} {r : Option Response} → IsResponse datagram r → response_of datagram ≡ r

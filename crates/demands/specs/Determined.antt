@@ -2,7 +2,7 @@
 -- equal"). One line for each relation that a public function's contract cites; those of
 -- `exports` alone stand in its own Determined.antt.
 -- Assumes nothing.
-use Rattle.std.specs.Prelude.{Bool, List, ℕ, Result}
+use Rattle.std.specs.Prelude.{Bool, List, ℕ, Option, Result}
 use Rattle.std.specs.Borrow.{Bor}
 use Rattle.outcomes.specs.Once.{Once, Twice, Thrice, Fourfold}
 use Rattle.frame.specs.declared.read.Footer.{Footer}
@@ -10,8 +10,7 @@ use Rattle.layout.specs.declared.Bank.{Bank}
 use Rattle.lines.specs.declared.line.LineReader.{LineReader}
 use Rattle.hex_text.specs.declared.fault.Kind.{Kind}
 use Rattle.hex_text.specs.declared.read.ReadError.{ReadError}
-use Rattle.rows.specs.declared.text.Written.{Written}
-use Rattle.clean.specs.declared.Cleaned.{Cleaned}
+use Rattle.clean.specs.declared.Refusal.{Refusal as CleanRefusal}
 use Rattle.sender.specs.declared.made.Refusal.{Refusal as Unmade}
 use Rattle.sender.specs.declared.request.Request.{Request}
 use Rattle.commands.specs.declared.Command.{Command}
@@ -41,11 +40,12 @@ use Rattle.flash.specs.declared.sector.Store.{Store}
 use Rattle.flash.specs.Bank.{IsStore, IsWriteAt, IsSweep}
 use Rattle.layout.specs.Layout.{IsGoodN, IsBankSize, IsSectors, IsBankNumber, IsNumberedBank, IsOther, IsStart, IsEnd, IsSectorOffset}
 use Rattle.digits.specs.Digit.{IsValue, IsDigit}
-use Rattle.bank.specs.Gaps.{IsGaps}
+use Rattle.bank.specs.declared.gaps.Gap.{Gap}
+use Rattle.bank.specs.Gaps.{IsGapSlice, IsGaps}
 use Rattle.bank.specs.Listed.{IsBodyCount, IsStretchAt}
 use Rattle.bank.specs.Said.{IsContents, IsCheck}
 use Rattle.bank.specs.Sound.{IsBody}
-use Rattle.clean.specs.Clean.{IsCleanedNumber, IsClean}
+use Rattle.clean.specs.Clean.{IsCleanNumber, IsClean}
 use Rattle.lines.specs.Places.{IsReader, IsNext}
 use Rattle.hex_text.specs.Read.{IsKindNumber, IsAnswerNumber}
 use Rattle.hex_text.specs.Read.{IsRead as IsReadText}
@@ -111,10 +111,11 @@ pub record Determined : Type 0 where
   pub body_count : (bank : List ℕ) → Once (IsBodyCount bank)
   pub stretch_at : (bank : List ℕ) (i : ℕ) → Once (IsStretchAt bank i)
   pub gaps : (bank : List ℕ) → Once (IsGaps bank)
+  pub gap_slice : (gaps : List Gap) → Once (IsGapSlice gaps)
   pub contents : (bank : List ℕ) → Once (IsContents bank)
   pub check : (bank : List ℕ) → Once (IsCheck bank)
   pub body : (bank : List ℕ) (i : ℕ) → Once (IsBody bank i)
-  pub cleaned_number : (cleaned : Cleaned) → Once (IsCleanedNumber cleaned)
+  pub clean_number : (refusal : CleanRefusal) → Once (IsCleanNumber refusal)
   pub clean : (bank runs sectors : List ℕ) → Fourfold (IsClean bank runs sectors)
   -- hex text
   pub value : (byte : ℕ) → Once (IsValue byte)
@@ -124,9 +125,9 @@ pub record Determined : Type 0 where
   pub kind_number : (kind : Kind) → Once (IsKindNumber kind)
   pub answer_number : (answer : Result (Unit {0}) ReadError) → Once (IsAnswerNumber answer)
   pub unmade_number : (why : Unmade) → Once (IsUnmadeNumber why)
-  pub response_number : (response : Response) → Once (IsResponseNumber response)
+  pub response_number : (response : Option Response) → Once (IsResponseNumber response)
   pub read_text : (text : List ℕ) (bank : Bank) (n : ℕ) (before : List ℕ) → Twice (IsReadText text bank n before)
-  pub written_number : (written : Written) → Once (IsWrittenNumber written)
+  pub written_number : (written : Option ℕ) → Once (IsWrittenNumber written)
   pub text_length : (image : List ℕ) (bank : Bank) → Once (IsLength image bank)
   pub write_text : (image : List ℕ) (bank : Bank) (before : List ℕ) → Twice (IsWrite image bank before)
   -- the sender

@@ -2,7 +2,7 @@
 -- Each sentence is said of such a pair, whatever it does; the one that is made here consists of the very definitions that the contracts of
 -- `night` cite. A run is one image, and one event after another, each with a request buffer of its own.
 -- Assumes nothing.
-use Rattle.std.specs.Prelude.{◌≡◌, Bool, true, false, List, [], ◌∷◌, ◌++◌, ◌⊎◌, ℕ, zero, suc, ◌+◌, ◌*◌, ◌≤◌, ◌<◌, length, take, replicate, Result, Ok, Err}
+use Rattle.std.specs.Prelude.{◌≡◌, Bool, true, false, List, [], ◌∷◌, ◌++◌, ◌⊎◌, ℕ, zero, suc, ◌+◌, ◌*◌, ◌≤◌, ◌<◌, length, take, replicate, Result, Ok, Err, Option, Some}
 use Rattle.crc.specs.Crc.{crc_of}
 use Rattle.commands.specs.declared.Command.TheVariants as command
 use Rattle.layout.specs.declared.Bank.{Bank}
@@ -253,39 +253,39 @@ turns_of m image o [] = []
 turns_of m image o (g ∷ gs) = turn o.next g.event ∷ turns_of m image (m.event o.record_then g.event image g.buffer) gs
 
 -- the awaited response, as it reads
-pub data AnyVersion : Response → Type 0 where
-  version : (id major minor revision : ℕ) → AnyVersion (Firmware id major minor revision)
+pub data AnyVersion : Option Response → Type 0 where
+  version : (id major minor revision : ℕ) → AnyVersion (Some (Firmware id major minor revision))
 
-pub record Stored (image : List ℕ) (sector : ℕ) (r : Response) : Type 0 where
+pub record Stored (image : List ℕ) (sector : ℕ) (r : Option Response) : Type 0 where
   pub write : ℕ
   pub accepted : Accepted write
-  pub reads : r ≡ Written sector 0x06 write (crc_of (sector_of image sector))
+  pub reads : r ≡ Some (Written sector 0x06 write (crc_of (sector_of image sector)))
 
-abbrev pub Awaited : List ℕ → Bank → ℕ → Name → Response → Type 0
-Awaited image bank n ModeStart r = r ≡ Plain command.ModeStart 0x06
+abbrev pub Awaited : List ℕ → Bank → ℕ → Name → Option Response → Type 0
+Awaited image bank n ModeStart r = r ≡ Some (Plain command.ModeStart 0x06)
 Awaited image bank n VersionInfo r = AnyVersion r
-Awaited image bank n BankInfo r = r ≡ Target bank
-Awaited image bank n WriteStart r = r ≡ Plain command.WriteStart 0x06
+Awaited image bank n BankInfo r = r ≡ Some (Target bank)
+Awaited image bank n WriteStart r = r ≡ Some (Plain command.WriteStart 0x06)
 Awaited image bank n (Packet p) r = Stored image (packet_sector image n p) r
-Awaited image bank n WriteEnd r = r ≡ Plain command.WriteEnd 0x06
-Awaited image bank n ModeEnd r = r ≡ Plain command.ModeEnd 0x06
+Awaited image bank n WriteEnd r = r ≡ Some (Plain command.WriteEnd 0x06)
+Awaited image bank n ModeEnd r = r ≡ Some (Plain command.ModeEnd 0x06)
 
 -- 15 that "counts as done"
-abbrev pub Declined : Name → Response → Type 0
-Declined ModeStart r = r ≡ Plain command.ModeStart 0x15
+abbrev pub Declined : Name → Option Response → Type 0
+Declined ModeStart r = r ≡ Some (Plain command.ModeStart 0x15)
 Declined VersionInfo r = ⊥
 Declined BankInfo r = ⊥
-Declined WriteStart r = r ≡ Plain command.WriteStart 0x15
+Declined WriteStart r = r ≡ Some (Plain command.WriteStart 0x15)
 Declined (Packet p) r = ⊥
 Declined WriteEnd r = ⊥
-Declined ModeEnd r = r ≡ Plain command.ModeEnd 0x15
+Declined ModeEnd r = r ≡ Some (Plain command.ModeEnd 0x15)
 
 -- the same request was at hand one event before: it has gone out at least twice
 pub data Repeated (name : Name) : Result Next Refusal → Type 0 where
   again : {size : ℕ} → Repeated name (Ok (Send name size))
 
 module _ (image : List ℕ) (bank : Bank) (n : ℕ) where
-  abbrev pub Settles : Name → Result Next Refusal → Response → Type 0
+  abbrev pub Settles : Name → Result Next Refusal → Option Response → Type 0
   Settles name last r = Awaited image bank n name r ⊎ (Declined name r × Repeated name last)
 
   -- while this request was at hand there was an event that settles it; `last` is what was at hand one event before the first of the list

@@ -1,7 +1,7 @@
 -- How a night sender gives up (02 §4): with each reason exactly when it is so. Told by turns, of any night sender, over any run from a start; what
 -- an event is comes from its response as it reads.
 -- Assumes nothing.
-use Rattle.std.specs.Prelude.{◌≡◌, true, List, [], ◌∷◌, ◌⊎◌, ℕ, zero, suc, ◌≤◌, length, Result, Ok}
+use Rattle.std.specs.Prelude.{◌≡◌, true, List, [], ◌∷◌, ◌⊎◌, ℕ, zero, suc, ◌≤◌, length, Result, Ok, Option, Some}
 use Rattle.commands.specs.declared.Command.TheVariants as command
 use Rattle.layout.specs.declared.Bank.{Bank}
 use Rattle.layout.specs.Layout.{other_of}
@@ -41,19 +41,19 @@ use Rattle.demands.specs.Night.{
 }
 
 -- the event is a response, and as it reads this holds of it
-abbrev pub Brings : Event → (Response → Type 0) → Type 0
+abbrev pub Brings : Event → (Option Response → Type 0) → Type 0
 Brings (Heard datagram) P = P (response_of datagram)
 Brings Silence P = ⊥
 
 module _ (image : List ℕ) (bank : Bank) (n : ℕ) where
   -- what stops the night at this request, tries left or not: a bank that isn't the image's, 15 to a repeated write end
-  abbrev pub Stops : Why → Name → Type 0 → Response → Type 0
+  abbrev pub Stops : Why → Name → Type 0 → Option Response → Type 0
   Stops Tries name repeated r = ⊥
-  Stops WrongBank name repeated r = (name ≡ BankInfo) × (r ≡ Target (other_of bank))
-  Stops Unknown name repeated r = (name ≡ WriteEnd) × (r ≡ Plain command.WriteEnd 0x15) × repeated
+  Stops WrongBank name repeated r = (name ≡ BankInfo) × (r ≡ Some (Target (other_of bank)))
+  Stops Unknown name repeated r = (name ≡ WriteEnd) × (r ≡ Some (Plain command.WriteEnd 0x15)) × repeated
 
   -- what settles it, as in `Settles`
-  abbrev pub Done : Name → Type 0 → Response → Type 0
+  abbrev pub Done : Name → Type 0 → Option Response → Type 0
   Done name repeated r = Awaited image bank n name r ⊎ (Declined name r × repeated)
 
   -- what else comes "spends a try"

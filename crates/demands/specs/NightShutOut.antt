@@ -1,7 +1,7 @@
 -- Night senders that are shut out (02 §4; from the order and the bound, from finished exactly when every request was settled, and from giving up
 -- for its tries exactly when they were spent). Each class asks for one run on something that a start accepts.
 -- Assumes nothing.
-use Rattle.std.specs.Prelude.{◌≡◌, false, cond, List, [], ◌∷◌, ℕ, suc, ◌+◌, ◌≤◌, ◌<◌, eqb, length, replicate, Result, Ok}
+use Rattle.std.specs.Prelude.{◌≡◌, false, cond, List, [], ◌∷◌, ℕ, suc, ◌+◌, ◌≤◌, ◌<◌, eqb, length, replicate, Result, Ok, Option, Some}
 use Rattle.buffer.specs.Place.{front_of}
 use Rattle.crc.specs.Crc.{crc_of}
 use Rattle.frame.specs.Frame.{write_frame}
@@ -67,11 +67,11 @@ never_ending =
 -- ---- one that skips a packet that was answered with a wrong CRC
 
 -- the packet's own sector, and another CRC than that of the image's 512 bytes
-pub record WrongCrc (image : List ℕ) (sector : ℕ) (r : Response) : Type 0 where
+pub record WrongCrc (image : List ℕ) (sector : ℕ) (r : Option Response) : Type 0 where
   pub result : ℕ
   pub write : ℕ
   pub crc : ℕ
-  pub reads : r ≡ Written sector result write crc
+  pub reads : r ≡ Some (Written sector result write crc)
   pub other : crc ≡ crc_of (sector_of image sector) → ⊥
 
 -- while packet p was at hand, nothing came but silence and such answers

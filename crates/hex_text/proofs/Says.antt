@@ -7,7 +7,7 @@ use Rattle.buffer.proofs.Bools.{and_left, and_right, not_so, split, no_way}
 use Rattle.buffer.proofs.Numbers.{number_two}
 use Rattle.buffer.specs.Number.{number_at}
 use Rattle.buffer.specs.Total.{total}
-use Rattle.std.specs.Prelude.{Result, Ok, Err}
+use Rattle.std.specs.Prelude.{Some, None, Result, Ok, Err}
 use Rattle.hex_text.specs.declared.fault.Kind.{Kind}
 use Rattle.hex_text.specs.declared.fault.Fault.{Fault}
 use Rattle.hex_text.specs.declared.fault.Kind.TheVariants.{H1, H2, H3, H4, H5, H6}
@@ -199,20 +199,20 @@ module _ (line : List ℕ) (base size : ℕ) (s : State) (held : List ℕ) where
   pub looked_over : s.over ≡ true → Looked line base size s held (fault_at H6 1)
   looked_over o = looked_fault H6 1 (found_over base size s line o)
 
-  module _ (o : s.over ≡ false) {before : List ℕ} {sum : ℕ} (summed : Summed line before held sum) where
-    pub looked-1 : sum ≡ 256 → {byte : ℕ} → Placed line byte → Looked line base size s held (fault_at H1 byte)
-    looked-1 z {byte} placed = by (record_of line) refl
+  module _ (o : s.over ≡ false) {before : List ℕ} where
+    pub looked-1 : Summed line before held None → {byte : ℕ} → Placed line byte → Looked line base size s held (fault_at H1 byte)
+    looked-1 summed {byte} placed = by (record_of line) refl
       where
         by : (q : Spelled) → record_of line ≡ q → Looked line base size s held (fault_at H1 byte)
-        by (Whole bytes) e = absurd (sum_record line (whole_record line bytes e).0 (sym summed.sum ∙ z))
+        by (Whole bytes) e = absurd (sum_record line (whole_record line bytes e).0 (sym summed.sum))
         by (Broken place) e = looked_fault H1 byte (found-1 base size s line o e ∙ ap (λ (b : ℕ). fault_at H1 b) (sym (placed place e)))
 
-    module _ (some : sum ≡ 256 → ⊥) where
+    module _ {sum : ℕ} (summed : Summed line before held (Some sum)) where
       is_record : IsRecord line
-      is_record = sum_some line (λ z. some (summed.sum ∙ z))
+      is_record = (sum_some line summed.sum).0
 
       sum_is : sum ≡ total (line_bytes line) % 256
-      sum_is = summed.sum ∙ rw (record_whole line is_record)
+      sum_is = (sum_some line summed.sum).1
 
       pub looked-some : 1 ≤ length line
       looked-some = omega (arith, is_record.counted)

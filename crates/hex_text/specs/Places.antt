@@ -1,6 +1,6 @@
 -- The same by positions in a line, as the code goes; proofs/ ties these to the records of the lines.
 -- Assumes nothing.
-use Rattle.std.specs.Prelude.{◌≡◌, ℕ, zero, suc, ◌+◌, ◌%◌, ◌<◌, Bool, true, cond, ◌&&◌, List, [], ◌∷◌, length, ◌≢◌, nat_lt, slice_index, Result, Ok, Err}
+use Rattle.std.specs.Prelude.{◌≡◌, ℕ, zero, suc, ◌+◌, ◌%◌, ◌<◌, Bool, true, cond, ◌&&◌, List, [], ◌∷◌, length, nat_lt, slice_index, Option, Some, None, Result, Ok, Err}
 use Rattle.std.proofs.lemmas.List.Edits.{sets}
 use Rattle.buffer.specs.Total.{total}
 use Rattle.hex_text.specs.declared.fault.Fault.{Fault}
@@ -29,22 +29,22 @@ unfoldable pub all_bytes : List ℕ → Bool
 all_bytes [] = true
 all_bytes (b ∷ bs) = nat_lt b 256 && all_bytes bs
 
--- the sum modulo 256, from s on; 256 where one is no byte
-unfoldable pub check_from : ℕ → List ℕ → ℕ
-check_from s bs = cond (all_bytes bs) ((s + total bs) % 256) 256
+-- the sum modulo 256, from s on; none where one is no byte
+unfoldable pub check_from : ℕ → List ℕ → Option ℕ
+check_from s bs = cond (all_bytes bs) (Some ((s + total bs) % 256)) None
 
 -- their sum, and the bytes at the front of what was lent where all are bytes
-pub record SpelledAt (bytes before after : List ℕ) (r : ℕ) : Type 0 where
+pub record SpelledAt (bytes before after : List ℕ) (r : Option ℕ) : Type 0 where
   pub sum : r ≡ check_from 0 bytes
-  pub put : (r ≢ 256) → after ≡ sets before 0 bytes
+  pub put : (s : ℕ) → r ≡ Some s → after ≡ sets before 0 bytes
 
--- RECORDS. The sum of a record's bytes modulo 256; 256 where the line is none
-abbrev pub sum_of : Spelled → ℕ
-sum_of (Whole r) = total r % 256
-sum_of (Broken place) = 256
+-- RECORDS. The sum of a record's bytes modulo 256; none where the line is none
+abbrev pub sum_of : Spelled → Option ℕ
+sum_of (Whole r) = Some (total r % 256)
+sum_of (Broken place) = None
 
 -- that of a line, and its record's bytes at the front of what was lent
-pub record Summed (line before after : List ℕ) (r : ℕ) : Type 0 where
+pub record Summed (line before after : List ℕ) (r : Option ℕ) : Type 0 where
   pub sum : r ≡ sum_of (record_of line)
   pub put : (bytes : List ℕ) → record_of line ≡ Whole bytes → after ≡ sets before 0 bytes
 

@@ -4,7 +4,7 @@ ghost use Rattle.digits.specs.Digit.{is_digit};
 ghost use Rattle.hex_text.specs.Record.{digits_due, digits_in};
 ghost use Rattle.hex_text.specs.Places.{Placed};
 
-use crate::pair::{pair_at, value_at, wide};
+use crate::pair::{pair_at, value_at};
 
 // The digits due behind a colon where no count is spelled: more than stand before what spells none.
 const NO_COUNT: usize = 2 * (256 + 5);
@@ -28,7 +28,7 @@ fn digits_due(behind: &[u8]) -> usize
     if !pair_at(behind, 0) {
         return NO_COUNT;
     }
-    2 * (wide(value_at(behind, 0)) + 5)
+    2 * (usize::from(value_at(behind, 0)) + 5)
 }
 
 // How many there are of those that are due.

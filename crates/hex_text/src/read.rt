@@ -91,12 +91,6 @@ fn read_lines(text: &[u8], base: usize, image: &mut [u8]) -> Result<(), Refusal>
     finish(state, line)
 }
 
-fn wide4(number: u32) -> usize
-    ensures { (result ≡ number) × (result < 4294967296) }
-{
-    number as usize
-}
-
 // The text's bytes in the image of a bank of `n` sectors.
 pub fn read(text: &[u8], bank: Bank, n: usize, image: &mut [u8]) -> Result<(), ReadError>
     ensures { IsRead text.now bank n image.old image.new result }
@@ -108,7 +102,7 @@ pub fn read(text: &[u8], bank: Bank, n: usize, image: &mut [u8]) -> Result<(), R
         return Err(ReadError::BadLength);
     }
     buffer::fill::fill(image, 0xFF);
-    let base = wide4(layout::start_address(bank));
+    let base = layout::start_address(bank) as usize;
     match read_lines(text, base, image) {
         Ok(()) => Ok(()),
         Err(refusal) => {

@@ -4,7 +4,7 @@ ghost use Rattle.hex_text.specs.Record.{record_count, data_at, typed};
 ghost use Rattle.hex_text.specs.Places.{bytes_at, SpelledAt, Summed, LookFits, Looked};
 
 use crate::fault::{Fault, Kind};
-use crate::pair::{pair_at, value_at, wide};
+use crate::pair::{pair_at, value_at};
 use buffer::number::number2;
 
 // As many bytes as a record has at most: a count of 255, and 5 beside the data.
@@ -12,9 +12,6 @@ pub(crate) const LONGEST: usize = 260;
 
 // The byte of a line that its colon is: there H3 to H5 are told, which are of the whole record.
 const COLON: usize = 1;
-
-// Stands for the sum of what is no record.
-const NO_SUM: usize = 256;
 
 // Where the reading stands: the upper half of addresses, the end of earlier data, whether the end record was seen.
 #[derive(Clone, Copy)]
@@ -33,9 +30,9 @@ pub enum Found {
     Other,
 }
 
-// What `k` pairs of digits behind the line's first byte spell, to the front of `bytes`, and their sum modulo 256; `NO_SUM` where one pair is no
-// byte. The loop has no way out, so that the compiler takes many at once.
-fn spell(line: &[u8], k: usize, bytes: &mut [u8]) -> usize
+// What `k` pairs of digits behind the line's first byte spell, to the front of `bytes`, and their sum modulo 256; `None` where one pair is no byte.
+// The loop has no way out, so that the compiler takes many at once.
+fn spell(line: &[u8], k: usize, bytes: &mut [u8]) -> Option<u8>
     requires { (1 + 2 * k ≤ length line.now) × (k ≤ length bytes.old) }
     ensures { SpelledAt (bytes_at line.now 1 k) bytes.old bytes.new result }
 {
@@ -54,39 +51,33 @@ fn spell(line: &[u8], k: usize, bytes: &mut [u8]) -> usize
         j += 1;
         left -= 1;
     }
-    if good {
-        return wide(sum);
-    }
-    NO_SUM
+    if good { Some(sum) } else { None }
 }
 
-// The bytes of the line's record, to the front of `bytes`, and their sum modulo 256; `NO_SUM` where the line is no record.
-fn record_sum(line: &[u8], bytes: &mut [u8]) -> usize
+// The bytes of the line's record, to the front of `bytes`, and their sum modulo 256; `None` where the line is no record.
+fn record_sum(line: &[u8], bytes: &mut [u8]) -> Option<u8>
     requires { 260 ≤ length bytes.old }
     ensures { Summed line.now bytes.old bytes.new result }
 {
     let len = line.len();
     if len < 11 {
-        return NO_SUM;
+        return None;
     }
     if 2 * LONGEST + 1 < len {
-        return NO_SUM;
+        return None;
     }
     if len % 2 == 0 {
-        return NO_SUM;
+        return None;
     }
     if line[0] != b':' {
-        return NO_SUM;
+        return None;
     }
     let k = len / 2;
-    let sum = spell(line, k, bytes);
-    if sum == NO_SUM {
-        return NO_SUM;
+    let sum = spell(line, k, bytes)?;
+    if k != usize::from(bytes[0]) + 5 {
+        return None;
     }
-    if k != wide(bytes[0]) + 5 {
-        return NO_SUM;
-    }
-    sum
+    Some(sum)
 }
 
 // `count` data bytes from `start` on: inside the bank, and not below the end of earlier data.
@@ -129,7 +120,7 @@ fn typed_at(bytes: &[u8], base: usize, size: usize, state: State) -> Result<Foun
             size,
             state.last,
             state.upper * 65536 + address,
-            wide(n),
+            usize::from(n),
         );
     }
     if address != 0 {
@@ -170,10 +161,9 @@ pub(crate) fn look(
     if state.over {
         return Err(Fault(Kind::H6, 1));
     }
-    let sum = record_sum(line, bytes);
-    if sum == NO_SUM {
+    let Some(sum) = record_sum(line, bytes) else {
         return Err(Fault(Kind::H1, crate::place::place_of(line)));
-    }
+    };
     if sum != 0 {
         return Err(Fault(Kind::H2, line.len() - 1));
     }

@@ -1,5 +1,6 @@
 -- Each way out of a call.
 -- Assumes nothing.
+use Rattle.std.specs.Prelude.{Option}
 use mathlib.Core.Path.{◌≡◌, refl, sym, ap, subst, ◌∙◌}
 use mathlib.Core.List.{List}
 use Prim.Native.Nat.{ℕ, ◌+◌, ◌<◌}
@@ -118,7 +119,7 @@ module _ (night : Night) (p : ℕ) (end : Next) (image : List ℕ) (size : ℕ) 
 
 -- ---- a request is at hand
 
-module _ (night : Night) (name : Name) (gone : ℕ) (response : Response) (image before : List ℕ) (r : Called) where
+module _ (night : Night) (name : Name) (gone : ℕ) (response : Option Response) (image before : List ℕ) (r : Called) where
   abbrev looked : Result Place Refusal
   looked = looked_of image night.n night.tries (length before) (number_of name)
 
@@ -147,7 +148,7 @@ module _ (night : Night) (name : Name) (gone : ℕ) (response : Response) (image
 
 -- ---- an event
 
-module _ (night : Night) (name : Name) (gone : ℕ) (response : Response) (image : List ℕ) (size : ℕ) where
+module _ (night : Night) (name : Name) (gone : ℕ) (response : Option Response) (image : List ℕ) (size : ℕ) where
   pub hand_says : next_number (at_hand_of night name gone response image size).next ≡ lent_says image night.n night.tries size (number_of name)
   unfolding at_hand_of
   hand_says = by (looked_of image night.n night.tries size (number_of name)) refl
@@ -176,7 +177,7 @@ module _ (night : Night) (p : ℕ) (end : Next) (image : List ℕ) (size : ℕ) 
       by (Err why) e = refl
       by (Ok place) e = sym z
 
-module _ (night : Night) (response : Response) (image before : List ℕ) (r : Called) where
+module _ (night : Night) (response : Option Response) (image before : List ℕ) (r : Called) where
   by_stand_lem : (after : List ℕ) (stand : Stand) → night.stand ≡ stand → r ≡ by_stand night response image (length before) stand
       → next_number (by_stand night response image (length before) stand).next ≡ step_says image night (length before) stand
       → after ≡ buffer_by image before (by_stand night response image (length before) stand) → IsStep night response image before r after
@@ -208,13 +209,13 @@ module _ (night : Night) (response : Response) (image before : List ℕ) (r : Ca
       (over_keeps night (number_of name) (next.GaveUp name why) image (length before) before refl)
 
 -- a response, as it reads
-pub step_heard : (night : Night) (response : Response) (datagram image before : List ℕ) (r : Called) (after : List ℕ) → response ≡ response_of datagram
+pub step_heard : (night : Night) (response : Option Response) (datagram image before : List ℕ) (r : Called) (after : List ℕ) → response ≡ response_of datagram
     → IsStep night response image before r after → IsHeard night datagram image before r after
 step_heard night response datagram image before r after e s =
     record {
-      answered = s.answered ∙ ap (λ (x : Response). step_of night x image (length before)) e;
+      answered = s.answered ∙ ap (λ (x : Option Response). step_of night x image (length before)) e;
       says = s.says;
-      stands = s.stands ∙ ap (λ (x : Response). buffer_by image before (step_of night x image (length before))) e;
+      stands = s.stands ∙ ap (λ (x : Option Response). buffer_by image before (step_of night x image (length before))) e;
     }
 
 -- ---- the start

@@ -1,5 +1,6 @@
 -- A call whose lent lengths are right, and a record of a night that goes on: what comes of it, for the crates above.
 -- Assumes nothing.
+use Rattle.std.specs.Prelude.{Option}
 use mathlib.Core.Path.{◌≡◌, ap, ◌∙◌}
 use mathlib.Core.Bool.{true}
 use mathlib.Core.List.{List}
@@ -47,7 +48,7 @@ module _ (image : List ℕ) (n tries size : ℕ) (f : Fits image n tries size) w
   unfolding start_of
   start_goes bank h = ap (begun image bank n tries) (looked_good 0 h)
 
-module _ (night : Night) (response : Response) (image : List ℕ) (size : ℕ) (f : Fits image night.n night.tries size) where
+module _ (night : Night) (response : Option Response) (image : List ℕ) (size : ℕ) (f : Fits image night.n night.tries size) where
   -- the record moves by what the event is judged to be
   pub hand_goes : (name : Name) (gone : ℕ) → night.stand ≡ At name gone → number_of name < packet_count image night.n
       → step_of night response image size

@@ -1,6 +1,7 @@
 -- For the crates above: what settles a request, how an event moves the record, and what a call does to a record that may be any.
 -- Assumes nothing.
 use Rattle.std.proofs.Common.{Some}
+use Rattle.std.specs.Prelude.{Option, Some, None}
 use mathlib.Core.Path.{◌≡◌, refl, sym, ap, subst, ◌∙◌}
 use mathlib.Core.Bool.{Bool, true, false, ◌&&◌, ◌||◌, cond, false≢true}
 use mathlib.Core.List.{List}
@@ -21,7 +22,7 @@ use Rattle.layout.specs.Layout.{bank_number, other_of, sector_of}
 use Rattle.layout.specs.declared.Bank.{Bank}
 use Rattle.layout.specs.declared.Bank.TheVariants.{Zero, One}
 use Rattle.response.specs.declared.read.Response.{Response}
-use Rattle.response.specs.declared.read.Response.TheVariants.{Unreadable, Plain, Error, Target, Firmware, Written}
+use Rattle.response.specs.declared.read.Response.TheVariants.{Plain, Error, Target, Firmware, Written}
 use Rattle.sender.specs.declared.made.Place.{Place}
 use Rattle.sender.specs.Packet.{packet_sector}
 use Rattle.night.specs.declared.judge.Verdict.{Verdict}
@@ -66,7 +67,7 @@ use Rattle.night.proofs.Moving.{goes_again, given_up}
 -- ---- what settles a request
 
 -- the response settles the request at hand
-abbrev pub Settling : Name → Bool → Bank → List ℕ → ℕ → Response → Type 0
+abbrev pub Settling : Name → Bool → Bank → List ℕ → ℕ → Option Response → Type 0
 Settling name repeated bank image sector response = judge_of name repeated bank image sector response ≡ Settled
 
 -- no two commands are answered by one code
@@ -81,29 +82,29 @@ same_bank One Zero e = no_way (sym e)
 same_bank One One e = refl
 
 -- what carries a result that is not 0 is the command's own response
-own_reads : (command : Command) (response : Response) (result : ℕ) → 0 < result → own_result command response ≡ result
-    → response ≡ Plain command result
-own_reads command Unreadable result h e = absurd (omega arith)
-own_reads command (Plain other r) result h e =
-    split (λ (x : ℕ). x ≡ result → Plain other r ≡ Plain command result) (eqb (response_code other) (response_code command))
+own_reads : (command : Command) (response : Option Response) (result : ℕ) → 0 < result → own_result command response ≡ result
+    → response ≡ Some (Plain command result)
+own_reads command None result h e = absurd (omega arith)
+own_reads command (Some (Plain other r)) result h e =
+    split (λ (x : ℕ). x ≡ result → Some (Plain other r) ≡ Some (Plain command result)) (eqb (response_code other) (response_code command))
     (λ t q. let s = same_command other command (eqb-true _ _ t) in cc)
     (λ _ q. absurd (omega arith))
     e
-own_reads command (Error r) result h e = absurd (omega arith)
-own_reads command (Target bank) result h e = absurd (omega arith)
-own_reads command (Firmware id major minor revision) result h e = absurd (omega arith)
-own_reads command (Written sector response write crc) result h e = absurd (omega arith)
+own_reads command (Some (Error r)) result h e = absurd (omega arith)
+own_reads command (Some (Target bank)) result h e = absurd (omega arith)
+own_reads command (Some (Firmware id major minor revision)) result h e = absurd (omega arith)
+own_reads command (Some (Written sector response write crc)) result h e = absurd (omega arith)
 
-own_result_lem : (command : Command) (response : Response) (result : ℕ) → response ≡ Plain command result → own_result command response ≡ result
+own_result_lem : (command : Command) (response : Option Response) (result : ℕ) → response ≡ Some (Plain command result) → own_result command response ≡ result
 own_result_lem command response result e = rw (e, eq-eqb (response_code command) (response_code command) refl)
 
-module _ (command : Command) (repeated : Bool) (response : Response) where
+module _ (command : Command) (repeated : Bool) (response : Option Response) where
   -- 06, or 15 to a repeated one where that counts as done
   own_settled : (declined : Verdict) → own_verdict command repeated declined response ≡ Settled
-      → (response ≡ Plain command 0x06) ⊎ ((response ≡ Plain command 0x15) × (repeated ≡ true) × (declined ≡ Settled))
+      → (response ≡ Some (Plain command 0x06)) ⊎ ((response ≡ Some (Plain command 0x15)) × (repeated ≡ true) × (declined ≡ Settled))
   unfolding own_verdict
   own_settled declined =
-      let Out : Type 0 = (response ≡ Plain command 0x06) ⊎ ((response ≡ Plain command 0x15) × (repeated ≡ true) × (declined ≡ Settled)) in
+      let Out : Type 0 = (response ≡ Some (Plain command 0x06)) ⊎ ((response ≡ Some (Plain command 0x15)) × (repeated ≡ true) × (declined ≡ Settled)) in
       let result : ℕ = own_result command response in
       split (λ (v : Verdict). v ≡ Settled → Out) (eqb result 0x06)
       (λ t _. inl (own_reads command response 0x06 (omega arith) (eqb-true result 0x06 t)))
@@ -116,68 +117,68 @@ module _ (command : Command) (repeated : Bool) (response : Response) where
       ))
       (λ _ e. no_way cc))
 
-  own_accepted : (declined : Verdict) → response ≡ Plain command 0x06 → own_verdict command repeated declined response ≡ Settled
+  own_accepted : (declined : Verdict) → response ≡ Some (Plain command 0x06) → own_verdict command repeated declined response ≡ Settled
   unfolding own_verdict
   own_accepted declined e = rw (own_result_lem command response 0x06 e)
 
-  own_declined : response ≡ Plain command 0x15 → repeated ≡ true → own_verdict command repeated Settled response ≡ Settled
+  own_declined : response ≡ Some (Plain command 0x15) → repeated ≡ true → own_verdict command repeated Settled response ≡ Settled
   unfolding own_verdict
   own_declined e t = rw (own_result_lem command response 0x15 e, t)
 
   -- for mode start, write start and mode end
   pub own_done : own_verdict command repeated Settled response ≡ Settled
-      → (response ≡ Plain command 0x06) ⊎ ((response ≡ Plain command 0x15) × (repeated ≡ true))
+      → (response ≡ Some (Plain command 0x06)) ⊎ ((response ≡ Some (Plain command 0x15)) × (repeated ≡ true))
   own_done e = by (own_settled Settled e)
     where
-      by : (response ≡ Plain command 0x06) ⊎ ((response ≡ Plain command 0x15) × (repeated ≡ true) × (Settled ≡ Settled))
-          → (response ≡ Plain command 0x06) ⊎ ((response ≡ Plain command 0x15) × (repeated ≡ true))
+      by : (response ≡ Some (Plain command 0x06)) ⊎ ((response ≡ Some (Plain command 0x15)) × (repeated ≡ true) × (Settled ≡ Settled))
+          → (response ≡ Some (Plain command 0x06)) ⊎ ((response ≡ Some (Plain command 0x15)) × (repeated ≡ true))
       by (inl p) = inl p
       by (inr p) = inr (p.0, p.1)
 
-  pub done_own : (response ≡ Plain command 0x06) ⊎ ((response ≡ Plain command 0x15) × (repeated ≡ true))
+  pub done_own : (response ≡ Some (Plain command 0x06)) ⊎ ((response ≡ Some (Plain command 0x15)) × (repeated ≡ true))
       → own_verdict command repeated Settled response ≡ Settled
   done_own (inl e) = own_accepted Settled e
   done_own (inr p) = own_declined p.0 p.1
 
   -- for the write end, where 15 is no settling
-  pub own_ended : own_verdict command repeated (Stops Unknown) response ≡ Settled → response ≡ Plain command 0x06
+  pub own_ended : own_verdict command repeated (Stops Unknown) response ≡ Settled → response ≡ Some (Plain command 0x06)
   own_ended e = by (own_settled (Stops Unknown) e)
     where
-      by : (response ≡ Plain command 0x06) ⊎ ((response ≡ Plain command 0x15) × (repeated ≡ true) × (Stops Unknown ≡ Settled))
-          → response ≡ Plain command 0x06
+      by : (response ≡ Some (Plain command 0x06)) ⊎ ((response ≡ Some (Plain command 0x15)) × (repeated ≡ true) × (Stops Unknown ≡ Settled))
+          → response ≡ Some (Plain command 0x06)
       by (inl p) = p
       by (inr p) = let q : Stops Unknown ≡ Settled = p.2 in no_way cc
 
-  pub ended_own : response ≡ Plain command 0x06 → own_verdict command repeated (Stops Unknown) response ≡ Settled
+  pub ended_own : response ≡ Some (Plain command 0x06) → own_verdict command repeated (Stops Unknown) response ≡ Settled
   ended_own e = own_accepted (Stops Unknown) e
 
 -- any version
-pub version_settled : (P : Response → Type 0) → ((id major minor revision : ℕ) → P (Firmware id major minor revision)) → (response : Response)
+pub version_settled : (P : Option Response → Type 0) → ((id major minor revision : ℕ) → P (Some (Firmware id major minor revision))) → (response : Option Response)
     → version_verdict response ≡ Settled → P response
-version_settled P f Unreadable e = no_way cc
-version_settled P f (Plain command result) e = no_way cc
-version_settled P f (Error result) e = no_way cc
-version_settled P f (Target bank) e = no_way cc
-version_settled P f (Firmware id major minor revision) e = f id major minor revision
-version_settled P f (Written sector response write crc) e = no_way cc
+version_settled P f None e = no_way cc
+version_settled P f (Some (Plain command result)) e = no_way cc
+version_settled P f (Some (Error result)) e = no_way cc
+version_settled P f (Some (Target bank)) e = no_way cc
+version_settled P f (Some (Firmware id major minor revision)) e = f id major minor revision
+version_settled P f (Some (Written sector response write crc)) e = no_way cc
 
-pub settled_version : (id major minor revision : ℕ) → version_verdict (Firmware id major minor revision) ≡ Settled
+pub settled_version : (id major minor revision : ℕ) → version_verdict (Some (Firmware id major minor revision)) ≡ Settled
 settled_version id major minor revision = refl
 
 -- the image's bank
-pub bank_settled : (bank : Bank) (response : Response) → bank_verdict bank response ≡ Settled → response ≡ Target bank
-bank_settled bank Unreadable e = no_way cc
-bank_settled bank (Plain command result) e = no_way cc
-bank_settled bank (Error result) e = no_way cc
-bank_settled bank (Target target) e =
-    split (λ (v : Verdict). v ≡ Settled → Target target ≡ Target bank) (eqb (bank_number target) (bank_number bank))
-    (λ t _. ap Target (same_bank target bank (eqb-true _ _ t)))
+pub bank_settled : (bank : Bank) (response : Option Response) → bank_verdict bank response ≡ Settled → response ≡ Some (Target bank)
+bank_settled bank None e = no_way cc
+bank_settled bank (Some (Plain command result)) e = no_way cc
+bank_settled bank (Some (Error result)) e = no_way cc
+bank_settled bank (Some (Target target)) e =
+    split (λ (v : Verdict). v ≡ Settled → Some (Target target) ≡ Some (Target bank)) (eqb (bank_number target) (bank_number bank))
+    (λ t _. ap (λ (x : Bank). Some (Target x)) (same_bank target bank (eqb-true _ _ t)))
     (λ _ q. no_way cc)
     e
-bank_settled bank (Firmware id major minor revision) e = no_way cc
-bank_settled bank (Written sector response write crc) e = no_way cc
+bank_settled bank (Some (Firmware id major minor revision)) e = no_way cc
+bank_settled bank (Some (Written sector response write crc)) e = no_way cc
 
-pub settled_bank : (bank : Bank) (response : Response) → response ≡ Target bank → bank_verdict bank response ≡ Settled
+pub settled_bank : (bank : Bank) (response : Option Response) → response ≡ Some (Target bank) → bank_verdict bank response ≡ Settled
 settled_bank bank response e = rw (e, eq-eqb (bank_number bank) (bank_number bank) refl)
 
 -- a packet: "its number, 06 or 1D, and the right CRC-32"
@@ -192,19 +193,19 @@ module _ (image : List ℕ) (sector : ℕ) where
     pub write-is : (write ≡ 0x06) ⊎ (write ≡ 0x1D)
     pub crc-is : crc ≡ crc_of (sector_of image sector)
 
-  pub packet_settled : (P : Response → Type 0)
-      → ((number result write crc : ℕ) → Fields number result write crc → P (Written number result write crc)) → (response : Response)
+  pub packet_settled : (P : Option Response → Type 0)
+      → ((number result write crc : ℕ) → Fields number result write crc → P (Some (Written number result write crc))) → (response : Option Response)
       → packet_verdict image sector response ≡ Settled → P response
   unfolding fields_awaited
-  packet_settled P f Unreadable e = no_way cc
-  packet_settled P f (Plain command result) e = no_way cc
-  packet_settled P f (Error result) e = no_way cc
-  packet_settled P f (Target bank) e = no_way cc
-  packet_settled P f (Firmware id major minor revision) e = no_way cc
-  packet_settled P f (Written number result write crc) e =
-      split (λ (v : Verdict). v ≡ Settled → P (Written number result write crc))
+  packet_settled P f None e = no_way cc
+  packet_settled P f (Some (Plain command result)) e = no_way cc
+  packet_settled P f (Some (Error result)) e = no_way cc
+  packet_settled P f (Some (Target bank)) e = no_way cc
+  packet_settled P f (Some (Firmware id major minor revision)) e = no_way cc
+  packet_settled P f (Some (Written number result write crc)) e =
+      split (λ (v : Verdict). v ≡ Settled → P (Some (Written number result write crc)))
       (eqb number sector && eqb result 0x06 && (eqb write 0x06 || eqb write 0x1D))
-      (λ t. split (λ (v : Verdict). v ≡ Settled → P (Written number result write crc)) (eqb crc (crc_of (sector_of image sector)))
+      (λ t. split (λ (v : Verdict). v ≡ Settled → P (Some (Written number result write crc))) (eqb crc (crc_of (sector_of image sector)))
       (λ c _.
       let front = and_left (eqb number sector && eqb result 0x06) (eqb write 0x06 || eqb write 0x1D) t in
       f number result write crc
@@ -225,7 +226,7 @@ module _ (image : List ℕ) (sector : ℕ) where
       one (inr q) = inr (eqb-true write 0x1D q)
 
   pub settled_packet : (write : ℕ) → (write ≡ 0x06) ⊎ (write ≡ 0x1D)
-      → packet_verdict image sector (Written sector 0x06 write (crc_of (sector_of image sector))) ≡ Settled
+      → packet_verdict image sector (Some (Written sector 0x06 write (crc_of (sector_of image sector)))) ≡ Settled
   unfolding fields_awaited
   settled_packet write (inl e) = rw (e, eq-eqb sector sector refl, eq-eqb (crc_of (sector_of image sector)) (crc_of (sector_of image sector)) refl)
   settled_packet write (inr e) = rw (e, eq-eqb sector sector refl, eq-eqb (crc_of (sector_of image sector)) (crc_of (sector_of image sector)) refl)
@@ -233,14 +234,14 @@ module _ (image : List ℕ) (sector : ℕ) where
 -- ---- what stops the night
 
 -- a try is spent, or the night stops
-abbrev pub Spending : Name → Bool → Bank → List ℕ → ℕ → Response → Type 0
+abbrev pub Spending : Name → Bool → Bank → List ℕ → ℕ → Option Response → Type 0
 Spending name repeated bank image sector response = judge_of name repeated bank image sector response ≡ Spent
 
-abbrev pub Stopping : Why → Name → Bool → Bank → List ℕ → ℕ → Response → Type 0
+abbrev pub Stopping : Why → Name → Bool → Bank → List ℕ → ℕ → Option Response → Type 0
 Stopping why name repeated bank image sector response = judge_of name repeated bank image sector response ≡ Stops why
 
 -- one of the three
-module _ (name : Name) (repeated : Bool) (bank : Bank) (image : List ℕ) (sector : ℕ) (response : Response) where
+module _ (name : Name) (repeated : Bool) (bank : Bank) (image : List ℕ) (sector : ℕ) (response : Option Response) where
   pub spent_unsettled : Spending name repeated bank image sector response → Settling name repeated bank image sector response → ⊥
   spent_unsettled e f = let q : Spent ≡ Settled = sym e ∙ f in no_way cc
 
@@ -264,12 +265,12 @@ module _ (name : Name) (repeated : Bool) (bank : Bank) (image : List ℕ) (secto
       by Spent e = e
       by (Stops why) e = absurd (g why e)
 
-module _ (command : Command) (repeated : Bool) (response : Response) (why : Why) where
+module _ (command : Command) (repeated : Bool) (response : Option Response) (why : Why) where
   own_stopped : (declined : Verdict) → own_verdict command repeated declined response ≡ Stops why
-      → (response ≡ Plain command 0x15) × (repeated ≡ true) × (declined ≡ Stops why)
+      → (response ≡ Some (Plain command 0x15)) × (repeated ≡ true) × (declined ≡ Stops why)
   unfolding own_verdict
   own_stopped declined =
-      let Out : Type 0 = (response ≡ Plain command 0x15) × (repeated ≡ true) × (declined ≡ Stops why) in
+      let Out : Type 0 = (response ≡ Some (Plain command 0x15)) × (repeated ≡ true) × (declined ≡ Stops why) in
       let result : ℕ = own_result command response in
       split (λ (v : Verdict). v ≡ Stops why → Out) (eqb result 0x06)
       (λ _ e. no_way cc)
@@ -287,33 +288,33 @@ module _ (command : Command) (repeated : Bool) (response : Response) (why : Why)
 
   -- the write end, by 15 to a repeated one
   pub end_stopped : own_verdict command repeated (Stops Unknown) response ≡ Stops why
-      → (response ≡ Plain command 0x15) × (repeated ≡ true) × (Unknown ≡ why)
+      → (response ≡ Some (Plain command 0x15)) × (repeated ≡ true) × (Unknown ≡ why)
   end_stopped e =
       let o = own_stopped (Stops Unknown) e in
       let q : Stops Unknown ≡ Stops why = o.2 in
       let same : Unknown ≡ why = cc in
       (o.0, o.1, same)
 
-pub stopped_end : (command : Command) (repeated : Bool) (response : Response) → response ≡ Plain command 0x15 → repeated ≡ true
+pub stopped_end : (command : Command) (repeated : Bool) (response : Option Response) → response ≡ Some (Plain command 0x15) → repeated ≡ true
     → own_verdict command repeated (Stops Unknown) response ≡ Stops Unknown
 unfolding own_verdict
 stopped_end command repeated response e t = rw (own_result_lem command response 0x15 e, t)
 
-pub version_goes : (response : Response) (why : Why) → version_verdict response ≡ Stops why → ⊥
-version_goes Unreadable why e = no_way cc
-version_goes (Plain command result) why e = no_way cc
-version_goes (Error result) why e = no_way cc
-version_goes (Target bank) why e = no_way cc
-version_goes (Firmware id major minor revision) why e = no_way cc
-version_goes (Written sector response write crc) why e = no_way cc
+pub version_goes : (response : Option Response) (why : Why) → version_verdict response ≡ Stops why → ⊥
+version_goes None why e = no_way cc
+version_goes (Some (Plain command result)) why e = no_way cc
+version_goes (Some (Error result)) why e = no_way cc
+version_goes (Some (Target bank)) why e = no_way cc
+version_goes (Some (Firmware id major minor revision)) why e = no_way cc
+version_goes (Some (Written sector response write crc)) why e = no_way cc
 
-pub packet_goes : (image : List ℕ) (sector : ℕ) (response : Response) (why : Why) → packet_verdict image sector response ≡ Stops why → ⊥
-packet_goes image sector Unreadable why e = no_way cc
-packet_goes image sector (Plain command result) why e = no_way cc
-packet_goes image sector (Error result) why e = no_way cc
-packet_goes image sector (Target bank) why e = no_way cc
-packet_goes image sector (Firmware id major minor revision) why e = no_way cc
-packet_goes image sector (Written number result write crc) why e =
+pub packet_goes : (image : List ℕ) (sector : ℕ) (response : Option Response) (why : Why) → packet_verdict image sector response ≡ Stops why → ⊥
+packet_goes image sector None why e = no_way cc
+packet_goes image sector (Some (Plain command result)) why e = no_way cc
+packet_goes image sector (Some (Error result)) why e = no_way cc
+packet_goes image sector (Some (Target bank)) why e = no_way cc
+packet_goes image sector (Some (Firmware id major minor revision)) why e = no_way cc
+packet_goes image sector (Some (Written number result write crc)) why e =
     split (λ (v : Verdict). v ≡ Stops why → ⊥) (fields_awaited sector number result write)
     (λ _. split (λ (v : Verdict). v ≡ Stops why → ⊥) (eqb crc (crc_of (sector_of image sector))) (λ _ q. no_way cc) (λ _ q. no_way cc))
     (λ _ q. no_way cc)
@@ -326,20 +327,20 @@ other_bank Zero One e = refl
 other_bank One Zero e = refl
 other_bank One One e = absurd (false≢true (sym e))
 
-pub bank_stopped : (bank : Bank) (response : Response) (why : Why) → bank_verdict bank response ≡ Stops why
-    → (response ≡ Target (other_of bank)) × (WrongBank ≡ why)
-bank_stopped bank Unreadable why e = no_way cc
-bank_stopped bank (Plain command result) why e = no_way cc
-bank_stopped bank (Error result) why e = no_way cc
-bank_stopped bank (Target target) why e =
-    split (λ (v : Verdict). v ≡ Stops why → (Target target ≡ Target (other_of bank)) × (WrongBank ≡ why)) (eqb (bank_number target) (bank_number bank))
+pub bank_stopped : (bank : Bank) (response : Option Response) (why : Why) → bank_verdict bank response ≡ Stops why
+    → (response ≡ Some (Target (other_of bank))) × (WrongBank ≡ why)
+bank_stopped bank None why e = no_way cc
+bank_stopped bank (Some (Plain command result)) why e = no_way cc
+bank_stopped bank (Some (Error result)) why e = no_way cc
+bank_stopped bank (Some (Target target)) why e =
+    split (λ (v : Verdict). v ≡ Stops why → (Some (Target target) ≡ Some (Target (other_of bank))) × (WrongBank ≡ why)) (eqb (bank_number target) (bank_number bank))
     (λ _ q. no_way cc)
-    (λ f q. let same : WrongBank ≡ why = cc in (ap Target (other_bank target bank f), same))
+    (λ f q. let same : WrongBank ≡ why = cc in (ap (λ (x : Bank). Some (Target x)) (other_bank target bank f), same))
     e
-bank_stopped bank (Firmware id major minor revision) why e = no_way cc
-bank_stopped bank (Written sector response write crc) why e = no_way cc
+bank_stopped bank (Some (Firmware id major minor revision)) why e = no_way cc
+bank_stopped bank (Some (Written sector response write crc)) why e = no_way cc
 
-pub stopped_bank : (bank : Bank) → bank_verdict bank (Target (other_of bank)) ≡ Stops WrongBank
+pub stopped_bank : (bank : Bank) → bank_verdict bank (Some (Target (other_of bank))) ≡ Stops WrongBank
 stopped_bank Zero = refl
 stopped_bank One = refl
 
@@ -350,7 +351,7 @@ pub data Moved (count tries : ℕ) (name : Name) (gone : ℕ) (settling : Type 0
   again : (settling → ⊥) → gone < tries → Moved count tries name gone settling (At name (gone + 1))
   up : {why : Why} → (settling → ⊥) → Moved count tries name gone settling (GaveUp name why)
 
-module _ (name : Name) (gone : ℕ) (bank : Bank) (image : List ℕ) (sector : ℕ) (response : Response) where
+module _ (name : Name) (gone : ℕ) (bank : Bank) (image : List ℕ) (sector : ℕ) (response : Option Response) where
   pub moved_by : (count tries : ℕ)
       → Moved count tries name gone (Settling name (leb 2 gone) bank image sector response)
       (moved_of name gone tries count (judge_of name (leb 2 gone) bank image sector response))
@@ -373,7 +374,7 @@ pub data Stepped (count tries : ℕ) (name : Name) (gone : ℕ) (settling spendi
   went_up : spending → tries ≤ gone → Stepped count tries name gone settling spending stopping (GaveUp name Tries)
   stopped_up : {why : Why} → stopping why → Stepped count tries name gone settling spending stopping (GaveUp name why)
 
-module _ (name : Name) (gone : ℕ) (bank : Bank) (image : List ℕ) (sector : ℕ) (response : Response) where
+module _ (name : Name) (gone : ℕ) (bank : Bank) (image : List ℕ) (sector : ℕ) (response : Option Response) where
   pub stepped_by : (count tries : ℕ)
       → Stepped count tries name gone (Settling name (leb 2 gone) bank image sector response) (Spending name (leb 2 gone) bank image sector response)
       (λ (why : Why). Stopping why name (leb 2 gone) bank image sector response)
@@ -395,11 +396,11 @@ module _ (name : Name) (gone : ℕ) (bank : Bank) (image : List ℕ) (sector : �
 
 -- silence spends a try, and the request goes out again while one is left
 module _ (repeated : Bool) where
-  own_silence : (command : Command) (declined : Verdict) → own_verdict command repeated declined Unreadable ≡ Spent
+  own_silence : (command : Command) (declined : Verdict) → own_verdict command repeated declined None ≡ Spent
   unfolding own_verdict
   own_silence command declined = rw (and_false repeated)
 
-  pub silence_judged : (name : Name) (bank : Bank) (image : List ℕ) (sector : ℕ) → Spending name repeated bank image sector Unreadable
+  pub silence_judged : (name : Name) (bank : Bank) (image : List ℕ) (sector : ℕ) → Spending name repeated bank image sector None
   silence_judged ModeStart bank image sector = own_silence command.ModeStart Settled
   silence_judged VersionInfo bank image sector = refl
   silence_judged BankInfo bank image sector = refl
@@ -409,11 +410,11 @@ module _ (repeated : Bool) where
   silence_judged ModeEnd bank image sector = own_silence command.ModeEnd Settled
 
   pub silence_repeats : (name : Name) (gone tries count : ℕ) (bank : Bank) (image : List ℕ) (sector : ℕ) → gone < tries
-      → moved_of name gone tries count (judge_of name repeated bank image sector Unreadable) ≡ At name (gone + 1)
+      → moved_of name gone tries count (judge_of name repeated bank image sector None) ≡ At name (gone + 1)
   silence_repeats name gone tries count bank image sector h =
       ap (moved_of name gone tries count) (silence_judged name bank image sector) ∙ sym (goes_again name gone tries h)
 
-  pub silence_spends : (name : Name) (bank : Bank) (image : List ℕ) (sector : ℕ) → Settling name repeated bank image sector Unreadable → ⊥
+  pub silence_spends : (name : Name) (bank : Bank) (image : List ℕ) (sector : ℕ) → Settling name repeated bank image sector None → ⊥
   silence_spends name bank image sector e = let q : Spent ≡ Settled = sym (silence_judged name bank image sector) ∙ e in no_way cc
 
 -- ---- a record that may be any
@@ -423,7 +424,7 @@ pub record Kept (night : Night) (image before : List ℕ) (c : Called) : Type 0 
   pub same : c.night ≡ night
   pub buffer : buffer_by image before c ≡ before
 
-module _ (night : Night) (response : Response) (image before : List ℕ) where
+module _ (night : Night) (response : Option Response) (image before : List ℕ) where
   abbrev Refusing : Called → Type 0
   Refusing c = (next_number c.next ≡ 0 → ⊥) → Kept night image before c
 
@@ -480,7 +481,7 @@ module _ (name : Name) (size : ℕ) where
         subst (λ (t : Bool). Other (Ok (next_of image bank n (cond t (At name (gone + 1)) (GaveUp name Tries))))) (sym (le-ltb gone tries h)) (λ r. no_way cc) q
     moved_other gone tries count (Stops why) h q = no_way cc
 
-  pub not_again : (night : Night) (response : Response) (image : List ℕ) (room gone : ℕ) → night.stand ≡ At name gone → night.tries ≤ gone
+  pub not_again : (night : Night) (response : Option Response) (image : List ℕ) (room gone : ℕ) → night.stand ≡ At name gone → night.tries ≤ gone
       → (step_of night response image room).next ≡ Ok (next.Send name size) → ⊥
   unfolding at_hand_of
   not_again night response image room gone e h q =
@@ -499,7 +500,7 @@ refusal_counts BadLength e = omega arith
 refusal_counts BadTries e = omega arith
 refusal_counts NoPacket e = omega arith
 
-module _ (night : Night) (response : Response) (image : List ℕ) (size : ℕ) (name : Name) (gone : ℕ) where
+module _ (night : Night) (response : Option Response) (image : List ℕ) (size : ℕ) (name : Name) (gone : ℕ) where
   spent_up : (place : Place) → night.tries ≤ gone → Spending name (leb 2 gone) night.bank image place.sector response
       → judged night name gone response image (Ok place) ≡ called (standing (GaveUp name Tries) night) (Ok (next.GaveUp name Tries))
   spent_up place h e =
@@ -523,7 +524,7 @@ module _ (night : Night) (response : Response) (image : List ℕ) (size : ℕ) (
 
 -- ---- the refusals, in the paper's numbers
 
-module _ (night : Night) (response : Response) (image before : List ℕ) where
+module _ (night : Night) (response : Option Response) (image before : List ℕ) where
   pub step_says_lem : next_number (step_of night response image (length before)).next ≡ step_says image night (length before) night.stand
   step_says_lem = by night.stand refl
     where

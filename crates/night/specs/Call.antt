@@ -1,11 +1,10 @@
 -- The calls of a night (02 §4, "takes an event (a response, or silence) and gives the next request").
 -- Assumes nothing.
-use Rattle.std.specs.Prelude.{◌≡◌, Bool, not, cond, List, ℕ, leb, ltb, length, Result, Ok, Err}
+use Rattle.std.specs.Prelude.{◌≡◌, Bool, not, cond, List, ℕ, leb, ltb, length, Result, Ok, Err, Option, None}
 use Rattle.buffer.specs.Place.{front_of}
 use Rattle.layout.specs.declared.Bank.{Bank}
 use Rattle.layout.specs.Layout.{good_n}
 use Rattle.response.specs.declared.read.Response.{Response}
-use Rattle.response.specs.declared.read.Response.TheVariants.{Unreadable}
 use Rattle.response.specs.Response.{response_of}
 use Rattle.sender.specs.declared.made.Place.{Place}
 use Rattle.sender.specs.declared.made.Refusal.{Refusal as Unmade}
@@ -30,9 +29,9 @@ pub data Event : Type 0 where
   Silence : Event
 
 -- silence says as little as a response that cannot be read
-abbrev pub heard_in : Event → Response
+abbrev pub heard_in : Event → Option Response
 heard_in (Heard datagram) = response_of datagram
-heard_in Silence = Unreadable
+heard_in Silence = None
 
 -- the packet that an image has to have, by where the record stands
 abbrev pub stands_at : Stand → ℕ
@@ -63,23 +62,23 @@ unfoldable pub over_of : Night → ℕ → Next → List ℕ → ℕ → Called
 over_of night p end image size = end_told night end (looked_of image night.n night.tries size p)
 
 -- the event is judged, and the record moves; "repeated" means gone out at least twice
-abbrev pub judged : Night → Name → ℕ → Response → List ℕ → Result Place Refusal → Called
+abbrev pub judged : Night → Name → ℕ → Option Response → List ℕ → Result Place Refusal → Called
 judged night name gone response image (Err why) = called night (Err why)
 judged night name gone response image (Ok place) =
     gone_on image (standing (moved_of name gone night.tries place.count (judge_of name (leb 2 gone) night.bank image place.sector response)) night)
 
-unfoldable pub at_hand_of : Night → Name → ℕ → Response → List ℕ → ℕ → Called
+unfoldable pub at_hand_of : Night → Name → ℕ → Option Response → List ℕ → ℕ → Called
 at_hand_of night name gone response image size =
     judged night name gone response image (looked_of image night.n night.tries size (number_of name))
 
 -- a record whose start was refused is told so, whatever is lent
-abbrev pub by_stand : Night → Response → List ℕ → ℕ → Stand → Called
+abbrev pub by_stand : Night → Option Response → List ℕ → ℕ → Stand → Called
 by_stand night response image size stand.NotBegun = called night (Ok NotBegun)
 by_stand night response image size (stand.At name gone) = at_hand_of night name gone response image size
 by_stand night response image size stand.Finished = over_of night 0 Finished image size
 by_stand night response image size (stand.GaveUp name why) = over_of night (number_of name) (GaveUp name why) image size
 
-abbrev pub step_of : Night → Response → List ℕ → ℕ → Called
+abbrev pub step_of : Night → Option Response → List ℕ → ℕ → Called
 step_of night response image size = by_stand night response image size night.stand
 
 abbrev pub night_of : Bank → ℕ → ℕ → Stand → Night
@@ -134,11 +133,11 @@ pub record IsGoesOn (night : Night) (image before : List ℕ) (r : Called) (afte
   pub answered : r ≡ gone_on image night
   pub stands : after ≡ buffer_by image before (gone_on image night)
 
-pub record IsAtHand (night : Night) (name : Name) (gone : ℕ) (response : Response) (image before : List ℕ) (r : Called) (after : List ℕ) : Type 0 where
+pub record IsAtHand (night : Night) (name : Name) (gone : ℕ) (response : Option Response) (image before : List ℕ) (r : Called) (after : List ℕ) : Type 0 where
   pub answered : r ≡ at_hand_of night name gone response image (length before)
   pub stands : after ≡ buffer_by image before (at_hand_of night name gone response image (length before))
 
-pub record IsStep (night : Night) (response : Response) (image before : List ℕ) (r : Called) (after : List ℕ) : Type 0 where
+pub record IsStep (night : Night) (response : Option Response) (image before : List ℕ) (r : Called) (after : List ℕ) : Type 0 where
   pub answered : r ≡ step_of night response image (length before)
   pub says : next_number r.next ≡ step_says image night (length before) night.stand
   pub stands : after ≡ buffer_by image before (step_of night response image (length before))

@@ -50,7 +50,7 @@ fn at_hand(
     night: Night,
     name: Name,
     gone: usize,
-    response: Response,
+    response: Option<Response>,
     image: &[u8],
     buffer: &mut [u8],
 ) -> Called
@@ -73,7 +73,7 @@ fn at_hand(
     }
 }
 
-fn step(night: Night, response: Response, image: &[u8], buffer: &mut [u8]) -> Called
+fn step(night: Night, response: Option<Response>, image: &[u8], buffer: &mut [u8]) -> Called
     ensures { IsStep night response image.now buffer.old result buffer.new }
 {
     let stand = night.stand;
@@ -135,5 +135,5 @@ pub fn heard(night: Night, datagram: &[u8], image: &[u8], buffer: &mut [u8]) -> 
 pub fn silent(night: Night, image: &[u8], buffer: &mut [u8]) -> Called
     ensures { IsSilent night image.now buffer.old result buffer.new }
 {
-    step(night, Response::Unreadable, image, buffer)
+    step(night, None, image, buffer)
 }

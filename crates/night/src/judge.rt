@@ -19,34 +19,22 @@ pub(crate) enum Verdict {
 }
 
 // The result in this command's own response; 0, which is none, in any other.
-fn own_result(command: Command, response: Response) -> u8
+fn own_result(command: Command, response: Option<Response>) -> u8
     ensures { result ≡ own_result command response }
 {
     match response {
-        Response::Unreadable => 0,
-        Response::Plain {
-            command: other,
-            result,
-        } => { if other == command { result } else { 0 } }
-        Response::Error { result: _ } => 0,
-        Response::Target { bank: _ } => 0,
-        Response::Firmware {
-            id: _,
-            major: _,
-            minor: _,
-            revision: _,
-        } => 0,
-        Response::Written {
-            sector: _,
-            response: _,
-            write: _,
-            crc: _,
-        } => 0,
+        Some(
+            Response::Plain {
+                command: other,
+                result,
+            },
+        ) if other == command => result,
+        _ => 0,
     }
 }
 
 // A result alone is awaited; what 15 comes to where the request was repeated is given.
-fn own(command: Command, repeated: bool, declined: Verdict, response: Response) -> Verdict
+fn own(command: Command, repeated: bool, declined: Verdict, response: Option<Response>) -> Verdict
     ensures { result ≡ own_verdict command repeated declined response }
 {
     let result = own_result(command, response);
@@ -60,61 +48,27 @@ fn own(command: Command, repeated: bool, declined: Verdict, response: Response) 
 }
 
 // Any ID and version will do.
-fn version(response: Response) -> Verdict
+fn version(response: Option<Response>) -> Verdict
     ensures { result ≡ version_verdict response }
 {
     match response {
-        Response::Unreadable => Verdict::Spent,
-        Response::Plain {
-            command: _,
-            result: _,
-        } => Verdict::Spent,
-        Response::Error { result: _ } => Verdict::Spent,
-        Response::Target { bank: _ } => Verdict::Spent,
-        Response::Firmware {
-            id: _,
-            major: _,
-            minor: _,
-            revision: _,
-        } => Verdict::Settled,
-        Response::Written {
-            sector: _,
-            response: _,
-            write: _,
-            crc: _,
-        } => Verdict::Spent,
+        Some(Response::Firmware { .. }) => Verdict::Settled,
+        _ => Verdict::Spent,
     }
 }
 
-fn bank(ours: Bank, response: Response) -> Verdict
+fn bank(ours: Bank, response: Option<Response>) -> Verdict
     ensures { result ≡ bank_verdict ours response }
 {
     match response {
-        Response::Unreadable => Verdict::Spent,
-        Response::Plain {
-            command: _,
-            result: _,
-        } => Verdict::Spent,
-        Response::Error { result: _ } => Verdict::Spent,
-        Response::Target { bank: target } => {
+        Some(Response::Target { bank: target }) => {
             if target == ours {
                 Verdict::Settled
             } else {
                 Verdict::Stops(Why::WrongBank)
             }
         }
-        Response::Firmware {
-            id: _,
-            major: _,
-            minor: _,
-            revision: _,
-        } => Verdict::Spent,
-        Response::Written {
-            sector: _,
-            response: _,
-            write: _,
-            crc: _,
-        } => Verdict::Spent,
+        _ => Verdict::Spent,
     }
 }
 
@@ -140,7 +94,7 @@ fn sector_crc(image: &[u8], sector: usize) -> u32
 fn written(image: &[u8], sector: usize, number: u16, res: u8, write: u8, crc: u32) -> Verdict
     requires sector_value { good_n sector ≡ true }
     requires sector_size_in_bounds { sector * sector_size ≤ length image.now }
-    ensures { result ≡ packet_verdict image.now sector (Response.Written number res write crc) }
+    ensures { result ≡ packet_verdict image.now sector (Some (Response.Written number res write crc)) }
 {
     if !fields_awaited(sector, number, res, write) {
         return Verdict::Spent;
@@ -151,31 +105,21 @@ fn written(image: &[u8], sector: usize, number: u16, res: u8, write: u8, crc: u3
     Verdict::Spent
 }
 
-fn packet(image: &[u8], sector: usize, response: Response) -> Verdict
+fn packet(image: &[u8], sector: usize, response: Option<Response>) -> Verdict
     requires sector_value { good_n sector ≡ true }
     requires sector_size_in_bounds { sector * sector_size ≤ length image.now }
     ensures { result ≡ packet_verdict image.now sector response }
 {
     match response {
-        Response::Unreadable => Verdict::Spent,
-        Response::Plain {
-            command: _,
-            result: _,
-        } => Verdict::Spent,
-        Response::Error { result: _ } => Verdict::Spent,
-        Response::Target { bank: _ } => Verdict::Spent,
-        Response::Firmware {
-            id: _,
-            major: _,
-            minor: _,
-            revision: _,
-        } => Verdict::Spent,
-        Response::Written {
-            sector: number,
-            response: result,
-            write,
-            crc,
-        } => written(image, sector, number, result, write, crc),
+        Some(
+            Response::Written {
+                sector: number,
+                response: result,
+                write,
+                crc,
+            },
+        ) => written(image, sector, number, result, write, crc),
+        _ => Verdict::Spent,
     }
 }
 
@@ -186,7 +130,7 @@ pub(crate) fn judge(
     ours: Bank,
     image: &[u8],
     sector: usize,
-    response: Response,
+    response: Option<Response>,
 ) -> Verdict
     requires sector_value { good_n sector ≡ true }
     requires sector_size_in_bounds { sector * sector_size ≤ length image.now }

@@ -1,5 +1,6 @@
 -- A response as a client writes it is read back as it was written.
 -- Assumes nothing.
+use Rattle.std.specs.Prelude.{Some}
 use mathlib.Core.Path.{◌≡◌, refl, sym, ap, ap₂, ◌∙◌}
 use mathlib.Core.Bool.{Bool, true, false}
 use mathlib.Core.List.{List, [], ◌∷◌, ◌++◌}
@@ -26,7 +27,7 @@ use Rattle.response.specs.Response.{
   may_carry,
   added_of,
   accepted_of,
-  target_of,
+  bank_named,
   own_of,
   control_of,
   repeats_of,
@@ -66,7 +67,7 @@ write_read sector bytes s l =
     ∙ write_in (write_frame sector bytes End) sector (length bytes) (write_back sector bytes End s l)
 
 -- a command that adds nothing gives its result alone
-alone : (command : Command) (parameters : List ℕ) → added_bytes command ≡ 0 → Plain command 0x06 ≡ accepted_of command parameters
+alone : (command : Command) (parameters : List ℕ) → added_bytes command ≡ 0 → Some (Plain command 0x06) ≡ accepted_of command parameters
 alone ModeStart parameters z = refl
 alone BankInfo parameters z = absurd (omega arith)
 alone VersionInfo parameters z = absurd (omega arith)
@@ -76,24 +77,24 @@ alone ModeEnd parameters z = refl
 
 -- a command and a result that add nothing
 pub plain_back : (command : Command) (result : ℕ) → may_carry false result ≡ true → added_of command result ≡ 0
-    → Plain command result ≡ response_of (control_frame (response_code command) (result ∷ []))
+    → Some (Plain command result) ≡ response_of (control_frame (response_code command) (result ∷ []))
 plain_back command result m z = by (eqb result 0x06) refl ∙ own_read command (result ∷ [])
   where
-    by : (t : Bool) → eqb result 0x06 ≡ t → Plain command result ≡ own_of command (result ∷ [])
+    by : (t : Bool) → eqb result 0x06 ≡ t → Some (Plain command result) ≡ own_of command (result ∷ [])
     by true t =
-        ap (Plain command) (eqb-true result 0x06 t)
+        ap (λ (x : ℕ). Some (Plain command x)) (eqb-true result 0x06 t)
         ∙ alone command (result ∷ []) (adds_some command result t ∙ z)
         ∙ is-accepted command (result ∷ []) result refl m (ap (λ (x : ℕ). x + 1) (sym z)) t
     by false f = is_plain command (result ∷ []) result refl m (ap (λ (x : ℕ). x + 1) (sym z)) f
 
 -- the error response
-pub error_back : (result : ℕ) → may_carry true result ≡ true → Error result ≡ response_of (control_frame error_code (result ∷ []))
+pub error_back : (result : ℕ) → may_carry true result ≡ true → Some (Error result) ≡ response_of (control_frame error_code (result ∷ []))
 error_back result m =
     is_error (result ∷ []) refl m ∙ by_error error_code (result ∷ []) refl ∙ control_read error_code (result ∷ [])
 
 -- bank information with 06
-pub bank_back : (bank : Bank) → Target bank ≡ response_of (control_frame (response_code BankInfo) (0x06 ∷ bank_number bank ∷ []))
-unfolding may_carry target_of
+pub bank_back : (bank : Bank) → Some (Target bank) ≡ response_of (control_frame (response_code BankInfo) (0x06 ∷ bank_number bank ∷ []))
+unfolding may_carry bank_named
 bank_back Zero =
     is-accepted BankInfo (0x06 ∷ 0 ∷ []) 0x06 refl refl (ap (λ (x : ℕ). x + 1) (adds_some BankInfo 0x06 refl)) refl
     ∙ own_read BankInfo (0x06 ∷ 0 ∷ [])
@@ -112,29 +113,29 @@ number_last w n a at h e =
 
 -- version with 06, the ID written out
 spelt : (x y major minor revision : ℕ) → revision < 4294967296
-    → Firmware (x * 256 + y) major minor revision
+    → Some (Firmware (x * 256 + y) major minor revision)
     ≡ response_of (control_frame (response_code VersionInfo) (0x06 ∷ x ∷ y ∷ major ∷ minor ∷ bytes_of 4 revision))
 unfolding may_carry
 spelt x y major minor revision r =
     let ps : List ℕ = 0x06 ∷ x ∷ y ∷ major ∷ minor ∷ bytes_of 4 revision in
     let l : length ps ≡ 9 = omega (arith, length_bytes 4 revision) in
-    ap₂ (λ (i n : ℕ). Firmware i major minor n) (sym (number_two ps 1 (omega arith)))
+    ap₂ (λ (i n : ℕ). Some (Firmware i major minor n)) (sym (number_two ps 1 (omega arith)))
     (sym (number_last 4 revision (0x06 ∷ x ∷ y ∷ major ∷ minor ∷ []) 5 r refl))
     ∙ is-accepted VersionInfo ps 0x06 refl refl (l ∙ ap (λ (n : ℕ). n + 1) (adds_some VersionInfo 0x06 refl)) refl
     ∙ own_read VersionInfo ps
 
 pub version_back : (id major minor revision : ℕ) → id < 65536 → revision < 4294967296
-    → Firmware id major minor revision
+    → Some (Firmware id major minor revision)
     ≡ response_of (control_frame (response_code VersionInfo) (0x06 ∷ bytes_of 2 id ++ major ∷ minor ∷ bytes_of 4 revision))
 version_back id major minor revision h r =
     let e : id ≡ id / 256 % 256 * 256 + id % 256 = omega arith in
     rw (bytes_two id)
-    (ap (λ (i : ℕ). Firmware i major minor revision) e ∙ spelt (id / 256 % 256) (id % 256) major minor revision r)
+    (ap (λ (i : ℕ). Some (Firmware i major minor revision)) e ∙ spelt (id / 256 % 256) (id % 256) major minor revision r)
 
 -- a write response that keeps the field rules
 pub written_back : (sector response write crc : ℕ) → sector < 65536 → crc < 4294967296
     → may_carry false response ≡ true → may_carry false write ≡ true → repeats_of response write ≡ true → crc_fits response write crc ≡ true
-    → Written sector response write crc ≡ response_of (write_frame sector (response ∷ write ∷ bytes_of 4 crc) End)
+    → Some (Written sector response write crc) ≡ response_of (write_frame sector (response ∷ write ∷ bytes_of 4 crc) End)
 written_back sector response write crc h r m w p q =
     let bytes : List ℕ = response ∷ write ∷ bytes_of 4 crc in
     let l : length bytes ≡ 6 = omega (arith, length_bytes 4 crc) in

@@ -1,6 +1,6 @@
 -- Number 6 is said exactly when one of the listed causes holds, and else the result that stands first.
 -- Assumes nothing.
-use Rattle.std.proofs.Common.{Option, Some, None}
+use Rattle.std.proofs.Common.{Option, Some, None, option_map}
 use mathlib.Core.Path.{◌≡◌, refl, sym, ap, ◌∙◌}
 use mathlib.Core.Bool.{Bool, true, false, not, ◌&&◌, ◌||◌, cond, or-false}
 use mathlib.Core.List.{List}
@@ -20,13 +20,15 @@ use Rattle.frame.specs.declared.read.Footer.TheVariants.{End, Continued}
 use Rattle.frame.specs.declared.read.Frame.{Frame}
 use Rattle.frame.specs.declared.read.Frame.TheVariants.{Control, Write}
 use Rattle.layout.specs.Said.{number, result}
+use Rattle.layout.specs.declared.Bank.{Bank}
 use Rattle.layout.specs.declared.Bank.TheVariants.{Zero, One}
 use Rattle.response.specs.declared.read.Response.{Response}
-use Rattle.response.specs.declared.read.Response.TheVariants.{Unreadable, Plain, Error, Target, Firmware, Written}
+use Rattle.response.specs.declared.read.Response.TheVariants.{Plain, Error, Target, Written}
 use Rattle.response.specs.Response.{
   in_table9,
   may_carry,
   added_of,
+  bank_named,
   target_of,
   accepted_of,
   own_of,
@@ -42,21 +44,17 @@ use Rattle.response.specs.Response.{
 use Rattle.response.specs.Said.{response_said, result_in, response_says}
 use Rattle.response.specs.Six.{unknown, added_by, bank_exceeds, rules_broken, six_in, six_of}
 
-abbrev pub unreadable : Response → Bool
-unreadable Unreadable = true
-unreadable (Plain command r) = false
-unreadable (Error r) = false
-unreadable (Target bank) = false
-unreadable (Firmware id major minor revision) = false
-unreadable (Written sector response write crc) = false
+abbrev pub unreadable : Option Response → Bool
+unreadable None = true
+unreadable (Some response) = false
 
 -- ---- when it is 6
 
 target_six : (k : ℕ) → unreadable (target_of k) ≡ ltb 1 k
-unfolding target_of
+unfolding bank_named
 target_six k = by (eqb k 0) (eqb k 1) refl refl
   where
-    by : (a b : Bool) → eqb k 0 ≡ a → eqb k 1 ≡ b → unreadable (cond a (Target Zero) (cond b (Target One) Unreadable)) ≡ ltb 1 k
+    by : (a b : Bool) → eqb k 0 ≡ a → eqb k 1 ≡ b → unreadable (option_map Target (cond a (Some Zero) (cond b (Some One) None))) ≡ ltb 1 k
     by true b p q = sym (le-ltb 1 k (omega (arith, eqb-true k 0 p)))
     by false true p q = sym (le-ltb 1 k (omega (arith, eqb-true k 1 q)))
     by false false p q = sym (lt-ltb 1 k (above k (eqb-false k 0 p) (eqb-false k 1 q)))
@@ -65,8 +63,8 @@ target_six k = by (eqb k 0) (eqb k 1) refl refl
         above n f g = omega arith
 
 -- the row of tests of a command's own response
-tests : (m l s bank : Bool) (accepted : Response) (command : Command) (r : ℕ) → unreadable accepted ≡ bank
-    → unreadable (cond m (cond l (cond s accepted (Plain command r)) Unreadable) Unreadable) ≡ (not m || not l || (s && bank))
+tests : (m l s bank : Bool) (accepted : Option Response) (command : Command) (r : ℕ) → unreadable accepted ≡ bank
+    → unreadable (cond m (cond l (cond s accepted (Some (Plain command r))) None) None) ≡ (not m || not l || (s && bank))
 tests false l s bank accepted command r e = refl
 tests true false s bank accepted command r e = refl
 tests true true true bank accepted command r e = e
@@ -105,7 +103,7 @@ module _ (parameters : List ℕ) where
   unfolding error_of
   error_six = by (may_carry true (byte_at parameters 0)) (eqb (length parameters) 1)
     where
-      by : (m l : Bool) → unreadable (cond m (cond l (Error (byte_at parameters 0)) Unreadable) Unreadable) ≡ (not m || not l)
+      by : (m l : Bool) → unreadable (cond m (cond l (Some (Error (byte_at parameters 0))) None) None) ≡ (not m || not l)
       by false l = refl
       by true false = refl
       by true true = refl
@@ -137,8 +135,8 @@ module _ (parameters : List ℕ) where
           (sym (response_back code command (sym a)))
 
 -- the row of tests of a write response
-rules : (six results repeated crc : Bool) (written : Response) → unreadable written ≡ false
-    → unreadable (cond six (cond results (cond (repeated && crc) written Unreadable) Unreadable) Unreadable)
+rules : (six results repeated crc : Bool) (written : Option Response) → unreadable written ≡ false
+    → unreadable (cond six (cond results (cond (repeated && crc) written None) None) None)
     ≡ (not results || false || false || (not six || false || not repeated || not crc))
 rules false true repeated crc written e = refl
 rules false false repeated crc written e = refl
@@ -192,7 +190,7 @@ six_in_lem d (Some (Write sector m End)) =
     let write : ℕ = byte_at (data_in d) 1 in
     let crc : ℕ = number_at 4 (data_in d) 2 in
     rules (eqb (length (data_in d)) 6) (may_carry false response && may_carry false write) (repeats_of response write)
-    (crc_fits response write crc) (Written sector response write crc) refl
+    (crc_fits response write crc) (Some (Written sector response write crc)) refl
     ∙ ap (λ (b : Bool). b || false || false || rules_broken d (Some (Write sector m End))) (neither_carried response write)
 six_in_lem d (Some (Write sector m Continued)) =
     let response : ℕ = byte_at (data_in d) 0 in
@@ -207,16 +205,17 @@ six_exactly d = six_in_lem d (read_of d)
 -- ---- what is said
 
 -- number 6, or this result
-abbrev Says : ℕ → Response → Type 0
+abbrev Says : ℕ → Option Response → Type 0
 Says r response = response_said response ≡ cond (unreadable response) (number 6) (result r)
 
 module _ (parameters : List ℕ) where
   accepted_says : (command : Command) → byte_at parameters 0 ≡ 0x06 → Says (byte_at parameters 0) (accepted_of command parameters)
-  unfolding target_of
   accepted_says ModeStart e = ap result (sym e)
-  accepted_says BankInfo e =
-      split (Says (byte_at parameters 0)) (eqb (byte_at parameters 1) 0) (λ _. ap result (sym e))
-      (λ _. split (Says (byte_at parameters 0)) (eqb (byte_at parameters 1) 1) (λ _. ap result (sym e)) (λ _. refl))
+  accepted_says BankInfo e = by (bank_named (byte_at parameters 1))
+    where
+      by : (named : Option Bank) → Says (byte_at parameters 0) (option_map Target named)
+      by None = refl
+      by (Some bank) = ap result (sym e)
   accepted_says VersionInfo e = ap result (sym e)
   accepted_says WriteStart e = ap result (sym e)
   accepted_says WriteEnd e = ap result (sym e)

@@ -7,20 +7,20 @@ use Rattle.frame.specs.declared.read.Frame.{Frame}
 use Rattle.frame.specs.declared.read.Frame.TheVariants.{Control, Write}
 use Rattle.layout.specs.Said.{Said, number, result, code}
 use Rattle.response.specs.declared.read.Response.{Response}
-use Rattle.response.specs.declared.read.Response.TheVariants.{Unreadable, Plain, Error, Target, Firmware, Written}
+use Rattle.response.specs.declared.read.Response.TheVariants.{Plain, Error, Target, Firmware, Written}
 use Rattle.response.specs.Response.{response_of}
 use Rattle.response.specs.Six.{six_of}
 
 -- number 6, or the response's result; what 06 adds and what a write response adds stand beside it
-abbrev pub response_said : Response → Said
-response_said Unreadable = number 6
-response_said (Plain command r) = result r
-response_said (Error r) = result r
-response_said (Target bank) = result 0x06
-response_said (Firmware id major minor revision) = result 0x06
-response_said (Written sector response write crc) = result response
+abbrev pub response_said : Option Response → Said
+response_said None = number 6
+response_said (Some (Plain command r)) = result r
+response_said (Some (Error r)) = result r
+response_said (Some (Target bank)) = result 0x06
+response_said (Some (Firmware id major minor revision)) = result 0x06
+response_said (Some (Written sector response write crc)) = result response
 
-abbrev pub IsResponseNumber : Response → ℕ → Type 0
+abbrev pub IsResponseNumber : Option Response → ℕ → Type 0
 IsResponseNumber response r = r ≡ code (response_said response)
 
 -- the result stands first
@@ -33,6 +33,6 @@ result_in d (Some (Write sector m footer)) = byte_at (data_in d) 0
 abbrev pub response_says : List ℕ → Said
 response_says d = cond (six_of d) (number 6) (result (result_in d (read_of d)))
 
-pub record IsResponse (d : List ℕ) (r : Response) : Type 0 where
+pub record IsResponse (d : List ℕ) (r : Option Response) : Type 0 where
   pub answered : r ≡ response_of d
   pub says : response_said r ≡ response_says d

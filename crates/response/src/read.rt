@@ -1,16 +1,15 @@
 // What a datagram that comes back says.
 ghost use Rattle.std.specs.Prelude.{◌≡◌, ◌+◌, length};
-ghost use Rattle.response.specs.Response.{in_table9, may_carry, added_of, target_of, accepted_of, own_of, error_of, control_of};
+ghost use Rattle.response.specs.Response.{in_table9, may_carry, added_of, bank_named, accepted_of, own_of, error_of, control_of};
 ghost use Rattle.response.specs.Response.{repeats_of, stored_of, crc_fits, write_of};
 ghost use Rattle.response.specs.Said.{IsResponseNumber, IsResponse};
 
 use commands::Command;
 use frame::read::{Footer, Frame};
-use layout::{Bank, NoBank};
+use layout::Bank;
 
 #[derive(Clone, Copy)]
 pub enum Response {
-    Unreadable,
     // A command's own response, the result alone.
     Plain {
         command: Command,
@@ -41,39 +40,23 @@ pub enum Response {
 }
 
 // Its result, or number 6, which is also what 06 gives: that a response is unreadable, its case tells.
-pub fn response_number(response: Response) -> u8
+pub fn response_number(response: Option<Response>) -> u8
     ensures { IsResponseNumber response result }
 {
     match response {
-        Response::Unreadable => 6,
-        Response::Plain { command: _, result } => result,
-        Response::Error { result: said } => said,
-        Response::Target { bank: _ } => 0x06,
-        Response::Firmware {
-            id: _,
-            major: _,
-            minor: _,
-            revision: _,
-        } => 0x06,
-        Response::Written {
-            sector: _,
-            response,
-            write: _,
-            crc: _,
-        } => response,
+        None => 6,
+        Some(Response::Plain { result, .. }) => result,
+        Some(Response::Error { result: said }) => said,
+        Some(Response::Target { .. }) => 0x06,
+        Some(Response::Firmware { .. }) => 0x06,
+        Some(Response::Written { response, .. }) => response,
     }
 }
 
 fn in_table_9(res: u8) -> bool
     ensures { result ≡ in_table9 res }
 {
-    (res == 0x05)
-        | (res == 0x06)
-        | (res == 0x07)
-        | (res == 0x15)
-        | (res == 0x1C)
-        | (res == 0x1D)
-        | (res == 0x1E)
+    matches!(res, 0x05 | 0x06 | 0x07 | 0x15 | 0x1C | 0x1D | 0x1E)
 }
 
 // Whether a response may carry a result, the error response or another: 05 stands in the error response alone.
@@ -94,91 +77,77 @@ fn added(command: Command, res: u8) -> usize
 }
 
 // The bank that a number names.
-#[tactic(auto, unfolding(crate::specs::Response::target_of))]
-fn named(number: u8) -> Response
-    ensures { result ≡ target_of number }
+#[tactic(auto, unfolding(crate::specs::Response::bank_named))]
+fn named(number: u8) -> Option<Bank>
+    ensures { result ≡ bank_named number }
 {
-    match Bank::try_from(number) {
-        Ok(bank) => Response::Target { bank },
-        Err(NoBank) => Response::Unreadable,
-    }
+    Bank::try_from(number).ok()
 }
 
 // What stands behind the result 06, there being as many bytes as it asks for.
-fn accepted(command: Command, parameters: &[u8]) -> Response
+fn accepted(command: Command, parameters: &[u8]) -> Option<Response>
     requires { length parameters.now ≡ added_of command 0x06 + 1 }
     ensures { result ≡ accepted_of command parameters.now }
 {
-    match command {
-        Command::ModeStart => Response::Plain {
-            command,
-            result: 0x06,
+    let response = match command {
+        Command::BankInfo => Response::Target {
+            bank: named(parameters[1])?,
         },
-        Command::BankInfo => named(parameters[1]),
         Command::VersionInfo => Response::Firmware {
             id: buffer::number::number2(parameters, 1),
             major: parameters[3],
             minor: parameters[4],
             revision: buffer::number::number4(parameters, 5),
         },
-        Command::WriteStart => Response::Plain {
-            command,
-            result: 0x06,
-        },
-        Command::WriteEnd => Response::Plain {
-            command,
-            result: 0x06,
-        },
-        Command::ModeEnd => Response::Plain {
-            command,
-            result: 0x06,
-        },
-    }
+        Command::ModeStart | Command::WriteStart | Command::WriteEnd | Command::ModeEnd => {
+            Response::Plain {
+                command,
+                result: 0x06,
+            }
+        }
+    };
+    Some(response)
 }
 
 // A command's own response.
-fn own(command: Command, parameters: &[u8]) -> Response
+fn own(command: Command, parameters: &[u8]) -> Option<Response>
     ensures { result ≡ own_of command parameters.now }
 {
-    if parameters.len() == 0 {
-        return Response::Unreadable;
-    }
-    let result = parameters[0];
+    let result = *parameters.first()?;
     if !may_carry(false, result) {
-        return Response::Unreadable;
+        return None;
     }
     if parameters.len() != added(command, result) + 1 {
-        return Response::Unreadable;
+        return None;
     }
     if result != 0x06 {
-        return Response::Plain { command, result };
+        return Some(Response::Plain { command, result });
     }
     accepted(command, parameters)
 }
 
 // The error response.
-fn error(parameters: &[u8]) -> Response
+fn error(parameters: &[u8]) -> Option<Response>
     ensures { result ≡ error_of parameters.now }
 {
-    if parameters.len() != 1 {
-        return Response::Unreadable;
-    }
-    let result = parameters[0];
+    let [result] = *parameters else {
+        return None;
+    };
     if !may_carry(true, result) {
-        return Response::Unreadable;
+        return None;
     }
-    Response::Error { result }
+    Some(Response::Error { result })
 }
 
 // A control frame's code and parameters.
-fn control(code: u8, parameters: &[u8]) -> Response
+fn control(code: u8, parameters: &[u8]) -> Option<Response>
     ensures { result ≡ control_of code parameters.now }
 {
     if code == commands::ERROR {
         return error(parameters);
     }
     match commands::answered(code) {
-        None => Response::Unreadable,
+        None => None,
         Some(command) => own(command, parameters),
     }
 }
@@ -205,44 +174,48 @@ fn crc_fits(response: u8, write: u8, crc: u32) -> bool
 }
 
 // A write frame's sector and data.
-fn written(sector: u16, bytes: &[u8]) -> Response
+fn written(sector: u16, bytes: &[u8]) -> Option<Response>
     ensures { result ≡ write_of sector bytes.now }
 {
     if bytes.len() != 6 {
-        return Response::Unreadable;
+        return None;
     }
     let response = bytes[0];
     let write = bytes[1];
     let crc = buffer::number::number4(bytes, 2);
     if !may_carry(false, response) {
-        return Response::Unreadable;
+        return None;
     }
     if !may_carry(false, write) {
-        return Response::Unreadable;
+        return None;
     }
     if !repeats(response, write) {
-        return Response::Unreadable;
+        return None;
     }
     if !crc_fits(response, write, crc) {
-        return Response::Unreadable;
+        return None;
     }
-    Response::Written {
+    Some(Response::Written {
         sector,
         response,
         write,
         crc,
-    }
+    })
 }
 
-pub fn read_response(datagram: &[u8]) -> Response
+pub fn read_response(datagram: &[u8]) -> Option<Response>
     ensures { IsResponse datagram.now result }
 {
-    match frame::read::read_frame(datagram) {
-        None => Response::Unreadable,
-        Some(Frame::Control { code, .. }) => control(code, frame::read::parameters(datagram)),
-        Some(Frame::Write { sector, footer, .. }) => match footer {
-            Footer::End => written(sector, frame::read::data(datagram)),
-            Footer::Continued => Response::Unreadable,
-        },
+    match frame::read::read_frame(datagram)? {
+        Frame::Control { code, .. } => control(code, frame::read::parameters(datagram)),
+        Frame::Write {
+            sector,
+            footer: Footer::End,
+            ..
+        } => written(sector, frame::read::data(datagram)),
+        Frame::Write {
+            footer: Footer::Continued,
+            ..
+        } => None,
     }
 }

@@ -103,6 +103,12 @@ pub fn end_refused(rt: &impl Env) {
     call::refused(rt);
 }
 
+// A refusal in words, and nothing else.
+pub fn words_refused(rt: &impl Env, words: &[u8]) {
+    text(rt, words);
+    end_refused(rt);
+}
+
 pub fn refused_all(rt: &impl Env, number: usize) {
     refused(rt, number);
     end_refused(rt);

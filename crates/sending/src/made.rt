@@ -1,5 +1,4 @@
 // What the maker of a frame answered, and the buffer that it was lent, which holds A5 before: the frame, and what stands behind it.
-use crate::held;
 use script::say;
 use sender::made::Refusal;
 use std::env::Env;
@@ -7,11 +6,11 @@ use std::env::Env;
 pub const LARGEST_BUFFER: usize = 600;
 
 fn say_frame(rt: &impl Env, size: usize, buffer: &[u8]) {
-    let end = held::lent(buffer, size);
+    let (frame, behind) = buffer.split_at(size.min(buffer.len()));
     say::text(rt, b"frame ");
-    say::bytes(rt, &buffer[..end]);
+    say::bytes(rt, frame);
     say::text(rt, b" ");
-    say::bytes(rt, &buffer[end..]);
+    say::bytes(rt, behind);
 }
 
 fn say_refused(rt: &impl Env, number: usize, buffer: &[u8]) {

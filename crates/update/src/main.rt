@@ -8,7 +8,6 @@ mod refusals;
 
 ghost use Rattle.std.specs.Prelude.{◌≤◌};
 
-use bank::check::Verdict;
 use hex_text::read::ReadError;
 use layout::{Bank, MOST, SECTOR};
 use script::input::Input;
@@ -69,8 +68,8 @@ fn counted(rt: &impl Env, image: &[u8], target: Bank, n: usize) {
 
 fn judged(rt: &impl Env, image: &[u8], target: Bank, n: usize) {
     match bank::check::check(image) {
-        Verdict::Sound => counted(rt, image, target, n),
-        _ => refusals::unsound(rt),
+        Ok(()) => counted(rt, image, target, n),
+        Err(_) => refusals::unsound(rt),
     }
 }
 

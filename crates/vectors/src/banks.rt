@@ -1,6 +1,6 @@
 // The requests on where banks lie and on what they hold.
 use crate::{lists, sums};
-use bank::check::Verdict;
+use bank::check::Fault;
 use layout::Bank;
 use script::{say, text};
 use std::env::Env;
@@ -80,9 +80,9 @@ fn asked<F: FnOnce(&mut [u8]) -> Option<()>>(fields: &[u8], say: F) -> Option<()
 
 fn say_verdict(rt: &impl Env, bank: &[u8]) {
     match bank::check::check(bank) {
-        Verdict::Refused => say::text(rt, b"refused\n"),
-        Verdict::Sound => say::text(rt, b"sound\n"),
-        Verdict::Unsound => say::text(rt, b"unsound\n"),
+        Ok(()) => say::text(rt, b"sound\n"),
+        Err(Fault::BadLength) => say::text(rt, b"refused\n"),
+        Err(Fault::Unsound) => say::text(rt, b"unsound\n"),
     }
 }
 

@@ -1,5 +1,5 @@
 // The request that has a bank cleaned: what `clean` makes of it with lists of so many numbers lent.
-use clean::Cleaned;
+use clean::{Counts, Refusal};
 use script::say;
 use std::env::Env;
 
@@ -21,14 +21,15 @@ fn say_list<T: Copy, F: Fn(T)>(rt: &impl Env, list: &[T], say: F)
     }
 }
 
-fn say_outcome(rt: &impl Env, cleaned: Cleaned) {
-    if let Cleaned::Done { runs, sectors } = cleaned {
-        say::text(rt, b"cleaned");
-        say::field(rt, runs);
-        say::field(rt, sectors);
-        return;
+fn say_outcome(rt: &impl Env, cleaned: Result<Counts, Refusal>) {
+    match cleaned {
+        Ok(counts) => {
+            say::text(rt, b"cleaned");
+            say::field(rt, counts.runs);
+            say::field(rt, counts.sectors);
+        }
+        Err(refusal) => say::refused(rt, usize::from(refusal)),
     }
-    say::refused(rt, clean::cleaned_number(cleaned));
 }
 
 // Lists and bank are told of a refusal too: they are to be as they were.

@@ -30,7 +30,7 @@ pub returns-in-Err : goal.returns-in-Err
 returns-in-Err c =
     let a = c.args in
     let g = sym c.good_n.ensures ∙ c.if-not-good_n.false in
-    read-refused a.text.now a.bank a.n a.image.now g c.if-image-n.false (c.wide4-base.ensures.0 ∙ c.start_address.ensures)
+    read-refused a.text.now a.bank a.n a.image.now g c.if-image-n.false c.start_address-base.ensures
     c.fill.ensures
     _ c.read_lines.new.image c.in-Err.ensures c.read_lines.auto.image
     c.fill-in-Err.ensures
@@ -39,6 +39,6 @@ pub returns-in-Ok : goal.returns-in-Ok
 returns-in-Ok c =
     let a = c.args in
     let g = sym c.good_n.ensures ∙ c.if-not-good_n.false in
-    read-accepted a.text.now a.bank a.n a.image.now g c.if-image-n.false (c.wide4-base.ensures.0 ∙ c.start_address.ensures)
+    read-accepted a.text.now a.bank a.n a.image.now g c.if-image-n.false c.start_address-base.ensures
     c.fill.ensures
     c.in-Ok.ensures

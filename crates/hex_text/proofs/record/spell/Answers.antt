@@ -29,6 +29,6 @@ returns-then-good c =
     let z : l.left ≡ 0 = omega arith in
     let m : l.sum % 256 ≡ l.sum = omega arith in
     record {
-      sum = c.wide.ensures.0 ∙ sym (v.4 ∙ rw (z, c.if-good.true) (check_ends l.sum t l.p ∙ m));
-      put = λ _. sym (v.5 c.if-good.true ∙ rw z (sets_none l.bytes l.j t l.p));
+      sum = sym (v.4 ∙ rw (z, c.if-good.true) (check_ends l.sum t l.p ∙ rw m));
+      put = λ _ _. sym (v.5 c.if-good.true ∙ rw z (sets_none l.bytes l.j t l.p));
     }

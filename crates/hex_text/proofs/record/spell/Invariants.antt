@@ -3,6 +3,7 @@
 -- Assumes nothing.
 use Rattle.std.proofs.Common.{◌≡◌, ◌+◌, ◌*◌, ◌<◌, true, cond, length}
 use lib.Seq.{sets}
+use Rattle.std.specs.Prelude.{None}
 use Rattle.hex_text.specs.Places.{bytes_at, check_from}
 use Rattle.hex_text.proofs.record.spell.Given as goal
 
@@ -12,7 +13,7 @@ invariant-loop-left l =
     × (l.j + l.left ≡ l.k)
     × (length l.bytes ≡ length l.initial.bytes)
     × (l.sum < 256)
-    × (check_from 0 (bytes_at l.line 1 l.k) ≡ cond l.good (check_from l.sum (bytes_at l.line l.p l.left)) 256)
+    × (check_from 0 (bytes_at l.line 1 l.k) ≡ cond l.good (check_from l.sum (bytes_at l.line l.p l.left)) None)
     × (l.good ≡ true → sets l.initial.bytes 0 (bytes_at l.line 1 l.k) ≡ sets l.bytes l.j (bytes_at l.line l.p l.left))
 
 abbrev pub decreases-loop-left : goal.decreases-loop-left

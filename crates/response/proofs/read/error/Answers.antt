@@ -1,11 +1,15 @@
 -- `response::read::error` meets its contract: each way out is a case of the definition.
 -- Assumes nothing.
 use mathlib.Core.Path.{sym, ◌∙◌}
+use native.Mathlib.Omega.{arith}
 use Rattle.response.proofs.Responses.{error_length, error_result, is_error}
 use Rattle.response.proofs.read.error.Goals as goal
 
-pub returns-then-parameters-ne1 : goal.returns-then-parameters-ne1
-returns-then-parameters-ne1 c = error_length _ c.if-parameters-ne1.true
+pub returns-in_default : goal.returns-in_default
+returns-in_default c = error_length _ (λ q. omega arith)
+
+pub returns-in_default-2 : goal.returns-in_default-2
+returns-in_default-2 c = error_length _ (λ q. omega arith)
 
 pub returns-then-not-may_carry : goal.returns-then-not-may_carry
 returns-then-not-may_carry c =
@@ -15,4 +19,4 @@ returns-then-not-may_carry c =
 pub returns : goal.returns
 returns c =
     let args = c.args in
-    is_error args.parameters.now c.if-parameters-ne1.false (sym c.may_carry.ensures ∙ c.if-not-may_carry.false)
+    is_error args.parameters.now (omega arith) (sym c.may_carry.ensures ∙ c.if-not-may_carry.false)
