@@ -13,6 +13,7 @@ use lib.ListN.{length}
 use borrow.Author.Tests.{eqb-true, eq-eqb, ltb-true, ltb-false, le-ltb}
 use Rattle.std.specs.Prelude.{Result, Ok, Err}
 use Rattle.buffer.proofs.Bools.{split, and_left, and_right, and_false, no_way}
+use Rattle.std.specs.Option.{option_eq}
 use Rattle.commands.specs.declared.Command.{Command}
 use Rattle.commands.specs.declared.Command.TheVariants as command
 use Rattle.commands.specs.Command.{response_code, answered_by}
@@ -81,21 +82,26 @@ same_bank Zero One e = no_way e
 same_bank One Zero e = no_way (sym e)
 same_bank One One e = refl
 
--- what carries a result that is not 0 is the command's own response
-own_reads : (command : Command) (response : Option Response) (result : ℕ) → 0 < result → own_result command response ≡ result
+-- what carries a result is the command's own response
+own_reads : (command : Command) (response : Option Response) (result : ℕ) → option_eq eqb (own_result command response) (Some result) ≡ true
     → response ≡ Some (Plain command result)
-own_reads command None result h e = absurd (omega arith)
-own_reads command (Some (Plain other r)) result h e =
-    split (λ (x : ℕ). x ≡ result → Some (Plain other r) ≡ Some (Plain command result)) (eqb (response_code other) (response_code command))
-    (λ t q. let s = same_command other command (eqb-true _ _ t) in cc)
-    (λ _ q. absurd (omega arith))
+own_reads command None result e = absurd (false≢true e)
+own_reads command (Some (Plain other r)) result e =
+    split (λ (x : Option ℕ). option_eq eqb x (Some result) ≡ true → Some (Plain other r) ≡ Some (Plain command result))
+    (eqb (response_code other) (response_code command))
+    (λ t q.
+    let s = same_command other command (eqb-true _ _ t) in
+    let same : r ≡ result = eqb-true r result q in
+    cc)
+    (λ _ q. absurd (false≢true q))
     e
-own_reads command (Some (Error r)) result h e = absurd (omega arith)
-own_reads command (Some (Target bank)) result h e = absurd (omega arith)
-own_reads command (Some (Firmware id major minor revision)) result h e = absurd (omega arith)
-own_reads command (Some (Written sector response write crc)) result h e = absurd (omega arith)
+own_reads command (Some (Error r)) result e = absurd (false≢true e)
+own_reads command (Some (Target bank)) result e = absurd (false≢true e)
+own_reads command (Some (Firmware id major minor revision)) result e = absurd (false≢true e)
+own_reads command (Some (Written sector response write crc)) result e = absurd (false≢true e)
 
-own_result_lem : (command : Command) (response : Option Response) (result : ℕ) → response ≡ Some (Plain command result) → own_result command response ≡ result
+own_result_lem : (command : Command) (response : Option Response) (result : ℕ) → response ≡ Some (Plain command result)
+    → own_result command response ≡ Some result
 own_result_lem command response result e = rw (e, eq-eqb (response_code command) (response_code command) refl)
 
 module _ (command : Command) (repeated : Bool) (response : Option Response) where
@@ -105,14 +111,14 @@ module _ (command : Command) (repeated : Bool) (response : Option Response) wher
   unfolding own_verdict
   own_settled declined =
       let Out : Type 0 = (response ≡ Some (Plain command 0x06)) ⊎ ((response ≡ Some (Plain command 0x15)) × (repeated ≡ true) × (declined ≡ Settled)) in
-      let result : ℕ = own_result command response in
-      split (λ (v : Verdict). v ≡ Settled → Out) (eqb result 0x06)
-      (λ t _. inl (own_reads command response 0x06 (omega arith) (eqb-true result 0x06 t)))
-      (λ _. split (λ (v : Verdict). v ≡ Settled → Out) (repeated && eqb result 0x15)
+      let is : ℕ → Bool = λ k. option_eq eqb (own_result command response) (Some k) in
+      split (λ (v : Verdict). v ≡ Settled → Out) (is 0x06)
+      (λ t _. inl (own_reads command response 0x06 t))
+      (λ _. split (λ (v : Verdict). v ≡ Settled → Out) (repeated && is 0x15)
       (λ t e.
       inr (
-        own_reads command response 0x15 (omega arith) (eqb-true result 0x15 (and_right repeated (eqb result 0x15) t)),
-        and_left repeated (eqb result 0x15) t,
+        own_reads command response 0x15 (and_right repeated (is 0x15) t),
+        and_left repeated (is 0x15) t,
         e,
       ))
       (λ _ e. no_way cc))
@@ -271,13 +277,13 @@ module _ (command : Command) (repeated : Bool) (response : Option Response) (why
   unfolding own_verdict
   own_stopped declined =
       let Out : Type 0 = (response ≡ Some (Plain command 0x15)) × (repeated ≡ true) × (declined ≡ Stops why) in
-      let result : ℕ = own_result command response in
-      split (λ (v : Verdict). v ≡ Stops why → Out) (eqb result 0x06)
+      let is : ℕ → Bool = λ k. option_eq eqb (own_result command response) (Some k) in
+      split (λ (v : Verdict). v ≡ Stops why → Out) (is 0x06)
       (λ _ e. no_way cc)
-      (λ _. split (λ (v : Verdict). v ≡ Stops why → Out) (repeated && eqb result 0x15)
+      (λ _. split (λ (v : Verdict). v ≡ Stops why → Out) (repeated && is 0x15)
       (λ t e. (
-        own_reads command response 0x15 (omega arith) (eqb-true result 0x15 (and_right repeated (eqb result 0x15) t)),
-        and_left repeated (eqb result 0x15) t,
+        own_reads command response 0x15 (and_right repeated (is 0x15) t),
+        and_left repeated (is 0x15) t,
         e,
       ))
       (λ _ e. no_way cc))
