@@ -15,8 +15,8 @@ use Rattle.sender.specs.declared.made.Refusal.{Refusal as Unmade}
 use Rattle.sender.specs.declared.request.Request.{Request}
 use Rattle.commands.specs.declared.Command.{Command}
 use Rattle.response.specs.declared.read.Response.{Response}
-use Rattle.night.specs.declared.record.Next.{Next}
 use Rattle.night.specs.declared.record.Night.{Night}
+use Rattle.night.specs.declared.record.Refusal.{Refusal as NightRefusal}
 use Rattle.exchange.specs.declared.answer.Refusal.{Refusal}
 use Rattle.exchange.specs.declared.request.Unasked.{Unasked}
 use Rattle.exchange.specs.declared.request.Request.{Request as Received}
@@ -58,7 +58,7 @@ use Rattle.response.specs.Said.{IsResponseNumber, IsResponse}
 use Rattle.night.specs.Call.{IsStart as IsNightStart}
 use Rattle.night.specs.Call.{IsHeard as IsNightHeard}
 use Rattle.night.specs.Call.{IsSilent as IsNightSilent}
-use Rattle.night.specs.Record.{IsNextNumber}
+use Rattle.night.specs.Record.{IsRefusalNumber as IsNightNumber}
 use Rattle.commands.specs.Command.{IsRequestCode, IsResponseCode, IsParameterBytes, IsAddedBytes, IsRequested, IsAnswered}
 use Rattle.exchange.specs.Answer.{Reply, IsRefusalNumber, IsSay}
 use Rattle.exchange.specs.State.{IsClosed, IsOpen}
@@ -138,7 +138,7 @@ pub record Determined : Type 0 where
   pub request : (request : Request) (before : List ℕ) → Twice (IsRequest request before)
   pub read_response : (datagram : List ℕ) → Once (IsResponse datagram)
   -- the night sender
-  pub night_number : (next : Next) → Once (IsNextNumber next)
+  pub night_number : (why : NightRefusal) → Once (IsNightNumber why)
   pub night_start : (image : List ℕ) (bank : Bank) (n tries : ℕ) (before : List ℕ) → Twice (IsNightStart image bank n tries before)
   pub night_heard : (night : Night) (datagram image before : List ℕ) → Twice (IsNightHeard night datagram image before)
   pub night_silent : (night : Night) (image before : List ℕ) → Twice (IsNightSilent night image before)

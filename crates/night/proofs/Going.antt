@@ -63,13 +63,13 @@ module _ (night : Night) (response : Option Response) (image : List ℕ) (size :
       ∙ ap (judged night name gone response image) (looked_good image night.n night.tries size f (number_of name) h)
 
   -- an end is told again
-  pub finished_again : night.stand ≡ Finished → 0 < packet_count image night.n → step_of night response image size ≡ called night next.Finished
+  pub finished_again : night.stand ≡ Finished → 0 < packet_count image night.n → step_of night response image size ≡ called night (Ok next.Finished)
   unfolding over_of
   finished_again e h =
       ap (by_stand night response image size) e ∙ ap (end_told night next.Finished) (looked_good image night.n night.tries size f 0 h)
 
   pub gave_up_again : (name : Name) (why : Why) → night.stand ≡ GaveUp name why → number_of name < packet_count image night.n
-      → step_of night response image size ≡ called night (next.GaveUp name why)
+      → step_of night response image size ≡ called night (Ok (next.GaveUp name why))
   unfolding over_of
   gave_up_again name why e h =
       ap (by_stand night response image size) e

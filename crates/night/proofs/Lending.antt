@@ -13,25 +13,25 @@ use Rattle.buffer.proofs.Bools.{no_way}
 use Rattle.layout.specs.Layout.{sector_size, good_n}
 use Rattle.layout.proofs.Layouts.{good_below}
 use Rattle.sender.specs.declared.made.Place.{Place}
-use Rattle.sender.specs.declared.made.Refusal.{Refusal}
+use Rattle.sender.specs.declared.made.Refusal.{Refusal as Unmade}
 use Rattle.sender.specs.declared.made.Refusal.TheVariants.{BadN, BadLength, PastLast}
 use Rattle.sender.specs.Made.{room}
 use Rattle.sender.specs.Packet.{packet_count, packet_sector, image_good, placed_of}
 use Rattle.sender.proofs.Packets.{Sent, sent_in, placed_is}
-use Rattle.night.specs.declared.record.Next.{Next}
-use Rattle.night.specs.declared.record.Next.TheVariants as next
+use Rattle.night.specs.declared.record.Refusal.{Refusal}
+use Rattle.night.specs.declared.record.Refusal.TheVariants as refusal
 use Rattle.night.specs.Call.{refusal_says, lent_says}
 use Rattle.night.specs.Lent.{tries_good, lengths_good, room_given, looked_of}
-use Rattle.night.specs.Record.{next_number}
+use Rattle.night.specs.Record.{refusal_number}
 
 -- ---- the buffer and the tries
 
-module _ (size tries : ℕ) (found : Result Place Next) where
-  pub no_room : size < room → Err next.BadLength ≡ room_given size tries found
+module _ (size tries : ℕ) (found : Result Place Refusal) where
+  pub no_room : size < room → Err refusal.BadLength ≡ room_given size tries found
   unfolding room_given
   no_room h = rw (lt-leb room size h)
 
-  pub bad_tries : room ≤ size → tries_good tries ≡ false → Err next.BadTries ≡ room_given size tries found
+  pub bad_tries : room ≤ size → tries_good tries ≡ false → Err refusal.BadTries ≡ room_given size tries found
   unfolding room_given
   bad_tries h t = rw (le-leb room size h, t)
 
@@ -41,24 +41,24 @@ module _ (size tries : ℕ) (found : Result Place Next) where
 
 -- ---- by where the packet stands
 
-abbrev by_placed : ℕ → ℕ → Result Place Refusal → Result Place Next
-by_placed size tries (Err BadN) = Err next.BadN
-by_placed size tries (Err BadLength) = Err next.BadLength
-by_placed size tries (Err PastLast) = room_given size tries (Err next.NoPacket)
+abbrev by_placed : ℕ → ℕ → Result Place Unmade → Result Place Refusal
+by_placed size tries (Err BadN) = Err refusal.BadN
+by_placed size tries (Err BadLength) = Err refusal.BadLength
+by_placed size tries (Err PastLast) = room_given size tries (Err refusal.NoPacket)
 by_placed size tries (Ok place) = room_given size tries (Ok place)
 
 by_tests : (size tries : ℕ) (g i p : Bool) (place : Place)
     → by_placed size tries (cond g (cond i (cond p (Ok place) (Err PastLast)) (Err BadLength)) (Err BadN))
     ≡ cond g
-    (cond (i && leb room size) (cond (tries_good tries) (cond p (Ok place) (Err next.NoPacket)) (Err next.BadTries)) (Err next.BadLength))
-    (Err next.BadN)
+    (cond (i && leb room size) (cond (tries_good tries) (cond p (Ok place) (Err refusal.NoPacket)) (Err refusal.BadTries)) (Err refusal.BadLength))
+    (Err refusal.BadN)
 unfolding room_given
 by_tests size tries true true true place = refl
 by_tests size tries true true false place = refl
 by_tests size tries true false p place = refl
 by_tests size tries false i p place = refl
 
-pub looked_by : (image : List ℕ) (n tries size p : ℕ) (placed : Result Place Refusal) → placed ≡ placed_of image n p
+pub looked_by : (image : List ℕ) (n tries size p : ℕ) (placed : Result Place Unmade) → placed ≡ placed_of image n p
     → by_placed size tries placed ≡ looked_of image n tries size p
 unfolding looked_of
 looked_by image n tries size p placed e =
@@ -66,7 +66,7 @@ looked_by image n tries size p placed e =
     ∙ by_tests size tries (good_n n) (image_good image n) (ltb p (packet_count image n)) _
 
 -- the number of the packet, as it was handed on
-pub looked_for : (image : List ℕ) (n tries size p k : ℕ) (l : Result Place Next) → p ≡ k → l ≡ looked_of image n tries size p → l ≡ looked_of image n tries size k
+pub looked_for : (image : List ℕ) (n tries size p k : ℕ) (l : Result Place Refusal) → p ≡ k → l ≡ looked_of image n tries size p → l ≡ looked_of image n tries size k
 looked_for image n tries size p k l q e = e ∙ ap (looked_of image n tries size) q
 
 -- ---- nothing is refused
@@ -89,8 +89,8 @@ lent image n tries size p place e =
     by : (g i r t b : Bool) → good_n n ≡ g → image_good image n ≡ i → leb room size ≡ r → tries_good tries ≡ t → ltb p (packet_count image n) ≡ b
         → Ok place
         ≡ cond g
-        (cond (i && r) (cond t (cond b (Ok (record { sector = packet_sector image n p; count = packet_count image n })) (Err next.NoPacket)) (Err next.BadTries)) (Err next.BadLength))
-        (Err next.BadN)
+        (cond (i && r) (cond t (cond b (Ok (record { sector = packet_sector image n p; count = packet_count image n })) (Err refusal.NoPacket)) (Err refusal.BadTries)) (Err refusal.BadLength))
+        (Err refusal.BadN)
         → Lent image n tries size p place
     by true true true true true eg ei er et eb q =
         record {
@@ -121,8 +121,8 @@ module _ (image : List ℕ) (n tries size p : ℕ) (place : Place) (l : Lent ima
 
 -- ---- the same in the paper's numbers
 
-abbrev number_in : Result Place Next → ℕ
-number_in (Err why) = next_number why
+abbrev number_in : Result Place Refusal → ℕ
+number_in (Err why) = refusal_number why
 number_in (Ok place) = 0
 
 pub looked_says : (image : List ℕ) (n tries size p : ℕ) → number_in (looked_of image n tries size p) ≡ lent_says image n tries size p
@@ -130,7 +130,7 @@ unfolding looked_of refusal_says
 looked_says image n tries size p = by (good_n n) (lengths_good image n size) (tries_good tries) (ltb p (packet_count image n))
   where
     by : (g i t b : Bool)
-        → number_in (cond g (cond i (cond t (cond b (Ok (record { sector = packet_sector image n p; count = packet_count image n })) (Err next.NoPacket)) (Err next.BadTries)) (Err next.BadLength)) (Err next.BadN))
+        → number_in (cond g (cond i (cond t (cond b (Ok (record { sector = packet_sector image n p; count = packet_count image n })) (Err refusal.NoPacket)) (Err refusal.BadTries)) (Err refusal.BadLength)) (Err refusal.BadN))
         ≡ refusal_says (not g) (not i) (not t) (not b)
     by true true true true = refl
     by true true true false = refl
@@ -138,8 +138,8 @@ looked_says image n tries size p = by (good_n n) (lengths_good image n size) (tr
     by true false t b = refl
     by false i t b = refl
 
-pub says_refused : (image : List ℕ) (n tries size p : ℕ) (why : Next) → Err why ≡ looked_of image n tries size p
-    → next_number why ≡ lent_says image n tries size p
+pub says_refused : (image : List ℕ) (n tries size p : ℕ) (why : Refusal) → Err why ≡ looked_of image n tries size p
+    → refusal_number why ≡ lent_says image n tries size p
 says_refused image n tries size p why e = ap number_in e ∙ looked_says image n tries size p
 
 pub says_good : (image : List ℕ) (n tries size p : ℕ) (place : Place) → Ok place ≡ looked_of image n tries size p

@@ -2,8 +2,8 @@
 ghost use Rattle.std.specs.Prelude.{◌≡◌};
 ghost use Rattle.night.specs.Lent.{tries_good, room_given, looked_of};
 
-use crate::record::Next;
-use sender::made::{Place, ROOM, Refusal};
+use crate::record::Refusal;
+use sender::made::{Place, ROOM, Refusal as Unmade};
 
 fn tries_good(tries: usize) -> bool
     ensures { result ≡ tries_good tries }
@@ -12,14 +12,14 @@ fn tries_good(tries: usize) -> bool
 }
 
 // Behind N and the image come the buffer and the tries, and then what was found in the image.
-fn room_given(room: usize, tries: usize, found: Result<Place, Next>) -> Result<Place, Next>
+fn room_given(room: usize, tries: usize, found: Result<Place, Refusal>) -> Result<Place, Refusal>
     ensures { result ≡ room_given room tries found }
 {
     if room < ROOM {
-        return Err(Next::BadLength);
+        return Err(Refusal::BadLength);
     }
     if !tries_good(tries) {
-        return Err(Next::BadTries);
+        return Err(Refusal::BadTries);
     }
     found
 }
@@ -31,13 +31,13 @@ pub(crate) fn look(
     tries: usize,
     room: usize,
     p: usize,
-) -> Result<Place, Next>
+) -> Result<Place, Refusal>
     ensures { result ≡ looked_of image.now n tries room p }
 {
     match sender::packet::place(image, n, p) {
-        Err(Refusal::BadN) => Err(Next::BadN),
-        Err(Refusal::BadLength) => Err(Next::BadLength),
-        Err(Refusal::PastLast) => room_given(room, tries, Err(Next::NoPacket)),
+        Err(Unmade::BadN) => Err(Refusal::BadN),
+        Err(Unmade::BadLength) => Err(Refusal::BadLength),
+        Err(Unmade::PastLast) => room_given(room, tries, Err(Refusal::NoPacket)),
         Ok(place) => room_given(room, tries, Ok(place)),
     }
 }
