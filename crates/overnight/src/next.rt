@@ -1,5 +1,5 @@
 // What comes next in a night: a request, or the end.
-use crate::{name, refusals};
+use crate::name;
 use night::name::Name;
 use night::record::{Next, Night, Stand, Why};
 use script::call::STDERR_FILENO;
@@ -26,10 +26,9 @@ fn progress(rt: &impl Env, night: Night, buffer: &[u8]) {
 
 // The request is out before anything is said of it.
 fn send(rt: &impl Env, night: Night, buffer: &[u8], size: usize) {
-    if size <= buffer.len() {
-        let end = io::count(size as isize, buffer);
+    if let Some(frame) = buffer.get(..size) {
         say::text(rt, b"send ");
-        say::hex(rt, &buffer[..end]);
+        say::hex(rt, frame);
         say::end(rt);
         progress(rt, night, buffer);
     }
@@ -55,15 +54,11 @@ pub(crate) fn say(rt: &impl Env, night: Night, next: Next, buffer: &[u8]) {
         Next::Send { name: _, size } => send(rt, night, buffer, size),
         Next::Finished => say::text(rt, b"finished\n"),
         Next::GaveUp { name, why } => gave_up(rt, name, why, buffer),
-        _ => refusals::number(rt, night::record::next_number(next) as usize),
+        _ => say::refused_all(rt, night::record::next_number(next) as usize),
     }
 }
 
 // Whether an event is awaited.
 pub(crate) fn goes_on(next: Next) -> bool {
-    if let Next::Send { name: _, size: _ } = next {
-        true
-    } else {
-        false
-    }
+    matches!(next, Next::Send { .. })
 }
