@@ -1,4 +1,4 @@
-// The name of a request, for either output.
+// The name of a request, for either output; written by hand, as `script::say` has it.
 use frame::read::Frame;
 use night::name::Name;
 use script::call;

@@ -1,4 +1,5 @@
-// What is written to standard output.
+// What is written to standard output. It is written by hand, piece by piece: where one cannot be written that is told, and the next is tried all the
+// same, while `print!` ends at the first. Bytes are in upper case with nothing between them, which is no form of std's for a slice.
 ghost use Rattle.std.specs.Prelude.{◌<◌, ◌≤◌};
 ghost use Rattle.io.specs.Counts.{IsPrefixLen};
 ghost use Rattle.script.specs.Spelt.{IsSpell};
