@@ -7,7 +7,7 @@ use Rattle.hex_text.proofs.record.typed_at.Goals as goal
 pub returns-then-kind-eq0 : goal.returns-then-kind-eq0
 returns-then-kind-eq0 c =
     let e = typed_data _ _ _ _ _ (address_read _ c.requires.0 (c.from-address.ensures ∙ c.number.ensures)) c.if-kind-eq0.true in
-    c.data_at.ensures ∙ rw c.from.ensures (sym e)
+    c.data_at.ensures ∙ rw (c.from-then-kind-eq0.ensures, c.from.ensures) (sym e)
 
 pub returns-then-address-ne0 : goal.returns-then-address-ne0
 returns-then-address-ne0 c =
