@@ -27,13 +27,7 @@ fn own_result(command: Command, response: Response) -> u8
         Response::Plain {
             command: other,
             result,
-        } => {
-            if other == command {
-                result
-            } else {
-                0
-            }
-        }
+        } => { if other == command { result } else { 0 } }
         Response::Error { result: _ } => 0,
         Response::Target { bank: _ } => 0,
         Response::Firmware {
