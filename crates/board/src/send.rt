@@ -1,10 +1,7 @@
 // A datagram for the client, and what comes of it.
-use crate::state;
 use crate::state::Board;
 use crate::wrong::Wrong;
 use client::notice::Notice;
-use client::record::Client;
-use client::step::Stepped;
 use exchange::answer::{Answer, Refusal};
 use script::{say, text};
 use std::env::Env;
@@ -60,119 +57,22 @@ fn latest(answer: Result<Answer, Refusal>, count: usize, former: usize) -> usize
 }
 
 // The answer is shown as it stands in the buffer.
-fn answered(
-    rt: &impl Env,
-    board: Board,
-    stepped: Stepped,
-    buffer: [u8; state::BUFFER_ROOM],
-) -> Board {
-    let client = stepped.client;
-    let answer = stepped.answer;
-    let notice = stepped.notice;
-    say_answer(rt, answer, state::front(&buffer, stepped.length), notice);
-    let mut b = board;
-    b.client = client;
-    b.buffer = buffer;
-    b.answered = latest(answer, stepped.length, board.answered);
-    b
-}
-
-// What is lent of a room, for one room after another.
-fn step(
-    client: Client,
-    bank0: &mut [u8],
-    bank1: &mut [u8],
-    marks: &[u8],
-    address: &[u8],
-    room: &mut [u8],
-    lent: u32,
-    datagram: &[u8],
-) -> Stepped {
-    let count = io::count(lent as isize, room);
-    client.step(bank0, bank1, marks, address, &mut room[..count], datagram)
-}
-
-fn with_buffer(
-    rt: &impl Env,
-    board: Board,
-    bank0: &mut [u8],
-    bank1: &mut [u8],
-    marks: &[u8],
-    address: &[u8],
-    datagram: &[u8],
-) -> Board {
+pub(crate) fn send(rt: &impl Env, board: &mut Board, fields: &[u8]) -> Result<(), Wrong> {
+    let mut room = [0u8; 2048];
+    let datagram = text::spelt(fields, &mut room).ok_or(Wrong::Bytes)?;
     let client = board.client;
-    let mut buffer = board.buffer;
-    let stepped = step(
-        client,
-        bank0,
-        bank1,
-        marks,
-        address,
-        &mut buffer,
-        board.buffer_lent,
+    let stepped = client.step(
+        board.bank0.part_mut(),
+        board.bank1.part_mut(),
+        board.marks.part(),
+        board.address.part(),
+        board.buffer.part_mut(),
         datagram,
     );
-    answered(rt, board, stepped, buffer)
-}
-
-fn with_address(
-    rt: &impl Env,
-    board: Board,
-    bank0: &mut [u8],
-    bank1: &mut [u8],
-    marks: &[u8],
-    datagram: &[u8],
-) -> Board {
-    let lent = board.address_lent;
-    let address = board.address;
-    let count = io::count(lent as isize, &address);
-    with_buffer(rt, board, bank0, bank1, marks, &address[..count], datagram)
-}
-
-fn with_marks(
-    rt: &impl Env,
-    board: Board,
-    bank0: &mut [u8],
-    bank1: &mut [u8],
-    datagram: &[u8],
-) -> Board {
-    let lent = board.marks_lent;
-    let marks = board.marks;
-    let count = io::count(lent as isize, &marks);
-    with_address(rt, board, bank0, bank1, &marks[..count], datagram)
-}
-
-fn with_banks(
-    rt: &impl Env,
-    board: Board,
-    bank0: &mut [u8],
-    bank1: &mut [u8],
-    datagram: &[u8],
-) -> Board {
-    let lent0 = io::count(board.bank0 as isize, bank0);
-    let lent1 = io::count(board.bank1 as isize, bank1);
-    with_marks(
-        rt,
-        board,
-        &mut bank0[..lent0],
-        &mut bank1[..lent1],
-        datagram,
-    )
-}
-
-pub(crate) fn send(
-    rt: &impl Env,
-    board: Board,
-    bank0: &mut [u8],
-    bank1: &mut [u8],
-    fields: &[u8],
-) -> Board {
-    let mut datagram = [0u8; 2048];
-    let got = text::bytes(fields, &mut datagram);
-    if got < 0 {
-        return state::kept(board, Wrong::Bytes);
-    }
-    let count = io::count(got, &datagram);
-    with_banks(rt, board, bank0, bank1, &datagram[..count])
+    let answer = stepped.answer;
+    let shown = board.buffer.bytes.get(..stepped.length).unwrap_or(&[]);
+    say_answer(rt, answer, shown, stepped.notice);
+    board.client = stepped.client;
+    board.answered = latest(answer, stepped.length, board.answered);
+    Ok(())
 }

@@ -1,6 +1,6 @@
 -- What the deciding tells of record, target and datagram where a session begins, a sector is stored, a session ends.
 -- Assumes nothing.
-use Rattle.std.specs.Prelude.{Some}
+use Rattle.std.specs.Prelude.{Some, Ok}
 use mathlib.Core.Path.{◌≡◌, ap, subst, ◌∙◌}
 use mathlib.Core.Bool.{true}
 use mathlib.Core.List.{List}
@@ -14,7 +14,6 @@ use Rattle.frame.specs.declared.read.Frame.TheVariants.{Write}
 use Rattle.flash.proofs.Writes.{FitsAt}
 use Rattle.layout.specs.Layout.{good_n, bank_size}
 use Rattle.layout.proofs.Layouts.{good_below}
-use Rattle.exchange.specs.declared.request.Asked.TheVariants.{Right}
 use Rattle.exchange.specs.declared.request.Request.TheVariants.{Packet}
 use Rattle.exchange.specs.declared.state.State.TheVariants as state
 use Rattle.exchange.specs.Request.{asked_by, asked_of}
@@ -32,7 +31,7 @@ use Rattle.client.proofs.Promising.{heard, decides}
 -- a packet that is stored
 pub record Storing (c : Client) (target : ℕ) (datagram : List ℕ) (sector : ℕ) : Type 0 where
   pub m : ℕ
-  pub asks : asked_of datagram ≡ Right (Packet sector m)
+  pub asks : asked_of datagram ≡ Ok (Packet sector m)
   pub writing : c.state ≡ state.Write
   pub good : good_n c.fixed.n ≡ true
   pub whole : target ≡ bank_size c.fixed.n
@@ -87,7 +86,7 @@ storing c target d sector m footer e s g w v =
     record { m = m; asks = ap (asked_by (parameters_in d)) e; writing = s; good = g; whole = w; values = v }
 
 -- a datagram that asks for a packet to be stored has its data
-pub packed_in : (datagram : List ℕ) (sector m : ℕ) → asked_of datagram ≡ Right (Packet sector m) → Packed datagram sector m
+pub packed_in : (datagram : List ℕ) (sector m : ℕ) → asked_of datagram ≡ Ok (Packet sector m) → Packed datagram sector m
 packed_in datagram sector m e = subst (Asks datagram) e (asks datagram)
 
 -- a packet that is stored fits its sector

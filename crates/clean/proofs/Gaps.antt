@@ -52,9 +52,9 @@ module _ (b : List ℕ) (gaps : List Gap) (g : GoodBank b gaps) where
 
     pub at_gap :
         {runs : ℕ} → open_at (old b) (reach b i) ≡ 0 → runs ≡ length (runs_at (old b) (reach b i))
-        → AtGap b (get_or gaps i no_gap).start (get_or gaps i no_gap).end runs
+        → AtGap b (get_or gaps i no_gap) runs
     at_gap o n =
-        rw (start_is, end_is)
+        rw (g.are.gap i h)
         (record { whole = g.whole; all_outside = gap-outside; no_run = rw reach-is at o; so_many = rw reach-is at n })
 
     -- from its end to the start of the next, at least one byte, and none that is old

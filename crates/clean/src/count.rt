@@ -49,19 +49,19 @@ fn look(bank: &[u8], from: usize, to: usize, seen: Seen) -> Seen
 }
 
 // One gap, where `runs` were met before it. Sectors that hold old bytes get their mark.
-fn mark_gap(bank: &[u8], from: usize, to: usize, runs: usize, marks: &mut [bool]) -> usize
-    requires at_gap { AtGap bank.now from to runs }
-    requires marks_at { MarksAt (old bank.now) from marks.old }
-    ensures value { result ≡ met (old bank.now) to }
-    ensures marks_at_2 { MarksAt (old bank.now) to marks.new }
+fn mark_gap(bank: &[u8], gap: Gap, runs: usize, marks: &mut [bool]) -> usize
+    requires at_gap { AtGap bank.now gap runs }
+    requires marks_at { MarksAt (old bank.now) gap.start marks.old }
+    ensures value { result ≡ met (old bank.now) gap.end }
+    ensures marks_at_2 { MarksAt (old bank.now) gap.end marks.new }
 {
     let mut met = runs;
     let mut last = false;
-    let mut at = from;
+    let mut at = gap.start;
     // The index is kept: the pieces are of unlike length, for a gap starts and ends anywhere.
-    while at < to {
+    while at < gap.end {
         let sector = at / SECTOR;
-        let end = crate::piece::end(at, to);
+        let end = crate::piece::end(at, gap.end);
         let before = Seen {
             runs: met,
             last,
@@ -85,7 +85,7 @@ pub(crate) fn mark(bank: &[u8], gaps: &[Gap], marks: &mut [bool]) -> usize
 {
     let mut runs = 0;
     for gap in gaps {
-        runs = mark_gap(bank, gap.start, gap.end, runs, marks);
+        runs = mark_gap(bank, *gap, runs, marks);
     }
     runs
 }

@@ -18,7 +18,7 @@ pub(crate) struct Progress {
     pub length: usize,
 }
 
-// Run n of the list.
+// Run n of the list: two of its numbers, since it is C that lends it.
 fn put_run(runs: &mut [u32], n: usize, offset: usize, size: usize)
     requires { (2 * n + 2 ≤ length runs.old) × (offset < 4294967296) × (size < 4294967296) }
     ensures { runs.new ≡ sets runs.old (2 * n) (offset ∷ size ∷ []) }
@@ -94,28 +94,21 @@ fn list_marked(
 }
 
 // One gap, where `n` runs are listed before it.
-fn list_gap(
-    bank: &[u8],
-    from: usize,
-    to: usize,
-    marks: &[bool],
-    n: usize,
-    runs: &mut [u32],
-) -> usize
-    requires at_gap { AtGap bank.now from to n }
-    requires marks_at { MarksAt (old bank.now) (length bank.now) marks.now × (met (old bank.now) to ≤ length runs.old / 2) }
-    ensures value { result ≡ met (old bank.now) to }
-    ensures lists_gap { ListsGap (old bank.now) from to runs.old runs.new }
+fn list_gap(bank: &[u8], gap: Gap, marks: &[bool], n: usize, runs: &mut [u32]) -> usize
+    requires at_gap { AtGap bank.now gap n }
+    requires marks_at { MarksAt (old bank.now) (length bank.now) marks.now × (met (old bank.now) gap.end ≤ length runs.old / 2) }
+    ensures value { result ≡ met (old bank.now) gap.end }
+    ensures lists_gap { ListsGap (old bank.now) gap runs.old runs.new }
 {
     let mut listed = Progress { runs: n, length: 0 };
-    let mut at = from;
+    let mut at = gap.start;
     // The index is kept: the pieces are of unlike length, for a gap starts and ends anywhere.
-    while at < to {
-        let end = crate::piece::end(at, to);
+    while at < gap.end {
+        let end = crate::piece::end(at, gap.end);
         listed = list_marked(bank, at, end, marks[at / SECTOR], listed, runs);
         at = end;
     }
-    let done = close(runs, listed, to);
+    let done = close(runs, listed, gap.end);
     done.runs
 }
 
@@ -127,6 +120,6 @@ pub(crate) fn list(bank: &[u8], gaps: &[Gap], marks: &[bool], runs: &mut [u32])
 {
     let mut n = 0;
     for gap in gaps {
-        n = list_gap(bank, gap.start, gap.end, marks, n, runs);
+        n = list_gap(bank, *gap, marks, n, runs);
     }
 }

@@ -1,20 +1,16 @@
 -- How deciding, doing and saying become one step, on the target alone and with the running bank beside it.
 -- Assumes nothing.
 use mathlib.Core.Path.{◌≡◌, refl, sym, ap, ap₂, ◌∙◌}
-use mathlib.Core.Bool.{true, false}
 use mathlib.Core.List.{List, []}
 use Prim.Native.Nat.{ℕ}
 use Rattle.std.specs.Prelude.{None, Err}
 use lib.ListN.{length}
-use borrow.Author.Tests.{eq-eqb, ne_eqb}
 use Rattle.buffer.specs.Place.{front_of}
 use Rattle.frame.specs.Read.{data_in}
 use Rattle.layout.specs.declared.Bank.{Bank}
-use Rattle.layout.specs.Layout.{good_n, bank_size, good_size, other_of}
+use Rattle.layout.specs.Layout.{other_of}
 use Rattle.layout.specs.Pair.{Banks, bank_in, with_bank}
-use Rattle.layout.proofs.Layouts.{size_good}
 use Rattle.exchange.specs.declared.answer.Refusal.{Refusal}
-use Rattle.exchange.specs.declared.answer.Refusal.TheVariants.{BadN, BadLength}
 use Rattle.exchange.specs.Answer.{Reply, reply_bytes, answer_number, told_length, IsSay}
 use Rattle.exchange.proofs.Saying.{say_refused}
 use Rattle.decision.specs.declared.plan.Plan.{Plan}
@@ -72,29 +68,6 @@ module _ (c : Client) (target marks address buffer datagram : List ℕ) (r : Ste
         target_left = t.target;
         said = t.buffer;
       }
-
-  taken : IsTake c target marks address buffer datagram r after answered → IsCarried whole r after answered
-  taken t =
-      record { client = t.client; answer = t.answer; told = t.told; notice = t.notice; target = t.target_left; buffer = t.said }
-
-  module _ (running : ℕ) where
-    pub beside-bad : good_n c.fixed.n ≡ false → IsCarried (carried_of c (Refuse BadN) target address buffer []) r after answered
-        → IsCarried (beside_of c running target marks address buffer datagram) r after answered
-    unfolding beside_of
-    beside-bad g s = rw g s
-
-    module _ (g : good_n c.fixed.n ≡ true) (size : ℕ) (is : size ≡ good_size c.fixed.n) where
-      pub beside-wrong : (running ≡ size → ⊥) → IsCarried (carried_of c (Refuse BadLength) target address buffer []) r after answered
-          → IsCarried (beside_of c running target marks address buffer datagram) r after answered
-      unfolding beside_of
-      beside-wrong n s =
-          let e = is ∙ size_good c.fixed.n g in
-          rw (g, ne_eqb running (bank_size c.fixed.n) (λ t. n (t ∙ sym e))) s
-
-      pub beside-right : running ≡ size → IsTake c target marks address buffer datagram r after answered
-          → IsCarried (beside_of c running target marks address buffer datagram) r after answered
-      unfolding beside_of
-      beside-right e s = rw (g, eq-eqb running (bank_size c.fixed.n) (e ∙ is ∙ size_good c.fixed.n g)) (taken s)
 
 -- whichever bank runs
 module _ (c : Client) (pair : Banks) (marks address buffer datagram : List ℕ) (r : Stepped) (after answered : List ℕ) where

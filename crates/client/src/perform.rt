@@ -28,13 +28,7 @@ fn fit(fixed: Fixed, bank: &[u8]) -> bool
 fn store_result(blank: bool, already: bool) -> u8
     ensures { result ≡ store_result blank already }
 {
-    if blank {
-        return 0x1D;
-    }
-    if already {
-        return 0x1D;
-    }
-    0x06
+    if blank || already { 0x1D } else { 0x06 }
 }
 
 // The CRC-32 of sector k as it stands.
@@ -62,6 +56,7 @@ impl Client {
     }
 
     // A write packet: the bytes to their sector, which counts as received.
+    #[tactic(auto, unfolding(crate::specs::Perform::store_of))]
     fn store(self, target: &mut [u8], sector: u16, bytes: &[u8]) -> Served
         requires le_sector { (1 ≤ sector) × (sector ≤ most_sectors) }
         requires sector_in_bounds { bank_size sector ≤ length target.old }
@@ -85,15 +80,14 @@ impl Client {
     }
 
     // The bank check, of what the sweep left. The next-start bank is set last, and only where the bank is fit.
+    #[tactic(auto, unfolding(crate::specs::Perform::checked_of))]
     fn checked(self, target: &[u8]) -> Served
         ensures { IsServed (checked_of self target.now) result target.now }
     {
-        let fixed = self.fixed;
-        let running = fixed.running;
-        if fit(fixed, target) {
+        if fit(self.fixed, target) {
             return self
                 .ended(Latest::Good)
-                .starting(layout::other(running))
+                .starting(layout::other(self.fixed.running))
                 .responds(Command::WriteEnd, 0x06);
         }
         self.ended(Latest::Otherwise)
@@ -104,8 +98,7 @@ impl Client {
     fn finish(self, target: &mut [u8]) -> Served
         ensures { IsServed (finish_of self target.old) result target.new }
     {
-        let received = self.received;
-        flash::bank::sweep(target, self.fixed.n, &received);
+        flash::bank::sweep(target, self.fixed.n, &self.received);
         self.checked(target)
     }
 
@@ -113,11 +106,10 @@ impl Client {
     fn begin(self) -> Client
         ensures { result ≡ begun (starting self.fixed.running self) }
     {
-        let fixed = self.fixed;
-        let running = fixed.running;
-        self.starting(running).begun()
+        self.starting(self.fixed.running).begun()
     }
 
+    #[tactic(auto, unfolding(crate::specs::Perform::served_of))]
     pub(crate) fn serve(self, plan: Plan, target: &mut [u8], address: &[u8], bytes: &[u8]) -> Served
         requires fair { Fair plan (length target.old) }
         requires addressed { Addressed plan (length address.now) }

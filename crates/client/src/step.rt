@@ -42,6 +42,7 @@ fn notice_for(plan: Plan, latest: Latest, address: &[u8]) -> Option<Notice>
 
 impl Client {
     // Do and say. The record is taken from what was done at the very end, which spares a copy of its flags.
+    #[tactic(auto, unfolding(crate::specs::Step::carried_of))]
     fn carry(
         self,
         plan: Plan,
@@ -54,8 +55,7 @@ impl Client {
         requires addressed { Addressed plan (length address.now) }
         ensures { IsCarried (carried_of self plan target.old address.now buffer.old bytes.now) result target.new buffer.new }
     {
-        let latest = self.latest;
-        let notice = notice_for(plan, latest, address);
+        let notice = notice_for(plan, self.latest, address);
         let served = self.serve(plan, target, address, bytes);
         let answer = served.answer;
         let length = exchange::answer::say(answer, buffer);
@@ -86,6 +86,7 @@ impl Client {
     }
 
     // Nothing is done or said. `carry` has one caller so, into which it is compiled: a call would copy the record's flags.
+    #[tactic(auto, using(crate::proofs::Stepping::refused_is))]
     fn refused(self, why: Refusal) -> Stepped
         ensures { Refuses self why result }
     {
@@ -98,6 +99,7 @@ impl Client {
     }
 
     // N and the length of the running bank first; of that bank nothing else is seen.
+    #[tactic(auto, using(layout::proofs::Layouts::size_good), unfolding(crate::specs::Step::beside_of))]
     fn beside(
         self,
         running: usize,
@@ -131,9 +133,7 @@ impl Client {
     ) -> Stepped
         ensures { IsStep self bank0.old bank1.old marks.now address.now buffer.old datagram.now result bank0.new bank1.new buffer.new }
     {
-        let fixed = self.fixed;
-        let running = fixed.running;
-        match running {
+        match self.fixed.running {
             Bank::Zero => self.beside(bank0.len(), bank1, marks, address, buffer, datagram),
             Bank::One => self.beside(bank1.len(), bank0, marks, address, buffer, datagram),
         }

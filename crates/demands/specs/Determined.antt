@@ -18,7 +18,7 @@ use Rattle.response.specs.declared.read.Response.{Response}
 use Rattle.night.specs.declared.record.Night.{Night}
 use Rattle.night.specs.declared.record.Refusal.{Refusal as NightRefusal}
 use Rattle.exchange.specs.declared.answer.Refusal.{Refusal}
-use Rattle.exchange.specs.declared.request.Asked.{Asked}
+use Rattle.exchange.specs.declared.request.Unasked.{Unasked}
 use Rattle.exchange.specs.declared.request.Request.{Request as Received}
 use Rattle.exchange.specs.declared.state.State.{State}
 use Rattle.decision.specs.declared.plan.Standing.{Standing}
@@ -158,7 +158,7 @@ pub record Determined : Type 0 where
   pub refusal_number : (why : Refusal) → Once (IsRefusalNumber why)
   pub say : (reply : Reply) (before : List ℕ) → Twice (IsSay reply before)
   -- the client
-  pub plan : (standing : Standing) (target : ℕ) (marks address : List ℕ) (buffer : ℕ) (asked : Asked) → Once (IsPlan standing target marks address buffer asked)
+  pub plan : (standing : Standing) (target : ℕ) (marks address : List ℕ) (buffer : ℕ) (asked : Result Received Unasked) → Once (IsPlan standing target marks address buffer asked)
   pub reason_number : (why : NotDone) → Once (IsReasonNumber why)
   pub told_number : (told : Told) → Once (IsTold told)
   pub notice_code : (notice : MaybeNotice) → Once (IsNoticeCode notice)

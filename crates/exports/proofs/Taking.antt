@@ -6,7 +6,7 @@ use mathlib.Core.List.{List, [], ◌∷◌, ◌++◌, foldl, foldl-append}
 use Prim.Native.Nat.{ℕ, zero, suc, ◌+◌, ◌-◌, ◌*◌, ◌<◌, ◌≤◌}
 use native.Mathlib.Omega.{arith}
 use native.Mathlib.Numerals.{add-one}
-use lib.Dec.{eqb, leb}
+use lib.Dec.{leb}
 use lib.ListN.{length, take, drop}
 use borrow.Author.Tests.{le-leb, leb-true, leb-false, eqb-true}
 use Rattle.buffer.specs.Place.{front_of}
@@ -51,14 +51,6 @@ one_bad slots n k h b = not_so (slots_good slots n) (λ g. let s = each_good slo
 
 -- the slots, and then the addresses
 module _ (slots addresses : List ℕ) (n : ℕ) where
-  pub slots_bad : slots_good slots n ≡ false → false ≡ all_good slots addresses n
-  unfolding all_good
-  slots_bad e = rw e
-
-  pub by_addresses : slots_good slots n ≡ true → eqb (length addresses) (n * address_size) ≡ all_good slots addresses n
-  unfolding all_good
-  by_addresses e = rw e
-
   pub slots_all_good : all_good slots addresses n ≡ true → slots_good slots n ≡ true
   unfolding all_good
   slots_all_good g = and_left _ _ g

@@ -20,7 +20,7 @@ pub(crate) fn size_at(slots: &[u8], k: usize) -> usize
     requires { (k + 1) * slot_size ≤ length slots.now }
     ensures { result ≡ size_at slots.now k }
 {
-    buffer::number::number2(slots, k * SLOT) as usize
+    usize::from(buffer::number::number::<u16, _>(slots, k * SLOT))
 }
 
 // Whether no slot says more than it has room for.
@@ -37,14 +37,12 @@ pub(crate) fn slots_good(slots: &[u8], count: usize) -> bool
 }
 
 // Whether all slots can be taken: each has room for what it says, and each has its address, with nothing behind the last.
+#[tactic(auto, unfolding(crate::specs::Slots::all_good))]
 fn all_good(slots: &[u8], addresses: &[u8], count: usize) -> bool
     requires { count * slot_size ≤ length slots.now }
     ensures { result ≡ all_good slots.now addresses.now count }
 {
-    if !slots_good(slots, count) {
-        return false;
-    }
-    addresses.len() == count * ADDRESS
+    slots_good(slots, count) && addresses.len() == count * ADDRESS
 }
 
 // How long an answer is, or the paper's number where there is none.

@@ -187,9 +187,6 @@ pub data_in :
     (base size : ℕ) (s : State) (line : List ℕ) (start n : ℕ) → found_of base size s line ≡ Ok (Data start n) → DataIn base size s.last line start n
 data_in base size s line start n e = rw e at (told base size s line)
 
-pub upper_in : (base size : ℕ) (s : State) (line : List ℕ) (u : ℕ) → found_of base size s line ≡ Ok (Upper u) → u < 65536
-upper_in base size s line u e = rw e at (told base size s line)
-
 -- WHAT WAS LOOKED AT, CASE BY CASE
 
 module _ (line : List ℕ) (base size : ℕ) (s : State) (held : List ℕ) where

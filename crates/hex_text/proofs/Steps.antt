@@ -1,6 +1,6 @@
 -- A line taken, line after line, and the whole text: case by case.
 -- Assumes nothing.
-use Rattle.std.proofs.Common.{◌≡◌, ℕ, ◌+◌, ◌-◌, ◌*◌, ◌<◌, ◌≤◌, true, false, List, [], ◌∷◌, length, take, drop, replicate, sym, refl, ap, ◌∙◌, arith, eq-eqb, ne_eqb}
+use Rattle.std.proofs.Common.{◌≡◌, ℕ, ◌+◌, ◌-◌, ◌*◌, ◌≤◌, true, false, List, [], ◌∷◌, length, take, drop, replicate, sym, refl, ap, ◌∙◌, arith, eq-eqb, ne_eqb}
 use lib.ListN.{length-replicate}
 use lib.Seq.{sets-eq}
 use Rattle.buffer.proofs.Bools.{no_way}
@@ -15,13 +15,13 @@ use Rattle.hex_text.specs.declared.fault.Fault.{Fault}
 use Rattle.hex_text.specs.declared.fault.Refusal.{Refusal}
 use Rattle.hex_text.specs.declared.record.State.{State}
 use Rattle.hex_text.specs.declared.record.Found.{Found}
-use Rattle.hex_text.specs.declared.record.Found.TheVariants.{Data, Upper, End, Other}
+use Rattle.hex_text.specs.declared.record.Found.TheVariants.{Data}
 use Rattle.hex_text.specs.declared.read.ReadError.TheVariants.{BadN, BadLength, Line}
 use Rattle.hex_text.specs.Spell.{line_bytes}
 use Rattle.hex_text.specs.Record.{record_data, found_of}
 use Rattle.hex_text.specs.Read.{state_after, image_after, LinesRead, stopped_at, goes, read_lines, after_last, at_start, reading_of, lines_say, read_says, text_read, IsRead}
 use Rattle.hex_text.specs.Places.{Looked, step_by, image_by, Took, Came}
-use Rattle.hex_text.proofs.Says.{upper_in, looked_in}
+use Rattle.hex_text.proofs.Says.{looked_in}
 
 -- A LINE TAKEN, by what it says
 
@@ -36,17 +36,6 @@ module _ {line : List ℕ} {base : ℕ} {s : State} {image held : List ℕ} wher
       let i = rw (part_out held 4 n, l.holds start n refl) at e in
       let put = i ∙ place_fits image (start - base) _ fits ∙ sym (sets-eq _ image (start - base) fits) in
       record { is = rw (sym l.is); image = rw (sym l.is) put }
-
--- the upper half stays two bytes
-pub step_upper : (base size : ℕ) (s q : State) (line : List ℕ) → s.upper < 65536 → step_by (found_of base size s line) s ≡ Ok q → q.upper < 65536
-step_upper base size s q line u e = by (found_of base size s line) refl e
-  where
-    by : (d : Result Found Fault) → found_of base size s line ≡ d → step_by d s ≡ Ok q → q.upper < 65536
-    by (Err f) g z = no_way (cc)
-    by (Ok (Data start n)) g z = let h : state_after (Data start n) s ≡ q = cc in rw (sym h) u
-    by (Ok (Upper x)) g z = let h : state_after (Upper x) s ≡ q = cc in rw (sym h) (upper_in base size s line x g)
-    by (Ok End) g z = let h : state_after End s ≡ q = cc in rw (sym h) u
-    by (Ok Other) g z = let h : s ≡ q = cc in rw (sym h) u
 
 -- LINE AFTER LINE
 

@@ -57,8 +57,7 @@ pub record Looked (line : List ℕ) (base size : ℕ) (s : State) (held : List �
   pub is : r ≡ found_of base size s line
   pub holds : (start n : ℕ) → r ≡ Ok (Data start n) → record_data n held ≡ record_data n (line_bytes line)
 
-pub record LookFits (base size : ℕ) (s : State) : Type 0 where
-  pub upper_small : s.upper < 65536
+pub record LookFits (base size : ℕ) : Type 0 where
   pub base_small : base < 4294967296
   pub size_small : size < 4294967296
 

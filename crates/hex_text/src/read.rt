@@ -34,7 +34,7 @@ pub fn answer_number(answer: Result<(), ReadError>) -> usize
 
 // One line: looked at, and what it says done.
 fn take_line(line: &[u8], base: usize, state: State, image: &mut [u8]) -> Result<State, Fault>
-    requires { LookFits base (length image.old) state }
+    requires { LookFits base (length image.old) }
     ensures { Took base state line.now image.old image.new result }
 {
     let mut bytes = [0u8; crate::record::LONGEST];
@@ -72,7 +72,7 @@ fn finish(state: State, line: usize) -> Result<(), Refusal>
 
 // Line after line, up to the first fault.
 fn read_lines(text: &[u8], base: usize, image: &mut [u8]) -> Result<(), Refusal>
-    requires { (base < 4294967296) × (length image.old < 4294967296) }
+    requires { LookFits base (length image.old) }
     ensures { Came (read_lines base (length image.old) at_start 1 image.old (lines text.now)) result image.new }
 {
     let mut state = State {

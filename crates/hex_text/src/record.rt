@@ -5,7 +5,7 @@ ghost use Rattle.hex_text.specs.Places.{bytes_at, SpelledAt, Summed, LookFits, L
 
 use crate::fault::{Fault, Kind};
 use crate::pair::{pair_at, value_at};
-use buffer::number::number2;
+use buffer::number::number;
 
 // As many bytes as a record has at most: a count of 255, and 5 beside the data.
 pub(crate) const LONGEST: usize = 260;
@@ -16,7 +16,7 @@ const COLON: usize = 1;
 // Where the reading stands: the upper half of addresses, the end of earlier data, whether the end record was seen.
 #[derive(Clone, Copy)]
 pub struct State {
-    pub upper: usize,
+    pub upper: u16,
     pub last: usize,
     pub over: bool,
 }
@@ -25,7 +25,7 @@ pub struct State {
 #[derive(Clone, Copy, PartialEq, Eq)]
 pub enum Found {
     Data { start: usize, n: usize },
-    Upper(usize),
+    Upper(u16),
     End,
     Other,
 }
@@ -38,18 +38,12 @@ fn spell(line: &[u8], k: usize, bytes: &mut [u8]) -> Option<u8>
 {
     let mut sum: u8 = 0;
     let mut good = true;
-    let mut p: usize = 1;
-    let mut j = 0;
-    let mut left = k;
-    while 0 < left {
-        let g = pair_at(line, p);
-        let b = value_at(line, p);
+    for j in 0..k {
+        let g = pair_at(line, 2 * j + 1);
+        let b = value_at(line, 2 * j + 1);
         bytes[j] = b;
         good = good & g;
-        sum = std::num::wrapping_add_u8(sum, b);
-        p += 2;
-        j += 1;
-        left -= 1;
+        sum = sum.wrapping_add(b);
     }
     if good { Some(sum) } else { None }
 }
@@ -108,42 +102,30 @@ fn data_at(
 
 // What a record of these bytes says.
 fn typed_at(bytes: &[u8], base: usize, size: usize, state: State) -> Result<Found, Fault>
-    requires { (record_count bytes.now + 5 ≤ length bytes.now) × ((state.upper < 65536) × ((base < 4294967296) × (size < 4294967296))) }
+    requires { (record_count bytes.now + 5 ≤ length bytes.now) × LookFits base size }
     ensures { result ≡ typed base size state.upper state.last bytes.now }
 {
     let n = bytes[0];
-    let address = number2(bytes, 1) as usize;
+    let address = usize::from(number::<u16, _>(bytes, 1));
     let kind = bytes[3];
     if kind == 0 {
         return data_at(
             base,
             size,
             state.last,
-            state.upper * 65536 + address,
+            usize::from(state.upper) * 65536 + address,
             usize::from(n),
         );
     }
     if address != 0 {
         return Err(Fault(Kind::H3, COLON));
     }
-    if kind == 1 {
-        if n == 0 {
-            return Ok(Found::End);
-        }
-        return Err(Fault(Kind::H3, COLON));
+    match (kind, n) {
+        (1, 0) => Ok(Found::End),
+        (4, 2) => Ok(Found::Upper(number(bytes, 4))),
+        (5, 4) => Ok(Found::Other),
+        _ => Err(Fault(Kind::H3, COLON)),
     }
-    if kind == 4 {
-        if n == 2 {
-            return Ok(Found::Upper(number2(bytes, 4) as usize));
-        }
-        return Err(Fault(Kind::H3, COLON));
-    }
-    if kind == 5 {
-        if n == 4 {
-            return Ok(Found::Other);
-        }
-    }
-    Err(Fault(Kind::H3, COLON))
 }
 
 // What a line says; its record's bytes go to the front of `bytes`. Where a line that is no record goes wrong is looked for only then, so that good
@@ -155,7 +137,7 @@ pub(crate) fn look(
     state: State,
     bytes: &mut [u8],
 ) -> Result<Found, Fault>
-    requires { LookFits base size state × (260 ≤ length bytes.old) }
+    requires { LookFits base size × (260 ≤ length bytes.old) }
     ensures { Looked line.now base size state bytes.new result }
 {
     if state.over {

@@ -18,13 +18,17 @@ fn say_text(rt: &impl Env, hex_text: &[u8], size: usize) {
     }
 }
 
-fn write(rt: &impl Env, image: &[u8], bank: Bank) {
-    let mut hex_text = [0u8; LONGEST];
-    let written = rows::text::write(image, bank, &mut hex_text);
+fn write_into(rt: &impl Env, image: &[u8], bank: Bank, hex_text: &mut [u8]) {
+    let written = rows::text::write(image, bank, hex_text);
     match written {
-        Some(size) => say_text(rt, &hex_text, size),
+        Some(size) => say_text(rt, hex_text, size),
         None => say::refused_all(rt, rows::text::written_number(written)),
     }
+}
+
+fn write(rt: &impl Env, image: &[u8], bank: Bank) {
+    let mut hex_text = [0u8; LONGEST];
+    write_into(rt, image, bank, &mut hex_text);
 }
 
 fn write_input(rt: &(impl Env + std::io::Input), bank: Bank) {

@@ -8,7 +8,7 @@ use native.Mathlib.Numerals.{add-one}
 use native.Mathlib.Omega.{arith}
 use lib.Dec.{eqb, leb, ltb}
 use lib.ListN.{length, get_or, take, drop, drop_of_length-le, length-drop}
-use lib.Seq.{drop-cons, drop-drop}
+use lib.Seq.{drop-cons, drop-drop, drop-length}
 use borrow.Author.Tests.{eq-eqb, ne_eqb, eqb-false, ltb-true, ltb-false, leb-true}
 use Rattle.buffer.proofs.Bools.{and_left, and_right, and_false, no_way}
 use Rattle.std.specs.Borrow.{Bor}
@@ -16,7 +16,7 @@ use Rattle.lines.specs.declared.line.Line.{Line}
 use Rattle.lines.specs.declared.line.LineReader.{LineReader}
 use Rattle.std.specs.Prelude.{Some, None}
 use Rattle.lines.specs.Line.{front, lf_next, lines}
-use Rattle.lines.specs.Places.{end_len, line_len, line_all, quiet_at, LineAt, ahead_at, IsReader, lines_left}
+use Rattle.lines.specs.Places.{end_len, line_len, line_all, quiet, LineAt, ahead_at, IsReader, lines_left}
 
 pub lf_here : (t : List ℕ) (i : ℕ) → i < length t → lf_next (drop i t) ≡ eqb (get_or t i 0) 0x0A
 lf_here t i h = rw (drop-cons t i 0 h)
@@ -65,28 +65,31 @@ no_end : (t : List ℕ) (i : ℕ) → i < length t → 14 ≤ get_or t i 0 → e
 no_end t i h k = end_here t i h ∙ simp (ne_eqb (get_or t i 0) 0x0A (λ e. omega arith), ne_eqb (get_or t i 0) 0x0D (λ e. omega arith))
 
 pub quiet_goes :
-    (t : List ℕ) (i k : ℕ) → i + k ≤ length t → quiet_at t i k ≡ true
+    (t : List ℕ) (i k : ℕ) → i + k ≤ length t → quiet (take k (drop i t)) ≡ true
     → (i + line_len (drop i t) ≡ i + k + line_len (drop (i + k) t)) × (i + line_all (drop i t) ≡ i + k + line_all (drop (i + k) t))
-unfolding quiet_at
+unfolding quiet
 quiet_goes t i zero h q = let e : i + zero ≡ i = omega arith in rw e (refl, refl)
 quiet_goes t i (suc k) h q =
-    let b = and_left (leb 14 (get_or t i 0)) (quiet_at t (i + 1) k) q in
+    let c : (leb 14 (get_or t i 0) && quiet (take k (drop (suc i) t))) ≡ true = rw (drop-cons t i 0 (omega arith)) at q in
+    let b = and_left (leb 14 (get_or t i 0)) (quiet (take k (drop (suc i) t))) c in
+    let n = and_right (leb 14 (get_or t i 0)) (quiet (take k (drop (suc i) t))) c in
     let g = line_goes t i (omega arith) (no_end t i (omega arith) (leb-true 14 (get_or t i 0) b)) in
-    let r = quiet_goes t (i + 1) k (omega arith) (and_right (leb 14 (get_or t i 0)) (quiet_at t (i + 1) k) q) in
+    let r = quiet_goes t (i + 1) k (omega arith) (rw add-one n) in
     let e : i + 1 + k ≡ i + suc k = omega arith in
     let r' = rw e at r in
     (omega arith, omega arith)
 
-pub quiet_one : (t : List ℕ) (i k : ℕ) (good : Bool) → 0 < k → (good && quiet_at t i k) ≡ (good && leb 14 (get_or t i 0) && quiet_at t (i + 1) (k - 1))
-unfolding quiet_at
-quiet_one t i zero good h = absurd (omega arith)
-quiet_one t i (suc k) true h = let e : suc k - 1 ≡ k = omega arith in rw e
-quiet_one t i (suc k) false h = refl
+-- one byte more is looked at
+pub quiet_one :
+    (t : List ℕ) (i : ℕ) (good : Bool) → i < length t → (good && quiet (drop i t)) ≡ (good && leb 14 (get_or t i 0) && quiet (drop (i + 1) t))
+unfolding quiet
+quiet_one t i true h = rw (add-one, drop-cons t i 0 h)
+quiet_one t i false h = refl
 
-pub quiet_none : (t : List ℕ) (i : ℕ) (good : Bool) → (good && quiet_at t i 0) ≡ good
-unfolding quiet_at
-quiet_none t i true = refl
-quiet_none t i false = refl
+pub quiet_none : (t : List ℕ) (good : Bool) → (good && quiet (drop (length t) t)) ≡ good
+unfolding quiet
+quiet_none t true = rw (drop-length t)
+quiet_none t false = refl
 
 -- ---- the first line of a text, and the others
 

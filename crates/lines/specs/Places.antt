@@ -1,6 +1,6 @@
 -- Lines by positions in the text, and the contracts of the line reader.
 -- Assumes nothing.
-use Rattle.std.specs.Prelude.{ℕ, zero, suc, ◌+◌, ◌≤◌, ◌<◌, ◌≡◌, List, [], ◌∷◌, Bool, true, ◌&&◌, cond, length, get_or, drop, eqb, leb, ltb, Option, Some, None}
+use Rattle.std.specs.Prelude.{ℕ, suc, ◌+◌, ◌≤◌, ◌<◌, ◌≡◌, List, [], ◌∷◌, Bool, true, ◌&&◌, cond, length, drop, eqb, leb, ltb, Option, Some, None}
 use Rattle.std.specs.Borrow.{Bor}
 use Rattle.lines.specs.declared.line.Line.{Line}
 use Rattle.lines.specs.declared.line.LineReader.{LineReader}
@@ -20,10 +20,10 @@ unfoldable pub line_all : List ℕ → ℕ
 line_all [] = 0
 line_all (c ∷ t) = cond (eqb (end_len (c ∷ t)) 0) (suc (line_all t)) (end_len (c ∷ t))
 
--- none of the k bytes from i on is below 14, so none is a CR or an LF
-unfoldable pub quiet_at : List ℕ → ℕ → ℕ → Bool
-quiet_at t i zero = true
-quiet_at t i (suc k) = leb 14 (get_or t i 0) && quiet_at t (i + 1) k
+-- none of these bytes is below 14, so none is a CR or an LF
+unfoldable pub quiet : List ℕ → Bool
+quiet [] = true
+quiet (c ∷ t) = leb 14 c && quiet t
 
 -- the line goes on from `at` to r
 pub record Skipped (t : List ℕ) (at r : ℕ) : Type 0 where

@@ -2,7 +2,7 @@
 ghost use Rattle.std.specs.Prelude.{◌≡◌, ◌+◌, ◌<◌, ◌≤◌, length, drop};
 ghost use Rattle.std.specs.Iterator.{YieldsFirstRef, item_count};
 ghost use Rattle.lines.specs.Line.{lf_next};
-ghost use Rattle.lines.specs.Places.{quiet_at, Skipped, end_len, LineAt, IsReader, IsNext, lines_left};
+ghost use Rattle.lines.specs.Places.{quiet, Skipped, end_len, LineAt, IsReader, IsNext, lines_left};
 
 // A line's end, without LF or CR LF, and the start of the next one.
 #[derive(Clone, Copy, PartialEq, Eq)]
@@ -44,18 +44,13 @@ fn end_at(text: &[u8], i: usize) -> usize
     0
 }
 
-// Whether no line ends in the 16 bytes from `at` on: none of them is below 14.
-fn quiet(text: &[u8], at: usize) -> bool
-    requires { at + 16 ≤ length text.now }
-    ensures { result ≡ quiet_at text.now at 16 }
+// Whether no line ends in these bytes: none of them is below 14. The loop has no way out, so that the compiler takes many at once.
+fn quiet(bytes: &[u8]) -> bool
+    ensures { result ≡ quiet bytes.now }
 {
     let mut good = true;
-    let mut p = at;
-    let mut left: usize = 16;
-    while 0 < left {
-        good = good & (14 <= text[p]);
-        p += 1;
-        left -= 1;
+    for byte in bytes {
+        good = good & (14 <= *byte);
     }
     good
 }
@@ -66,12 +61,9 @@ fn skip(text: &[u8], at: usize) -> usize
     ensures { Skipped text.now at result }
 {
     let mut i = at;
-    while 16 <= text.len() - i {
-        if quiet(text, i) {
-            i += 16;
-        } else {
-            return i;
-        }
+    // The index is kept: the place at which this stops is what is asked.
+    while 16 <= text.len() - i && quiet(&text[i..i + 16]) {
+        i += 16;
     }
     i
 }
@@ -81,8 +73,7 @@ fn line_at(text: &[u8], at: usize) -> Line
     requires { at < length text.now }
     ensures { LineAt text.now at result.end result.next }
 {
-    let mut i = skip(text, at);
-    while i < text.len() {
+    for i in skip(text, at)..text.len() {
         let e = end_at(text, i);
         if e != 0 {
             return Line {
@@ -90,9 +81,9 @@ fn line_at(text: &[u8], at: usize) -> Line
                 next: i + e,
             };
         }
-        i += 1;
     }
-    Line { end: i, next: i }
+    let end = text.len();
+    Line { end, next: end }
 }
 
 impl<'a> LineReader<'a> {

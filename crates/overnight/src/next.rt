@@ -1,5 +1,5 @@
 // What comes next in a night: a request, or the end.
-use crate::{name, refusals};
+use crate::name;
 use night::name::Name;
 use night::record::{Next, Night, Refusal, Stand, Why};
 use script::call::STDERR_FILENO;
@@ -26,10 +26,9 @@ fn progress(rt: &impl Env, night: Night, buffer: &[u8]) {
 
 // The request is out before anything is said of it.
 fn send(rt: &impl Env, night: Night, buffer: &[u8], size: usize) {
-    if size <= buffer.len() {
-        let end = io::count(size as isize, buffer);
+    if let Some(frame) = buffer.get(..size) {
         say::text(rt, b"send ");
-        say::hex(rt, &buffer[..end]);
+        say::hex(rt, frame);
         say::end(rt);
         progress(rt, night, buffer);
     }
@@ -52,11 +51,11 @@ fn gave_up(rt: &impl Env, name: Name, why: Why, buffer: &[u8]) {
 
 pub(crate) fn say(rt: &impl Env, night: Night, next: Result<Next, Refusal>, buffer: &[u8]) {
     match next {
-        Ok(Next::NotBegun) => refusals::number(rt, 0),
+        Ok(Next::NotBegun) => say::refused_all(rt, 0),
         Ok(Next::Send { name: _, size }) => send(rt, night, buffer, size),
         Ok(Next::Finished) => say::text(rt, b"finished\n"),
         Ok(Next::GaveUp { name, why }) => gave_up(rt, name, why, buffer),
-        Err(why) => refusals::number(rt, usize::from(why)),
+        Err(why) => say::refused_all(rt, usize::from(why)),
     }
 }
 

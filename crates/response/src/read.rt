@@ -94,10 +94,10 @@ fn accepted(command: Command, parameters: &[u8]) -> Option<Response>
             bank: named(parameters[1])?,
         },
         Command::VersionInfo => Response::Firmware {
-            id: buffer::number::number2(parameters, 1),
+            id: buffer::number::number(parameters, 1),
             major: parameters[3],
             minor: parameters[4],
-            revision: buffer::number::number4(parameters, 5),
+            revision: buffer::number::number(parameters, 5),
         },
         Command::ModeStart | Command::WriteStart | Command::WriteEnd | Command::ModeEnd => {
             Response::Plain {
@@ -182,7 +182,7 @@ fn written(sector: u16, bytes: &[u8]) -> Option<Response>
     }
     let response = bytes[0];
     let write = bytes[1];
-    let crc = buffer::number::number4(bytes, 2);
+    let crc = buffer::number::number(bytes, 2);
     if !may_carry(false, response) {
         return None;
     }

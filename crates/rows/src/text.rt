@@ -55,12 +55,9 @@ fn measure(image: &[u8], base: usize) -> usize
     requires { ImageFits image.now base }
     ensures { result ≡ length (all_rows image.now base) }
 {
-    let rows = image.len() / ROW;
     let mut reached = Reached { told: 0, at: 0 };
-    let mut k = 0;
-    while k < rows {
+    for k in 0..image.len() / ROW {
         reached = pass(image, base, k, reached);
-        k += 1;
     }
     reached.at
 }
@@ -105,12 +102,9 @@ fn put_rows(image: &[u8], base: usize, text: &mut [u8]) -> usize
     requires base_in_bounds { length (all_rows image.now base) ≤ length text.old }
     ensures { (result ≡ length (all_rows image.now base)) × (text.new ≡ sets text.old 0 (all_rows image.now base)) }
 {
-    let rows = image.len() / ROW;
     let mut reached = Reached { told: 0, at: 0 };
-    let mut k = 0;
-    while k < rows {
+    for k in 0..image.len() / ROW {
         reached = put_row(image, base, k, reached, text);
-        k += 1;
     }
     reached.at
 }

@@ -97,9 +97,13 @@ pub fn cut_short(rt: &impl Env, why: &[u8]) {
     tell(rt, b"i");
 }
 
+pub fn say_usage(usage: &[u8]) {
+    io::write_all(STDERR_FILENO, usage);
+}
+
 // It was called as it cannot be.
 pub fn called_wrongly(rt: &impl Env, usage: &[u8]) {
-    io::write_all(STDERR_FILENO, usage);
+    say_usage(usage);
     tell(rt, b"c");
 }
 

@@ -1,4 +1,5 @@
-// What is written to standard output.
+// What is written to standard output. It is written by hand, piece by piece: where one cannot be written that is told, and the next is tried all the
+// same, while `print!` ends at the first. Bytes are in upper case with nothing between them, which is no form of std's for a slice.
 ghost use Rattle.std.specs.Prelude.{◌<◌, ◌≤◌};
 ghost use Rattle.io.specs.Counts.{IsPrefixLen};
 ghost use Rattle.script.specs.Spelt.{IsSpell};
@@ -71,13 +72,13 @@ pub fn byte(rt: &impl Env, value: u8) {
 
 pub fn pair(rt: &impl Env, value: u16) {
     let mut two = [0u8; 2];
-    buffer::number::put_number2(&mut two, 0, value);
+    buffer::number::put_number(&mut two, 0, value);
     hex(rt, &two);
 }
 
 pub fn quad(rt: &impl Env, value: u32) {
     let mut four = [0u8; 4];
-    buffer::number::put_number4(&mut four, 0, value);
+    buffer::number::put_number(&mut four, 0, value);
     hex(rt, &four);
 }
 

@@ -59,8 +59,8 @@ fn write_start(code: u8, bank: Bank, n: usize, buffer: &mut [u8]) -> Result<usiz
         return Err(Refusal::BadN);
     }
     let mut addresses = [0u8; 8];
-    buffer::number::put_number4(&mut addresses, 0, layout::start_address(bank));
-    buffer::number::put_number4(&mut addresses, 4, layout::end_address(bank, n));
+    buffer::number::put_number(&mut addresses, 0, layout::start_address(bank));
+    buffer::number::put_number(&mut addresses, 4, layout::end_address(bank, n));
     control(code, &addresses, buffer)
 }
 

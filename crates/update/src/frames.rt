@@ -1,5 +1,4 @@
 // The frames of an update, each as a line of the script.
-use crate::refusals;
 use layout::Bank;
 use script::say;
 use sender::made::{Refusal, ROOM};
@@ -7,10 +6,9 @@ use sender::request::Request;
 use std::env::Env;
 
 fn say_frame(rt: &impl Env, buffer: &[u8], size: usize) {
-    if size <= buffer.len() {
-        let end = io::count(size as isize, buffer);
+    if let Some(frame) = buffer.get(..size) {
         say::text(rt, b"send ");
-        say::hex(rt, &buffer[..end]);
+        say::hex(rt, frame);
         say::end(rt);
     }
 }
@@ -18,7 +16,8 @@ fn say_frame(rt: &impl Env, buffer: &[u8], size: usize) {
 fn say_made(rt: &impl Env, made: Result<usize, Refusal>, buffer: &[u8]) {
     match made {
         Ok(size) => say_frame(rt, buffer, size),
-        Err(why) => refusals::number(rt, usize::from(why)),
+        // N was looked at, and the image is lent as it says: this is never said.
+        Err(why) => say::refused_all(rt, usize::from(why)),
     }
 }
 
@@ -50,10 +49,8 @@ fn say_packet(rt: &impl Env, image: &[u8], n: usize, p: usize) {
 }
 
 pub(crate) fn packets(rt: &impl Env, image: &[u8], n: usize, count: usize) {
-    let mut p = 0;
-    while p < count {
+    for p in 0..count {
         say_packet(rt, image, n, p);
-        p += 1;
     }
 }
 

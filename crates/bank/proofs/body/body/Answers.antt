@@ -8,15 +8,17 @@ use Rattle.bank.proofs.body.body.Goals as goal
 pub returns-then-is_err : goal.returns-then-is_err
 returns-then-is_err c = body_none _ _ c.check.ensures.verdict _ (sym c.is_err.ensures.value ∙ c.if-is_err.true)
 
-pub overflow_add-to : goal.overflow_add-to
-overflow_add-to c =
-    let is = c.check.ensures.verdict in
-    let within = body-within _ _ is _ (sym c.is_err.ensures.value ∙ c.if-is_err.false) _ c.stretch_at-stretch.ensures in
+pub end-requires : goal.end-requires
+end-requires c =
+    let within = body-within _ _ c.check.ensures.verdict _ (sym c.is_err.ensures.value ∙ c.if-is_err.false) _ c.stretch_at-stretch.ensures in
     search rules
 
 pub slice_bounds-result-end-2 : goal.slice_bounds-result-end-2
 slice_bounds-result-end-2 c =
-    body-within _ _ c.check.ensures.verdict _ (sym c.is_err.ensures.value ∙ c.if-is_err.false) _ c.stretch_at-stretch.ensures
+    rw c.end.ensures
+    (body-within _ _ c.check.ensures.verdict _ (sym c.is_err.ensures.value ∙ c.if-is_err.false) _ c.stretch_at-stretch.ensures)
 
 pub returns : goal.returns
-returns c = body_is _ _ c.check.ensures.verdict _ (sym c.is_err.ensures.value ∙ c.if-is_err.false) _ c.stretch_at-stretch.ensures
+returns c =
+    rw c.end.ensures
+    (body_is _ _ c.check.ensures.verdict _ (sym c.is_err.ensures.value ∙ c.if-is_err.false) _ c.stretch_at-stretch.ensures)

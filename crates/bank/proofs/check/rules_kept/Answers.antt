@@ -11,15 +11,15 @@ returns-in_default c = rules_none _ _ c.requires (sym c.in_default.is ∙ c.list
 pub table_good-requires : goal.table_good-requires
 table_good-requires c = table_listed _ _ (sym c.in-Some.is ∙ c.listed.ensures)
 
-pub returns-then-not-table_good : goal.returns-then-not-table_good
-returns-then-not-table_good c =
-    let t = table_listed _ _ (sym c.in-Some.is ∙ c.listed.ensures) in
-    rules-table _ _ _ t (sym c.table_good.ensures ∙ c.if-not-table_good.true)
-
 pub listed_good-requires : goal.listed_good-requires
 listed_good-requires c = table_listed _ _ (sym c.in-Some.is ∙ c.listed.ensures)
 
-pub returns : goal.returns
-returns c =
+pub returns-then-table_good : goal.returns-then-table_good
+returns-then-table_good c =
     let t = table_listed _ _ (sym c.in-Some.is ∙ c.listed.ensures) in
-    c.listed_good.ensures ∙ rules-listed _ _ _ t (sym c.table_good.ensures ∙ c.if-not-table_good.false)
+    c.listed_good.ensures ∙ rules-listed _ _ _ t (sym c.table_good.ensures ∙ c.if-table_good.true)
+
+pub returns-else-table_good : goal.returns-else-table_good
+returns-else-table_good c =
+    let t = table_listed _ _ (sym c.in-Some.is ∙ c.listed.ensures) in
+    c.if-table_good.false ∙ rules-table _ _ _ t (sym c.table_good.ensures ∙ c.if-table_good.false)

@@ -35,7 +35,7 @@ loop-i-preserved c =
       few = i.few;
       room = length-set _ _ _ ∙ i.room;
       found = found_gap _ _ c.count-n.ensures c.if-n-eq0.false _ _ i.found _ i.start _ e c.loop-i-test.true (omega arith);
-      start = next_start _ _ c.count-n.ensures c.if-n-eq0.false _ _ i.found _ i.start _ e c.loop-i-test.true;
+      start = c.end-start-in-loop-i.ensures ∙ next_start _ _ c.count-n.ensures c.if-n-eq0.false _ _ i.found _ i.start _ e c.loop-i-test.true;
     }
 
 pub returns : goal.returns

@@ -8,7 +8,7 @@ pub returns : goal.returns
 unfolding entry_at
 returns c =
     record {
-      is = simp (c.number4-offset.ensures, c.number4-length.ensures, c.number4-crc.ensures, c.place-at.ensures);
+      is = simp (c.number-offset.ensures, c.number-length.ensures, c.number-crc.ensures, c.place-at.ensures);
       offset_small = search rules;
       length_small = search rules;
     }

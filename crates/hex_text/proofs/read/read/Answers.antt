@@ -24,7 +24,7 @@ read_lines-requires c =
     let a = c.args in
     let h = good_high a.n (sym c.good_n.ensures ∙ c.if-not-good_n.false) in
     let b = start_small a.bank in
-    (omega arith, omega (arith, c.fill.auto.buffer, c.if-image-n.false))
+    record { base_small = omega arith; size_small = omega (arith, c.fill.auto.buffer, c.if-image-n.false) }
 
 pub returns-in-Err : goal.returns-in-Err
 returns-in-Err c =

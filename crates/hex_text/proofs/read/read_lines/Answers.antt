@@ -3,14 +3,14 @@
 use Rattle.std.proofs.Common.{length, sym, refl, ap, ◌∙◌, arith}
 use Rattle.lines.specs.Places.{lines_left}
 use Rattle.lines.proofs.Lines.{left_first, lines_few}
-use Rattle.hex_text.proofs.Steps.{step_upper, read-on, read-stop, read_finish}
+use Rattle.hex_text.proofs.Steps.{read-on, read-stop, read_finish}
 use Rattle.hex_text.proofs.read.read_lines.Goals as goal
 
 pub loop-bytes-init : goal.loop-bytes-init
 loop-bytes-init c =
     let all = ap lines_left c.into_iter-bytes-iterator.ensures.into_iter_gives ∙ left_first c.new-bytes-items.ensures in
     let few = lines_few c.args.text.now in
-    rw all (omega arith, refl, omega arith, refl)
+    rw all (omega arith, refl, refl)
 
 pub returns-in-Err : goal.returns-in-Err
 returns-in-Err c =
@@ -19,7 +19,7 @@ returns-in-Err c =
     let v = l.invariant in
     let k = c.take_line.ensures in
     let e = rw v.1 at (sym k.is ∙ c.in-Err.is) in
-    read-stop a.base (length a.image.now) l.state l.line l.image c.in-Some.ensures.steps _ e v.3 (rw v.1 at k.image)
+    read-stop a.base (length a.image.now) l.state l.line l.image c.in-Some.ensures.steps _ e v.2 (rw v.1 at k.image)
 
 pub loop-bytes-preserved : goal.loop-bytes-preserved
 loop-bytes-preserved c =
@@ -33,12 +33,11 @@ loop-bytes-preserved c =
     let on = read-on a.base (length a.image.now) l.state l.line l.image here _ (rw v.1 at e) in (
       omega arith,
       c.take_line.auto.image ∙ v.1,
-      step_upper a.base _ l.state _ _ v.2 e,
-      v.3 ∙ on ∙ rw (sym (rw v.1 at k.image)),
+      v.2 ∙ on ∙ rw (sym (rw v.1 at k.image)),
     )
 
 pub returns : goal.returns
 returns c =
     let a = c.args in
     let l = c.loop-bytes in
-    read_finish a.base (length a.image.now) l.state l.line l.image c.in-None.ensures.steps.0 l.invariant.3 c.finish.ensures
+    read_finish a.base (length a.image.now) l.state l.line l.image c.in-None.ensures.steps.0 l.invariant.2 c.finish.ensures

@@ -38,7 +38,7 @@ typed_at-requires c =
     let a = c.args in
     let q = c.requires in (
       looked-counted a.line.now a.base a.size a.state _ c.if-state.false c.in-Some.ensures q.1,
-      (q.0.upper_small, (q.0.base_small, q.0.size_small)),
+      q.0,
     )
 
 pub returns : goal.returns
