@@ -98,7 +98,7 @@ impl Client {
         }
     }
 
-    // N and the length of the running bank first; of that bank nothing else is seen.
+    // N and the length of the running bank first; of that bank nothing else is seen. What is lent comes part by part, as `take` promises of it.
     #[tactic(auto, using(layout::proofs::Layouts::size_good), unfolding(crate::specs::Step::beside_of))]
     fn beside(
         self,
