@@ -64,9 +64,11 @@ def functions(text):
 
 
 def methods(text):
-    """(type, from, to) of each block of methods of a blanked source."""
-    for found in re.finditer(r"\bimpl\b\s*(?:<[^>]*>)?\s*(\w+)[^{;]*", text):
-        yield found.group(1), found.start(), closing(text, found.end())
+    """(type, from, to) of each block of methods of a blanked source. A trait's is called as a log calls it, after its type, the trait and what that is of."""
+    for found in re.finditer(r"\bimpl\b\s*(?:<[^>]*>)?\s*(\w+)(?:<(\w+)>)?(?:\s+for\s+(\w+))?[^{;]*", text):
+        name, of, owner = found.groups()
+        names = [owner, name, of] if owner else [name]
+        yield "".join(part[0].upper() + part[1:] for part in names if part), found.start(), closing(text, found.end())
 
 
 def constants(text):
