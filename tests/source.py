@@ -64,11 +64,10 @@ def functions(text):
 
 
 def methods(text):
-    """(type, from, to) of each block of methods of a blanked source. A trait's is called as a log calls it, after its type, the trait and what that is of."""
-    for found in re.finditer(r"\bimpl\b\s*(?:<[^>]*>)?\s*(\w+)(?:<(\w+)>)?(?:\s+for\s+(\w+))?[^{;]*", text):
-        name, of, owner = found.groups()
-        names = [owner, name, of] if owner else [name]
-        yield "".join(part[0].upper() + part[1:] for part in names if part), found.start(), closing(text, found.end())
+    """(type, from, to) of each block of methods of a blanked source. A trait's are called as a log calls them, `U8FromBank` for `From<Bank> for u8`."""
+    for found in re.finditer(r"\bimpl\b\s*(?:<[^>]*>)?\s*(?:(?:\w+::)*(\w+)(?:<(\w+)>)?\s+for\s+)?(\w+)[^{;]*", text):
+        trait, other, name = found.groups("")
+        yield "".join(word[:1].upper() + word[1:] for word in (name, trait, other)), found.start(), closing(text, found.end())
 
 
 def constants(text):

@@ -1,131 +1,56 @@
 // The commands that call the client.
 use crate::state::Board;
-use crate::word::Call;
 use crate::wrong::Wrong;
-use crate::{send, state};
-use client::host::{Hosted, Told};
+use crate::{field, send};
+use client::host::{Hosted, NotDone};
 use client::record::Client;
-use layout::Bank;
 use script::{say, text};
 use std::env::Env;
 
-fn say_told(rt: &impl Env, told: Told) {
-    if let Told::Done = told {
-        say::text(rt, b"done\n");
-    } else {
-        send::say_refused(rt, client::host::told_number(told) as usize);
+fn say_told(rt: &impl Env, told: Result<(), NotDone>) {
+    match told {
+        Ok(()) => say::text(rt, b"done\n"),
+        Err(why) => send::say_refused(rt, u8::from(why) as usize),
     }
 }
 
-fn bank_of(number: usize) -> Bank {
-    if number == 0 { Bank::Zero } else { Bank::One }
+fn revision_of(field: &[u8]) -> Option<u32> {
+    u32::try_from(text::decimal(field, 10)?).ok()
 }
 
-// All of both banks of a new board is 0xFF.
-fn renew(
-    rt: &impl Env,
-    bank0: &mut [u8],
-    bank1: &mut [u8],
-    n: usize,
-    running: Bank,
-    major: u8,
-    minor: u8,
-    revision: u32,
-) -> Board {
-    buffer::fill::fill(bank0, 0xFF);
-    buffer::fill::fill(bank1, 0xFF);
+// The version's three fields stand behind those on the banks.
+pub(crate) fn client(rt: &impl Env, board: &mut Board, fields: &[u8]) -> Result<(), Wrong> {
+    let later = text::rest(fields);
+    let n = field::number(text::first(fields), Wrong::N)?;
+    let running = field::bank(text::first(later))?;
+    let version = text::rest(later);
+    let last = text::rest(version);
+    let major = field::small(text::first(version), Wrong::Major)?;
+    let minor = field::small(text::first(last), Wrong::Minor)?;
+    let revision = revision_of(text::rest(last)).ok_or(Wrong::Revision)?;
     let hosted = Client::new(n, running, major, minor, revision);
     let told = hosted.told;
     let client = hosted.client;
     say_told(rt, told);
-    state::fresh(client)
+    *board = Board::fresh(client);
+    Ok(())
 }
 
-// The version's three fields, behind those on the banks.
-fn versioned(
-    rt: &impl Env,
-    board: Board,
-    bank0: &mut [u8],
-    bank1: &mut [u8],
-    n: usize,
-    running: Bank,
-    fields: &[u8],
-) -> Board {
-    let later = text::rest(fields);
-    let major = text::decimal(text::first(fields), 6);
-    let minor = text::decimal(text::first(later), 6);
-    let revision = text::decimal(text::rest(later), 10);
-    if major > 255 {
-        return state::kept(board, Wrong::Major);
-    }
-    if minor > 255 {
-        return state::kept(board, Wrong::Minor);
-    }
-    if revision > 0xFFFF_FFFF {
-        return state::kept(board, Wrong::Revision);
-    }
-    renew(
-        rt,
-        bank0,
-        bank1,
-        n,
-        running,
-        major as u8,
-        minor as u8,
-        revision as u32,
-    )
-}
-
-fn client(rt: &impl Env, board: Board, bank0: &mut [u8], bank1: &mut [u8], fields: &[u8]) -> Board {
-    let later = text::rest(fields);
-    let n = text::decimal(text::first(fields), 6);
-    let bank = text::decimal(text::first(later), 1);
-    if n > text::LARGEST_NUMBER {
-        return state::kept(board, Wrong::N);
-    }
-    if bank > 1 {
-        return state::kept(board, Wrong::Bank);
-    }
-    versioned(rt, board, bank0, bank1, n, bank_of(bank), text::rest(later))
-}
-
-fn hosted(rt: &impl Env, board: Board, hosted: Hosted) -> Board {
+fn hosted(rt: &impl Env, board: &mut Board, hosted: Hosted) {
     let client = hosted.client;
     let told = hosted.told;
     say_told(rt, told);
-    let mut b = board;
-    b.client = client;
-    b
+    board.client = client;
 }
 
-fn initiate(rt: &impl Env, board: Board, fields: &[u8]) -> Board {
-    if fields.len() > 0 {
-        return state::kept(board, Wrong::Fields);
-    }
-    let client = board.client;
-    hosted(rt, board, client.initiate())
+pub(crate) fn initiate(rt: &impl Env, board: &mut Board, fields: &[u8]) -> Result<(), Wrong> {
+    field::none(fields)?;
+    hosted(rt, board, board.client.initiate());
+    Ok(())
 }
 
-fn terminate(rt: &impl Env, board: Board, fields: &[u8]) -> Board {
-    if fields.len() > 0 {
-        return state::kept(board, Wrong::Fields);
-    }
-    let client = board.client;
-    hosted(rt, board, client.terminate())
-}
-
-pub(crate) fn run(
-    rt: &impl Env,
-    board: Board,
-    bank0: &mut [u8],
-    bank1: &mut [u8],
-    call: Call,
-    fields: &[u8],
-) -> Board {
-    match call {
-        Call::Client => client(rt, board, bank0, bank1, fields),
-        Call::Initiate => initiate(rt, board, fields),
-        Call::Terminate => terminate(rt, board, fields),
-        Call::Send => send::send(rt, board, bank0, bank1, fields),
-    }
+pub(crate) fn terminate(rt: &impl Env, board: &mut Board, fields: &[u8]) -> Result<(), Wrong> {
+    field::none(fields)?;
+    hosted(rt, board, board.client.terminate());
+    Ok(())
 }

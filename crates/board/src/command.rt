@@ -1,70 +1,75 @@
 // A line of the script, and the command that it is.
 use crate::state::Board;
-use crate::word::Word;
 use crate::wrong::Wrong;
-use crate::{calls, settings, shows, state, word, wrong};
+use crate::{calls, send, settings, shows, wrong};
 use script::text;
 use std::env::Env;
 
 // A field that is missing is empty, and no command has an empty field; one too many stands in the last field, with a blank that no
-// field has.
-fn run(
-    rt: &impl Env,
-    board: Board,
-    bank0: &mut [u8],
-    bank1: &mut [u8],
-    word: Word,
-    fields: &[u8],
-) -> Board {
+// field has. The empty field behind a blank at the line's end would pass for no field.
+fn run(rt: &impl Env, board: &mut Board, line: &[u8]) -> Result<(), Wrong> {
+    if text::ends_in_blank(line) {
+        return Err(Wrong::Blank);
+    }
+    let fields = text::rest(line);
+    match text::first(line) {
+        b"bank" => settings::bank(rt, board, fields),
+        b"fill" => settings::fill(rt, board, fields),
+        b"put" => settings::put(rt, board, fields),
+        b"marks" => settings::marks(rt, board, fields),
+        b"mark" => settings::mark(rt, board, fields),
+        b"address" => settings::address(rt, board, fields),
+        b"buffer" => settings::buffer(rt, board, fields),
+        b"client" => calls::client(rt, board, fields),
+        b"initiate" => calls::initiate(rt, board, fields),
+        b"terminate" => calls::terminate(rt, board, fields),
+        b"send" => send::send(rt, board, fields),
+        b"body" => shows::body(rt, board, fields),
+        b"record" => shows::record(rt, board, fields),
+        b"crc" => shows::crc(rt, board, fields),
+        b"show" => shows::show(rt, board, fields),
+        b"rest" => shows::rest(rt, board, fields),
+        _ => Err(Wrong::Command),
+    }
+}
+
+// What a command takes, by the word that it begins with.
+pub(crate) fn takes(word: &[u8]) -> &'static [u8] {
     match word {
-        Word::Sets(setting) => settings::run(rt, board, bank0, bank1, setting, fields),
-        Word::Calls(call) => calls::run(rt, board, bank0, bank1, call, fields),
-        Word::Shows(show) => state::kept(board, shows::run(rt, board, bank0, bank1, show, fields)),
-        Word::Other => state::kept(board, Wrong::Command),
+        b"bank" => b"bank takes BANK LENGTH",
+        b"fill" => b"fill takes BANK BYTE",
+        b"put" => b"put takes BANK OFFSET BYTES",
+        b"marks" => b"marks takes LENGTH",
+        b"mark" => b"mark takes SECTOR BYTE",
+        b"address" => b"address takes BYTES",
+        b"buffer" => b"buffer takes LENGTH BYTE",
+        b"client" => b"client takes N BANK MAJOR MINOR REVISION",
+        b"initiate" => b"initiate takes nothing",
+        b"terminate" => b"terminate takes nothing",
+        b"send" => b"send takes BYTES",
+        b"body" => b"body takes I",
+        b"record" => b"record takes nothing",
+        b"crc" => b"crc takes BANK",
+        b"show" => b"show takes BANK OFFSET LENGTH",
+        b"rest" => b"rest takes nothing",
+        _ => b"no such command",
     }
 }
 
 fn does_nothing(line: &[u8]) -> bool {
-    if line.len() == 0 {
+    matches!(line, [] | [b'#', ..])
+}
+
+// Whether the script goes on.
+pub(crate) fn follow(rt: &impl Env, board: &mut Board, number: usize, line: &[u8]) -> bool {
+    if does_nothing(line) {
         return true;
     }
-    line[0] == b'#'
-}
-
-pub(crate) fn too_long(rt: &impl Env, board: Board, number: usize) -> Board {
-    wrong::say_too_long(rt, number);
-    state::ended(board)
-}
-
-// The empty field behind a blank at the line's end would pass for no field.
-fn known(
-    rt: &impl Env,
-    board: Board,
-    bank0: &mut [u8],
-    bank1: &mut [u8],
-    word: Word,
-    line: &[u8],
-) -> Board {
-    if text::ends_in_blank(line) {
-        return state::kept(board, Wrong::Blank);
+    match run(rt, board, line) {
+        Ok(()) => true,
+        Err(why) => {
+            wrong::say(rt, why, number, line);
+            false
+        }
     }
-    run(rt, board, bank0, bank1, word, text::rest(line))
-}
-
-pub(crate) fn follow(
-    rt: &impl Env,
-    board: Board,
-    bank0: &mut [u8],
-    bank1: &mut [u8],
-    number: usize,
-    line: &[u8],
-) -> Board {
-    if does_nothing(line) {
-        return board;
-    }
-    let word = word::word_of(text::first(line));
-    let after = known(rt, board, bank0, bank1, word, line);
-    let wrong = after.wrong;
-    wrong::say(rt, wrong, word, number, line);
-    after
 }

@@ -1,184 +1,94 @@
 // The commands that set what the board holds, and how much of it is lent.
-ghost use Rattle.std.specs.Prelude.{◌≤◌};
-
-use crate::state;
-use crate::state::Board;
-use crate::word::Setting;
+use crate::field;
+use crate::state::{BANK_ROOM, BUFFER_ROOM, Board, MARKS_ROOM};
 use crate::wrong::Wrong;
+use layout::Bank;
+use script::room::Room;
 use script::{say, text};
 use std::env::Env;
 
-fn lend_bank(board: Board, bank: usize, count: u32) -> Board {
-    let mut b = board;
-    if bank == 0 {
-        b.bank0 = count;
-        return b;
-    }
-    b.bank1 = count;
-    b
+pub(crate) fn say_bank(rt: &impl Env, bank: Bank) {
+    say::field(rt, usize::from(u8::from(bank)));
 }
 
-fn bank(rt: &impl Env, board: Board, fields: &[u8]) -> Board {
-    let bank = text::decimal(text::first(fields), 1);
-    let count = text::decimal(text::rest(fields), 6);
-    if bank > 1 {
-        return state::kept(board, Wrong::Bank);
-    }
-    if count > state::BANK_ROOM {
-        return state::kept(board, Wrong::Length(state::BANK_ROOM));
-    }
+pub(crate) fn bank(rt: &impl Env, board: &mut Board, fields: &[u8]) -> Result<(), Wrong> {
+    let bank = field::bank(text::first(fields))?;
+    let count = field::length(text::rest(fields), BANK_ROOM)?;
     say::text(rt, b"bank");
-    say::field(rt, bank);
+    say_bank(rt, bank);
     say::field(rt, count);
     say::end(rt);
-    lend_bank(board, bank, count as u32)
+    board.bank_mut(bank).lent = count;
+    Ok(())
 }
 
-fn fill(rt: &impl Env, bank0: &mut [u8], bank1: &mut [u8], fields: &[u8]) -> Wrong {
-    let bank = text::decimal(text::first(fields), 1);
-    let byte = text::number(text::rest(fields), 2);
-    if bank > 1 {
-        return Wrong::Bank;
-    }
-    if byte > 255 {
-        return Wrong::Byte;
-    }
+pub(crate) fn fill(rt: &impl Env, board: &mut Board, fields: &[u8]) -> Result<(), Wrong> {
+    let bank = field::bank(text::first(fields))?;
+    let byte = field::byte(text::rest(fields))?;
     say::text(rt, b"fill");
-    say::field(rt, bank);
+    say_bank(rt, bank);
     say::text(rt, b" ");
-    say::byte(rt, byte as u8);
+    say::byte(rt, byte);
     say::end(rt);
-    if bank == 0 {
-        buffer::fill::fill(bank0, byte as u8);
-    } else {
-        buffer::fill::fill(bank1, byte as u8);
-    }
-    Wrong::Nothing
+    board.bank_mut(bank).bytes.fill(byte);
+    Ok(())
 }
 
-// The bytes that `digits` spells, to a bank's room from `offset` on.
-fn put_in(rt: &impl Env, room: &mut [u8], bank: usize, offset: usize, digits: &[u8]) -> Wrong {
-    if offset > room.len() {
-        return Wrong::Offset;
-    }
-    let got = text::bytes(digits, &mut room[offset..]);
-    if got < 0 {
-        return Wrong::Bytes;
-    }
-    say::text(rt, b"put");
-    say::field(rt, bank);
-    say::field(rt, offset);
-    say::field(rt, io::count(got, room));
-    say::end(rt);
-    Wrong::Nothing
-}
-
-fn put(rt: &impl Env, bank0: &mut [u8], bank1: &mut [u8], fields: &[u8]) -> Wrong {
-    let bank = text::decimal(text::first(fields), 1);
+pub(crate) fn put(rt: &impl Env, board: &mut Board, fields: &[u8]) -> Result<(), Wrong> {
     let later = text::rest(fields);
-    let offset = text::decimal(text::first(later), 6);
-    if bank == 0 {
-        return put_in(rt, bank0, bank, offset, text::rest(later));
-    }
-    if bank == 1 {
-        return put_in(rt, bank1, bank, offset, text::rest(later));
-    }
-    Wrong::Bank
+    let bank = field::bank(text::first(fields))?;
+    let offset = field::number(text::first(later), Wrong::Offset)?;
+    let room = board.bank_mut(bank);
+    let behind = room.bytes.get_mut(offset..).ok_or(Wrong::Offset)?;
+    let count = text::bytes(text::rest(later), behind).ok_or(Wrong::Bytes)?;
+    say::text(rt, b"put");
+    say_bank(rt, bank);
+    say::field(rt, offset);
+    say::field(rt, count);
+    say::end(rt);
+    Ok(())
 }
 
-fn marks(rt: &impl Env, board: Board, fields: &[u8]) -> Board {
-    let count = text::decimal(fields, 6);
-    if count > state::MARKS_ROOM {
-        return state::kept(board, Wrong::Length(state::MARKS_ROOM));
-    }
+pub(crate) fn marks(rt: &impl Env, board: &mut Board, fields: &[u8]) -> Result<(), Wrong> {
+    let count = field::length(fields, MARKS_ROOM)?;
     say::text(rt, b"marks");
     say::field(rt, count);
     say::end(rt);
-    let mut b = board;
-    b.marks = [0u8; state::MARKS_ROOM];
-    b.marks_lent = count as u32;
-    b
+    board.marks = Room::filled(0, count);
+    Ok(())
 }
 
-fn set_mark(board: Board, sector: usize, byte: u8) -> Board
-    requires { (1 ≤ sector) × (sector ≤ 512) }
-{
-    let at = sector - 1;
-    let mut b = board;
-    b.marks[at] = byte;
-    b
-}
-
-fn mark(rt: &impl Env, board: Board, fields: &[u8]) -> Board {
-    let sector = text::decimal(text::first(fields), 6);
-    let byte = text::number(text::rest(fields), 2);
-    if sector < 1 {
-        return state::kept(board, Wrong::Sector);
-    }
-    if sector > state::MARKS_ROOM {
-        return state::kept(board, Wrong::Sector);
-    }
-    if byte > 255 {
-        return state::kept(board, Wrong::Byte);
-    }
+// Sectors are counted from 1.
+pub(crate) fn mark(rt: &impl Env, board: &mut Board, fields: &[u8]) -> Result<(), Wrong> {
+    let sector = field::number(text::first(fields), Wrong::Sector)?;
+    let at = sector.checked_sub(1).ok_or(Wrong::Sector)?;
+    let mark = board.marks.bytes.get_mut(at).ok_or(Wrong::Sector)?;
+    let byte = field::byte(text::rest(fields))?;
     say::text(rt, b"mark");
     say::field(rt, sector);
     say::text(rt, b" ");
-    say::byte(rt, byte as u8);
+    say::byte(rt, byte);
     say::end(rt);
-    set_mark(board, sector, byte as u8)
+    *mark = byte;
+    Ok(())
 }
 
-fn address(rt: &impl Env, board: Board, fields: &[u8]) -> Board {
-    let mut address = board.address;
-    let got = text::bytes(fields, &mut address);
-    if got < 0 {
-        return state::kept(board, Wrong::Bytes);
-    }
-    let count = io::count(got, &address);
+pub(crate) fn address(rt: &impl Env, board: &mut Board, fields: &[u8]) -> Result<(), Wrong> {
+    let count = text::bytes(fields, &mut board.address.bytes).ok_or(Wrong::Bytes)?;
     say::text(rt, b"address");
     say::field(rt, count);
     say::end(rt);
-    let mut b = board;
-    b.address = address;
-    b.address_lent = count as u32;
-    b
+    board.address.lent = count;
+    Ok(())
 }
 
-fn buffer(rt: &impl Env, board: Board, fields: &[u8]) -> Board {
-    let count = text::decimal(text::first(fields), 6);
-    let byte = text::number(text::rest(fields), 2);
-    if count > state::BUFFER_ROOM {
-        return state::kept(board, Wrong::Length(state::BUFFER_ROOM));
-    }
-    if byte > 255 {
-        return state::kept(board, Wrong::Byte);
-    }
+pub(crate) fn buffer(rt: &impl Env, board: &mut Board, fields: &[u8]) -> Result<(), Wrong> {
+    let count = field::length(text::first(fields), BUFFER_ROOM)?;
+    let byte = field::byte(text::rest(fields))?;
     say::text(rt, b"buffer");
     say::field(rt, count);
     say::end(rt);
-    let mut b = board;
-    b.buffer = [byte as u8; state::BUFFER_ROOM];
-    b.buffer_lent = count as u32;
-    b.answered = 0;
-    b
-}
-
-pub(crate) fn run(
-    rt: &impl Env,
-    board: Board,
-    bank0: &mut [u8],
-    bank1: &mut [u8],
-    setting: Setting,
-    fields: &[u8],
-) -> Board {
-    match setting {
-        Setting::Bank => bank(rt, board, fields),
-        Setting::Fill => state::kept(board, fill(rt, bank0, bank1, fields)),
-        Setting::Put => state::kept(board, put(rt, bank0, bank1, fields)),
-        Setting::Marks => marks(rt, board, fields),
-        Setting::Mark => mark(rt, board, fields),
-        Setting::Address => address(rt, board, fields),
-        Setting::Buffer => buffer(rt, board, fields),
-    }
+    board.buffer = Room::filled(byte, count);
+    board.answered = 0;
+    Ok(())
 }

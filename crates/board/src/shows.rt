@@ -1,12 +1,12 @@
 // The commands that show what the board holds.
-use crate::state;
+use crate::field;
+use crate::settings::say_bank;
 use crate::state::Board;
-use crate::word::Show;
 use crate::wrong::Wrong;
 use client::record::{Client, Latest};
 use decision::plan::ADDRESS;
 use exchange::state::State;
-use layout::{Bank, MOST};
+use layout::MOST;
 use script::{say, text};
 use std::env::Env;
 
@@ -18,17 +18,14 @@ fn say_sum(rt: &impl Env, bytes: &[u8]) {
     say::end(rt);
 }
 
-fn body<'a>(rt: &impl Env, board: Board, bank0: &'a [u8], bank1: &'a [u8], fields: &[u8]) -> Wrong {
-    let i = text::decimal(fields, 6);
-    if i > text::LARGEST_NUMBER {
-        return Wrong::Index;
-    }
-    let client = board.client;
-    let lent0 = state::front(bank0, board.bank0 as usize);
-    let lent1 = state::front(bank1, board.bank1 as usize);
+pub(crate) fn body(rt: &impl Env, board: &Board, fields: &[u8]) -> Result<(), Wrong> {
+    let i = field::number(fields, Wrong::Index)?;
     say::text(rt, b"body");
-    say_sum(rt, client.body(lent0, lent1, i));
-    Wrong::Nothing
+    say_sum(
+        rt,
+        board.client.body(board.bank0.part(), board.bank1.part(), i),
+    );
+    Ok(())
 }
 
 fn say_state(rt: &impl Env, state: State) {
@@ -58,34 +55,23 @@ fn say_opener(rt: &impl Env, state: State, opener: [u8; ADDRESS]) {
     }
 }
 
-fn say_bank(rt: &impl Env, bank: Bank) {
-    say::field(rt, layout::bank_number(bank) as usize);
-}
-
 fn say_version(rt: &impl Env, major: u8, minor: u8, revision: u32) {
     say::field(rt, major as usize);
     say::field(rt, minor as usize);
     say::field(rt, revision as usize);
 }
 
-// One sector more of the list, where it was received; whether the list now has one.
-fn say_sector(rt: &impl Env, received: bool, sector: usize, begun: bool) -> bool {
-    if !received {
-        return begun;
-    }
-    if begun {
-        say::text(rt, b",");
-    }
-    say::decimal(rt, sector);
-    true
-}
-
+// The sectors that were received, or that none was.
 fn say_received(rt: &impl Env, received: [bool; MOST]) {
     let mut begun = false;
-    let mut i = 0;
-    while i < MOST {
-        begun = say_sector(rt, received[i], i + 1, begun);
-        i += 1;
+    for (i, one) in received.iter().enumerate() {
+        if *one {
+            if begun {
+                say::text(rt, b",");
+            }
+            say::decimal(rt, i + 1);
+            begun = true;
+        }
     }
     if !begun {
         say::text(rt, b"-");
@@ -113,101 +99,39 @@ fn say_record(rt: &impl Env, client: Client) {
     say_received(rt, received);
 }
 
-fn record(rt: &impl Env, board: Board, fields: &[u8]) -> Wrong {
-    if fields.len() > 0 {
-        return Wrong::Fields;
-    }
-    let client = board.client;
-    say_record(rt, client);
-    Wrong::Nothing
+pub(crate) fn record(rt: &impl Env, board: &Board, fields: &[u8]) -> Result<(), Wrong> {
+    field::none(fields)?;
+    say_record(rt, board.client);
+    Ok(())
 }
 
-fn say_crc(rt: &impl Env, bank: usize, bytes: &[u8]) {
+pub(crate) fn crc(rt: &impl Env, board: &Board, fields: &[u8]) -> Result<(), Wrong> {
+    let bank = field::bank(fields)?;
     say::text(rt, b"crc");
-    say::field(rt, bank);
-    say_sum(rt, bytes);
+    say_bank(rt, bank);
+    say_sum(rt, board.bank(bank).part());
+    Ok(())
 }
 
-fn crc(rt: &impl Env, board: Board, bank0: &[u8], bank1: &[u8], fields: &[u8]) -> Wrong {
-    let bank = text::decimal(fields, 1);
-    if bank == 0 {
-        say_crc(rt, bank, state::front(bank0, board.bank0 as usize));
-        return Wrong::Nothing;
-    }
-    if bank == 1 {
-        say_crc(rt, bank, state::front(bank1, board.bank1 as usize));
-        return Wrong::Nothing;
-    }
-    Wrong::Bank
-}
-
-fn show_of(rt: &impl Env, room: &[u8], offset: usize, count: usize) -> Wrong {
-    if offset > room.len() {
-        return Wrong::Offset;
-    }
-    if count > room.len() - offset {
-        return Wrong::Within;
-    }
-    let end = offset + count;
-    say::text(rt, b"show ");
-    say::bytes(rt, &room[offset..end]);
-    say::end(rt);
-    Wrong::Nothing
-}
-
-fn show(rt: &impl Env, bank0: &[u8], bank1: &[u8], fields: &[u8]) -> Wrong {
-    let bank = text::decimal(text::first(fields), 1);
+pub(crate) fn show(rt: &impl Env, board: &Board, fields: &[u8]) -> Result<(), Wrong> {
     let later = text::rest(fields);
-    let offset = text::decimal(text::first(later), 6);
-    let count = text::decimal(text::rest(later), 6);
-    if bank == 0 {
-        return show_of(rt, bank0, offset, count);
-    }
-    if bank == 1 {
-        return show_of(rt, bank1, offset, count);
-    }
-    Wrong::Bank
-}
-
-// What is lent of the buffer, behind an answer of so many bytes.
-fn behind(lent: &[u8], answered: usize) -> &[u8] {
-    if answered <= lent.len() {
-        &lent[answered..]
-    } else {
-        &lent[..0]
-    }
-}
-
-fn rest(rt: &impl Env, board: Board, fields: &[u8]) -> Wrong {
-    if fields.len() > 0 {
-        return Wrong::Fields;
-    }
-    let buffer = board.buffer;
-    say::text(rt, b"rest ");
-    say::bytes(
-        rt,
-        behind(
-            state::front(&buffer, board.buffer_lent as usize),
-            board.answered,
-        ),
-    );
+    let bank = field::bank(text::first(fields))?;
+    let offset = field::number(text::first(later), Wrong::Offset)?;
+    let behind = board.bank(bank).bytes.get(offset..).ok_or(Wrong::Offset)?;
+    let count = field::number(text::rest(later), Wrong::Within)?;
+    let shown = behind.get(..count).ok_or(Wrong::Within)?;
+    say::text(rt, b"show ");
+    say::bytes(rt, shown);
     say::end(rt);
-    Wrong::Nothing
+    Ok(())
 }
 
-pub(crate) fn run<'a>(
-    rt: &impl Env,
-    board: Board,
-    bank0: &'a [u8],
-    bank1: &'a [u8],
-    asked: Show,
-    fields: &[u8],
-) -> Wrong {
-    match asked {
-        Show::Body => body(rt, board, bank0, bank1, fields),
-        Show::Record => record(rt, board, fields),
-        Show::Crc => crc(rt, board, bank0, bank1, fields),
-        Show::Show => show(rt, bank0, bank1, fields),
-        Show::Rest => rest(rt, board, fields),
-    }
+// What is lent of the buffer, behind the latest answer.
+pub(crate) fn rest(rt: &impl Env, board: &Board, fields: &[u8]) -> Result<(), Wrong> {
+    field::none(fields)?;
+    let behind = board.buffer.part().get(board.answered..).unwrap_or(&[]);
+    say::text(rt, b"rest ");
+    say::bytes(rt, behind);
+    say::end(rt);
+    Ok(())
 }

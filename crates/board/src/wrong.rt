@@ -1,12 +1,10 @@
 // What is wrong with a line of the script, and what its field may be.
-use crate::word::Word;
-use crate::{state, word};
-use script::{call, say, text};
+use crate::{command, state};
+use script::{say, text};
 use std::env::Env;
 
 #[derive(Clone, Copy)]
 pub enum Wrong {
-    Nothing,
     // There is no such command.
     Command,
     // A command without fields has some.
@@ -29,14 +27,6 @@ pub enum Wrong {
     Bytes,
 }
 
-pub(crate) fn is_nothing(wrong: Wrong) -> bool {
-    if let Wrong::Nothing = wrong {
-        true
-    } else {
-        false
-    }
-}
-
 fn say_range(rt: &impl Env, name: &[u8], least: usize, most: usize) {
     say::text(rt, b"; ");
     say::text(rt, name);
@@ -48,36 +38,23 @@ fn say_range(rt: &impl Env, name: &[u8], least: usize, most: usize) {
 
 // Whether each byte is one of ASCII's that show, a blank too.
 fn printable(line: &[u8]) -> bool {
-    let mut i = 0;
-    while i < line.len() {
-        if line[i] < b' ' {
-            return false;
-        }
-        if line[i] > b'~' {
-            return false;
-        }
-        i += 1;
-    }
-    true
+    line.iter().all(|b| matches!(*b, b' '..=b'~'))
 }
 
-const LONGEST_QUOTE: isize = 80;
+const LONGEST_QUOTE: usize = 80;
 
 // What is no command may be the refusal of a program that wrote into the pipe, which is seen nowhere else.
 fn say_quoted(rt: &impl Env, line: &[u8]) {
     if printable(line) {
-        let end = io::count(LONGEST_QUOTE, line);
         say::text(rt, b": ");
-        say::text(rt, &line[..end]);
+        say::text(rt, &line[..line.len().min(LONGEST_QUOTE)]);
     }
 }
 
 fn say_field(rt: &impl Env, wrong: Wrong, line: &[u8]) {
     match wrong {
-        Wrong::Nothing => (),
         Wrong::Command => say_quoted(rt, line),
-        Wrong::Fields => (),
-        Wrong::Blank => (),
+        Wrong::Fields | Wrong::Blank => (),
         Wrong::N => say_range(rt, b"N", 0, text::LARGEST_NUMBER),
         Wrong::Bank => say_range(rt, b"BANK", 0, 1),
         Wrong::Major => say_range(rt, b"MAJOR", 0, 255),
@@ -102,35 +79,21 @@ fn say_line(rt: &impl Env, number: usize) {
     say::text(rt, b": ");
 }
 
-// The script ends there, so this is told as a refusal.
-fn say_end(rt: &impl Env) {
-    say::end(rt);
-    call::refused(rt);
-}
-
-pub(crate) fn say_too_long(rt: &impl Env, number: usize) {
+// The script ends there, so what is wrong is told as a refusal.
+pub(crate) fn too_long(rt: &impl Env, number: usize) -> bool {
     say_line(rt, number);
-    say::text(rt, b"too long");
-    say_end(rt);
+    say::words_refused(rt, b"too long");
+    false
 }
 
-fn say_blank(rt: &impl Env, number: usize) {
+pub(crate) fn say(rt: &impl Env, wrong: Wrong, number: usize, line: &[u8]) {
     say_line(rt, number);
-    say::text(rt, b"a blank at its end");
-    say_end(rt);
-}
-
-fn say_taken(rt: &impl Env, wrong: Wrong, word: Word, number: usize, line: &[u8]) {
-    say_line(rt, number);
-    word::say_takes(rt, word);
-    say_field(rt, wrong, line);
-    say_end(rt);
-}
-
-pub(crate) fn say(rt: &impl Env, wrong: Wrong, word: Word, number: usize, line: &[u8]) {
     match wrong {
-        Wrong::Nothing => (),
-        Wrong::Blank => say_blank(rt, number),
-        other => say_taken(rt, other, word, number, line),
+        Wrong::Blank => say::text(rt, b"a blank at its end"),
+        other => {
+            say::text(rt, command::takes(text::first(line)));
+            say_field(rt, other, line);
+        }
     }
+    say::end_refused(rt);
 }

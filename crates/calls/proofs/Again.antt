@@ -8,11 +8,10 @@ use lib.Dec.{eqb}
 use lib.ListN.{length}
 use Rattle.frame.specs.Read.{data_in}
 use Rattle.layout.specs.Layout.{good_n, bank_size}
-use Rattle.exchange.specs.declared.answer.Answer.TheVariants.{Refused}
 use Rattle.exchange.specs.declared.answer.Refusal.TheVariants.{BadN, BadLength}
 use Rattle.exchange.specs.Answer.{told_length}
 use Rattle.decision.specs.declared.plan.Plan.{Plan}
-use Rattle.decision.specs.declared.plan.Plan.TheVariants.{Keep}
+use Rattle.decision.specs.declared.plan.Plan.TheVariants.{Refuse}
 use Rattle.client.specs.declared.record.Client.{Client}
 use Rattle.client.specs.Step.{Carried, carried_of, planned, take_of, beside_of}
 use Rattle.calls.specs.Call.{Call, Board, stepped, board_after, after_steps, came_of_steps}
@@ -56,5 +55,5 @@ module _ (c : Client) (running : ℕ) (target marks address one two datagram : L
       by : (g : Bool) → good_n c.fixed.n ≡ g → (s : Bool) → eqb running (bank_size c.fixed.n) ≡ s
           → Likewise (beside_of c running target marks address one datagram) (beside_of c running target marks address two datagram)
       by true g true s = rw (g, s) take_lent
-      by true g false s = rw (g, s) (carried_lent (Keep (Refused BadLength)) [])
-      by false g s t = rw g (carried_lent (Keep (Refused BadN)) [])
+      by true g false s = rw (g, s) (carried_lent (Refuse BadLength) [])
+      by false g s t = rw g (carried_lent (Refuse BadN) [])

@@ -18,15 +18,13 @@ use Rattle.layout.specs.declared.Bank.{Bank}
 use Rattle.layout.specs.Layout.{good_n, bank_size, other_of}
 use Rattle.layout.specs.Pair.{Banks, bank_in, with_bank}
 use Rattle.layout.proofs.Pairs.{bank_there, bank_beside, pair_same, pair_last}
-use Rattle.exchange.specs.declared.answer.Answer.TheVariants.{Refused}
 use Rattle.exchange.specs.declared.answer.Refusal.{Refusal}
 use Rattle.exchange.specs.declared.answer.Refusal.TheVariants.{BadN, BadLength}
-use Rattle.exchange.specs.Answer.{answer_bytes, told_length}
+use Rattle.exchange.specs.Answer.{reply_bytes, told_length}
 use Rattle.exchange.specs.Request.{asked_of}
-use Rattle.exchange.proofs.Saying.{put_refused}
 use Rattle.decision.specs.declared.plan.Fixed.{Fixed}
 use Rattle.decision.specs.declared.plan.Plan.{Plan}
-use Rattle.decision.specs.declared.plan.Plan.TheVariants.{Keep}
+use Rattle.decision.specs.declared.plan.Plan.TheVariants.{Refuse}
 use Rattle.decision.specs.Plan.{plan_of}
 use Rattle.client.specs.declared.record.Client.{Client}
 use Rattle.client.specs.Perform.{served_of}
@@ -41,7 +39,7 @@ use Rattle.calls.proofs.Leading.{Finishing, leads}
 
 module _ (c : Client) (running : ℕ) (target marks address buffer datagram : List ℕ) where
   abbrev refused : Refusal → Carried
-  refused why = carried_of c (Keep (Refused why)) target address buffer []
+  refused why = carried_of c (Refuse why) target address buffer []
 
   -- what holds of the call and of a refusal holds of the step
   by_cases : (P : Carried → Type 0) → P (take_of c target marks address buffer datagram) → ((why : Refusal) → P (refused why))
@@ -60,44 +58,44 @@ module _ (c : Client) (running : ℕ) (target marks address buffer datagram : Li
   pub step_length : length (beside_of c running target marks address buffer datagram).target ≡ length target
   step_length =
       by_cases (λ (r : Carried). length r.target ≡ length target) (taken_length c target marks address buffer datagram)
-      (λ why. carried_length c target address buffer [] (Keep (Refused why)))
+      (λ why. carried_length c target address buffer [] (Refuse why))
 
   pub step_stays : Stays c (beside_of c running target marks address buffer datagram).client
   step_stays =
       by_cases (λ (r : Carried). Stays c r.client) (take_stays c target marks address buffer datagram)
-      (λ why. carried_stays c target address buffer [] (Keep (Refused why)))
+      (λ why. carried_stays c target address buffer [] (Refuse why))
 
-  refused_fits : (why : Refusal) → length (answer_bytes (refused why).answer) ≤ length buffer
+  refused_fits : (why : Refusal) → length (reply_bytes (refused why).answer) ≤ length buffer
   unfolding carried_of served_of
-  refused_fits why = let e = (put_refused [] why).counted in omega arith
+  refused_fits why = omega arith
 
   -- what is said, in the buffer: it always fits
-  pub step_fits : length (answer_bytes (beside_of c running target marks address buffer datagram).answer) ≤ length buffer
+  pub step_fits : length (reply_bytes (beside_of c running target marks address buffer datagram).answer) ≤ length buffer
   step_fits =
-      by_cases (λ (r : Carried). length (answer_bytes r.answer) ≤ length buffer) (take_fits c target marks address buffer datagram) refused_fits
+      by_cases (λ (r : Carried). length (reply_bytes r.answer) ≤ length buffer) (take_fits c target marks address buffer datagram) refused_fits
 
   carried_says : (plan : Plan) (bytes : List ℕ)
-      → ((carried_of c plan target address buffer bytes).buffer ≡ front_of buffer (answer_bytes (carried_of c plan target address buffer bytes).answer))
-      × ((carried_of c plan target address buffer bytes).told ≡ told_length (answer_bytes (carried_of c plan target address buffer bytes).answer) (length buffer))
+      → ((carried_of c plan target address buffer bytes).buffer ≡ front_of buffer (reply_bytes (carried_of c plan target address buffer bytes).answer))
+      × ((carried_of c plan target address buffer bytes).told ≡ told_length (reply_bytes (carried_of c plan target address buffer bytes).answer) (length buffer))
   unfolding carried_of
   carried_says plan bytes = (refl, refl)
 
   abbrev Says : Carried → Type 0
-  Says r = (r.buffer ≡ front_of buffer (answer_bytes r.answer)) × (r.told ≡ told_length (answer_bytes r.answer) (length buffer))
+  Says r = (r.buffer ≡ front_of buffer (reply_bytes r.answer)) × (r.told ≡ told_length (reply_bytes r.answer) (length buffer))
 
   take_says_lem : Says (take_of c target marks address buffer datagram)
   unfolding take_of
   take_says_lem = carried_says (planned c target marks address buffer datagram) (data_in datagram)
 
   says : Says (beside_of c running target marks address buffer datagram)
-  says = by_cases Says take_says_lem (λ why. carried_says (Keep (Refused why)) [])
+  says = by_cases Says take_says_lem (λ why. carried_says (Refuse why) [])
 
   pub step_said : (beside_of c running target marks address buffer datagram).buffer
-      ≡ front_of buffer (answer_bytes (beside_of c running target marks address buffer datagram).answer)
+      ≡ front_of buffer (reply_bytes (beside_of c running target marks address buffer datagram).answer)
   step_said = says.0
 
   pub step_told : (beside_of c running target marks address buffer datagram).told
-      ≡ told_length (answer_bytes (beside_of c running target marks address buffer datagram).answer) (length buffer)
+      ≡ told_length (reply_bytes (beside_of c running target marks address buffer datagram).answer) (length buffer)
   step_told = says.1
 
 -- ---- two targets of one length, and running banks of one length
@@ -113,7 +111,7 @@ module _ (c : Client) (running : ℕ) (one two marks address buffer datagram : L
   take_alike = rw (← same_plan) (alike c one two address buffer datagram l swept _ (leads c one marks address buffer datagram))
 
   refused_alike : (why : Refusal)
-      → Alike (carried_of c (Keep (Refused why)) one address buffer []) (carried_of c (Keep (Refused why)) two address buffer [])
+      → Alike (carried_of c (Refuse why) one address buffer []) (carried_of c (Refuse why) two address buffer [])
   unfolding carried_of served_of
   refused_alike why = record { client = refl; notice = refl; answer = same refl }
 

@@ -6,6 +6,7 @@ use mathlib.Core.Bool.{Bool, true, false, ◌||◌, false≢true}
 use mathlib.Core.List.{List}
 use Prim.Native.Nat.{ℕ}
 use lib.ListN.{length}
+use Rattle.std.specs.Prelude.{Ok}
 use Rattle.buffer.specs.Compare.{blank_of}
 use Rattle.buffer.proofs.Bools.{split}
 use Rattle.crc.specs.Crc.{crc_of}
@@ -14,12 +15,12 @@ use Rattle.flash.specs.Bank.{written_at, already_at, swept_of}
 use Rattle.flash.specs.Sector.{padded_of}
 use Rattle.flash.proofs.Writes.{written_here}
 use Rattle.commands.specs.declared.Command.TheVariants.{WriteStart, WriteEnd}
-use Rattle.exchange.specs.declared.answer.Answer.{Answer}
 use Rattle.exchange.specs.declared.answer.Answer.TheVariants.{Response, Written}
+use Rattle.exchange.specs.Answer.{Reply}
 use Rattle.exchange.specs.declared.state.State.{State}
 use Rattle.exchange.specs.declared.state.State.TheVariants as state
 use Rattle.decision.specs.declared.plan.Plan.{Plan}
-use Rattle.decision.specs.declared.plan.Plan.TheVariants.{Keep, Open, Leave, Begin, Store, Wear, Finish}
+use Rattle.decision.specs.declared.plan.Plan.TheVariants.{Refuse, Keep, Open, Leave, Begin, Store, Wear, Finish}
 use Rattle.decision.proofs.Leading.{Quiet}
 use Rattle.client.specs.declared.record.Client.{Client}
 use Rattle.client.specs.Perform.{fit_of, Accepted, store_result, sector_crc, Done, store_of, checked_of, served_of}
@@ -35,13 +36,13 @@ accepted blank already = split Accepted (blank || already) (λ _. inr refl) (λ 
 pub data Course (c : Client) (target datagram : List ℕ) (r : Carried) : Type 0 where
   still : Quiet r.answer → r.target ≡ target → (r.client.state ≡ state.Write → (c.state ≡ state.Write) × (r.client.received ≡ c.received))
       → Course c target datagram r
-  begins : r.answer ≡ Response WriteStart 0x06 → r.target ≡ target → r.client.received ≡ none_received → Beginning c (length target)
+  begins : r.answer ≡ Ok (Response WriteStart 0x06) → r.target ≡ target → r.client.received ≡ none_received → Beginning c (length target)
       → Course c target datagram r
   stores : (sector write : ℕ) → Storing c (length target) datagram sector → Accepted write
-      → r.answer ≡ Written sector 0x06 write (crc_of (padded_of (data_in datagram)))
+      → r.answer ≡ Ok (Written sector 0x06 write (crc_of (padded_of (data_in datagram))))
       → r.target ≡ written_at target sector (data_in datagram) → r.client ≡ marked sector c
       → Course c target datagram r
-  ends : (result : ℕ) → (result ≡ 0x06) ⊎ (result ≡ 0x1E) → r.answer ≡ Response WriteEnd result
+  ends : (result : ℕ) → (result ≡ 0x06) ⊎ (result ≡ 0x1E) → r.answer ≡ Ok (Response WriteEnd result)
       → r.target ≡ swept_of target c.fixed.n c.received
       → r.client.state ≡ state.Control → Finishing c (length target)
       → Course c target datagram r
@@ -66,6 +67,7 @@ module _ (c : Client) (target address buffer datagram : List ℕ) where
 
   pub course : (plan : Plan) → Leads c (length target) datagram plan → Course c target datagram (carried_of c plan target address buffer bytes)
   unfolding carried_of served_of store_of checked_of
+  course (Refuse why) l = still tt refl (λ e. (e, refl))
   course (Keep answer) l = still l refl (λ e. (e, refl))
   course Open l = still (refl, refl) refl (λ e. absurd (not_write state.Control refl e))
   course Leave l = still (refl, refl) refl (λ e. absurd (not_write state.Idle refl e))
@@ -73,7 +75,7 @@ module _ (c : Client) (target address buffer datagram : List ℕ) where
   course (Store sector) l =
       let already : Bool = already_at target sector bytes in
       stores sector (store_result (blank_of bytes) already) l (accepted (blank_of bytes) already)
-      (ap (Written sector 0x06 (store_result (blank_of bytes) already)) (stored_crc c target datagram sector l)) refl refl
+      (ap (λ (x : ℕ). Ok (Written sector 0x06 (store_result (blank_of bytes) already) x)) (stored_crc c target datagram sector l)) refl refl
   course Wear l = still (refl, refl) refl (λ e. absurd (not_write state.Control refl e))
   course Finish l =
       split (λ (d : Done). Course c target datagram (said_of d (notice_of Finish c.latest address) buffer))
@@ -84,9 +86,9 @@ module _ (c : Client) (target address buffer datagram : List ℕ) where
 -- ---- two targets
 
 -- two answers: the same, or 06 here and 1D there
-pub data Match (a b : Answer) : Type 0 where
+pub data Match (a b : Reply) : Type 0 where
   same : a ≡ b → Match a b
-  either : (sector crc v w : ℕ) → Accepted v → Accepted w → a ≡ Written sector 0x06 v crc → b ≡ Written sector 0x06 w crc → Match a b
+  either : (sector crc v w : ℕ) → Accepted v → Accepted w → a ≡ Ok (Written sector 0x06 v crc) → b ≡ Ok (Written sector 0x06 w crc) → Match a b
 
 pub record Alike (r s : Carried) : Type 0 where
   pub client : r.client ≡ s.client
@@ -101,6 +103,7 @@ module _ (c : Client) (one two address buffer datagram : List ℕ) (l : length o
     (swept : Finishing c (length one) → swept_of one c.fixed.n c.received ≡ swept_of two c.fixed.n c.received) where
   pub alike : (plan : Plan) → Leads c (length one) datagram plan → Alike (carried_of c plan one address buffer (data_in datagram)) (carried_of c plan two address buffer (data_in datagram))
   unfolding carried_of served_of store_of
+  alike (Refuse why) h = record { client = refl; notice = refl; answer = same refl }
   alike (Keep answer) h = record { client = refl; notice = refl; answer = same refl }
   alike Open h = record { client = refl; notice = refl; answer = same refl }
   alike Leave h = record { client = refl; notice = refl; answer = same refl }
@@ -114,8 +117,8 @@ module _ (c : Client) (one two address buffer datagram : List ℕ) (l : length o
         notice = refl;
         answer = either sector (crc_of (padded_of (data_in datagram))) v w (accepted (blank_of (data_in datagram)) (already_at one sector (data_in datagram)))
             (accepted (blank_of (data_in datagram)) (already_at two sector (data_in datagram)))
-            (ap (Written sector 0x06 v) (stored_crc c one datagram sector h))
-            (ap (Written sector 0x06 w) (stored_crc c two datagram sector g));
+            (ap (λ (x : ℕ). Ok (Written sector 0x06 v x)) (stored_crc c one datagram sector h))
+            (ap (λ (x : ℕ). Ok (Written sector 0x06 w x)) (stored_crc c two datagram sector g));
       }
   alike Wear h = record { client = refl; notice = refl; answer = same refl }
   alike Finish h = alike_same _ _ (ap (λ (t : List ℕ). said_of (checked_of c t) (notice_of Finish c.latest address) buffer) (swept h))

@@ -1,22 +1,21 @@
 -- What a call keeps: N, the bank that runs and the version; the target's length; and that an answer always has room.
 -- Assumes nothing.
 use mathlib.Core.Path.{◌≡◌, refl, ◌∙◌}
-use mathlib.Core.Logic.{◌⊎◌, inl, inr}
 use mathlib.Core.List.{List, [], ◌∷◌}
 use Prim.Native.Nat.{ℕ, ◌≤◌}
 use native.Mathlib.Omega.{arith}
 use lib.ListN.{length}
+use Rattle.std.specs.Prelude.{Ok, Err}
 use Rattle.buffer.proofs.Bools.{split}
 use Rattle.frame.specs.Read.{data_in}
 use Rattle.flash.specs.Bank.{swept_of}
 use Rattle.flash.proofs.Sweeps.{length_sweep}
 use Rattle.flash.proofs.Writes.{length_written}
-use Rattle.exchange.specs.declared.answer.Answer.{Answer}
-use Rattle.exchange.specs.Answer.{answer_bytes}
+use Rattle.exchange.specs.Answer.{Reply, reply_bytes}
 use Rattle.exchange.specs.Request.{asked_of}
 use Rattle.exchange.proofs.Saying.{answer_short}
 use Rattle.decision.specs.declared.plan.Plan.{Plan}
-use Rattle.decision.specs.declared.plan.Plan.TheVariants.{Keep, Open, Leave, Begin, Store, Wear, Finish}
+use Rattle.decision.specs.declared.plan.Plan.TheVariants.{Refuse, Keep, Open, Leave, Begin, Store, Wear, Finish}
 use Rattle.decision.proofs.Leading.{Leads as Decided}
 use Rattle.client.specs.declared.record.Client.{Client}
 use Rattle.client.specs.Perform.{fit_of, Done, store_of, checked_of, served_of}
@@ -30,6 +29,7 @@ use Rattle.calls.specs.Call.{Call, Alone, after_calls}
 module _ (c : Client) (target address buffer bytes : List ℕ) where
   pub carried_length : (plan : Plan) → length (carried_of c plan target address buffer bytes).target ≡ length target
   unfolding carried_of served_of store_of checked_of
+  carried_length (Refuse why) = refl
   carried_length (Keep answer) = refl
   carried_length Open = refl
   carried_length Leave = refl
@@ -43,6 +43,7 @@ module _ (c : Client) (target address buffer bytes : List ℕ) where
 
   pub carried_stays : (plan : Plan) → Stays c (carried_of c plan target address buffer bytes).client
   unfolding carried_of served_of store_of checked_of
+  carried_stays (Refuse why) = refl
   carried_stays (Keep answer) = refl
   carried_stays Open = refl
   carried_stays Leave = refl
@@ -67,20 +68,18 @@ module _ (c : Client) (target marks address buffer datagram : List ℕ) where
   take_stays = carried_stays c target address buffer (data_in datagram) plan
 
   -- an answer always fits: without room for 14 bytes there is none
-  abbrev answered : Plan → Answer
+  abbrev answered : Plan → Reply
   answered p = (carried_of c p target address buffer (data_in datagram)).answer
 
-  roomy : (answer : Answer) → heard c target marks address buffer datagram → length (answer_bytes answer) ≤ length buffer
-  roomy answer h = let short = answer_short answer in let room = h.lengths.roomy in omega arith
+  roomy : (reply : Reply) → heard c target marks address buffer datagram → length (reply_bytes reply) ≤ length buffer
+  roomy (Err why) h = omega arith
+  roomy (Ok answer) h = let short = answer_short answer in let room = h.lengths.roomy in omega arith
 
   fits : (p : Plan) → Decided (standing_of c) (heard c target marks address buffer datagram) (asked_of datagram) p
-      → length (answer_bytes (answered p)) ≤ length buffer
+      → length (reply_bytes (answered p)) ≤ length buffer
   unfolding carried_of served_of
-  fits (Keep answer) h = by h.1
-    where
-      by : (length (answer_bytes answer) ≡ 0) ⊎ heard c target marks address buffer datagram → length (answer_bytes answer) ≤ length buffer
-      by (inl e) = omega arith
-      by (inr r) = roomy answer r
+  fits (Refuse why) h = omega arith
+  fits (Keep answer) h = roomy (Ok answer) h.1
   fits Open h = roomy (answered Open) h
   fits Leave h = roomy (answered Leave) h
   fits Begin h = roomy (answered Begin) h
@@ -88,7 +87,7 @@ module _ (c : Client) (target marks address buffer datagram : List ℕ) where
   fits Wear h = roomy (answered Wear) h
   fits Finish h = roomy (answered Finish) h.0
 
-  pub take_fits : length (answer_bytes (take_of c target marks address buffer datagram).answer) ≤ length buffer
+  pub take_fits : length (reply_bytes (take_of c target marks address buffer datagram).answer) ≤ length buffer
   unfolding take_of
   take_fits = fits plan (decides c target marks address buffer datagram)
 

@@ -7,6 +7,7 @@ use mathlib.Core.List.{List}
 use Prim.Native.Nat.{ℕ, ◌%◌}
 use native.Mathlib.Omega.{arith}
 use lib.ListN.{length}
+use Rattle.std.specs.Prelude.{Ok}
 use Rattle.frame.specs.Read.{read_of, parameters_in, data_in}
 use Rattle.frame.specs.declared.read.Footer.{Footer}
 use Rattle.frame.specs.declared.read.Frame.TheVariants.{Write}
@@ -18,7 +19,7 @@ use Rattle.exchange.specs.declared.state.State.TheVariants as state
 use Rattle.exchange.specs.Request.{asked_by, asked_of}
 use Rattle.exchange.proofs.Bearing.{Packed, Asks, asks}
 use Rattle.decision.specs.declared.plan.Plan.{Plan}
-use Rattle.decision.specs.declared.plan.Plan.TheVariants.{Keep, Open, Leave, Begin, Store, Wear, Finish}
+use Rattle.decision.specs.declared.plan.Plan.TheVariants.{Refuse, Keep, Open, Leave, Begin, Store, Wear, Finish}
 use Rattle.decision.specs.Plan.{values_good}
 use Rattle.decision.proofs.Leading.{Quiet, Leads as Decided}
 use Rattle.decision.proofs.Planning.{values_low, values-high, values-short, values-whole}
@@ -46,7 +47,8 @@ pub record Finishing (c : Client) (target : ℕ) : Type 0 where
   pub whole : target ≡ bank_size c.fixed.n
 
 abbrev pub Leads : Client → ℕ → List ℕ → Plan → Type 0
-Leads c target datagram (Keep answer) = Quiet answer
+Leads c target datagram (Refuse why) = Unit {0}
+Leads c target datagram (Keep answer) = Quiet (Ok answer)
 Leads c target datagram Open = Unit {0}
 Leads c target datagram Leave = Unit {0}
 Leads c target datagram Begin = Beginning c target
@@ -56,6 +58,7 @@ Leads c target datagram Finish = Finishing c target
 
 module _ (c : Client) (target marks address buffer datagram : List ℕ) where
   led : (plan : Plan) → Decided (standing_of c) (heard c target marks address buffer datagram) (asked_of datagram) plan → Leads c (length target) datagram plan
+  led (Refuse why) h = tt
   led (Keep answer) h = h.0
   led Open h = tt
   led Leave h = tt

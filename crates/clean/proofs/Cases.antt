@@ -5,21 +5,24 @@ use mathlib.Core.Bool.{Bool, true, false, ◌&&◌}
 use mathlib.Core.List.{List}
 use Prim.Native.Nat.{ℕ, ◌*◌, ◌/◌, ◌≤◌, ◌<◌}
 use native.Mathlib.Omega.{arith}
+use Rattle.std.specs.Prelude.{Err}
 use lib.Dec.{leb}
-use lib.ListN.{length, length-replicate, get_or-replicate}
-use lib.Seq.{sets, length-sets}
+use lib.ListN.{length, take, length-replicate, get_or-replicate}
+use lib.Seq.{sets, length-sets, length-take-le, get_or-take}
 use borrow.Author.Tests.{leb-true}
 use Rattle.buffer.proofs.Bools.{and_left, and_right}
 use Rattle.buffer.proofs.Places.{front_fits, sets_front}
 use Rattle.buffer.specs.Place.{front_of}
 use Rattle.layout.specs.Layout.{sector_size, most_sectors, whole_length}
-use Rattle.bank.specs.declared.gaps.Gaps.{Gaps}
+use Rattle.bank.specs.declared.gaps.Gap.{Gap}
 use Rattle.bank.specs.Gaps.{IsGaps}
-use Rattle.bank.specs.Sound.{contents_good}
+use Rattle.bank.specs.declared.check.Fault.{Fault}
+use Rattle.bank.specs.declared.check.Fault.TheVariants as fault
+use Rattle.bank.specs.Sound.{contents_good, contents_of}
+use Rattle.bank.proofs.Cases.{faulty_is, no_bank_is}
 use Rattle.bank.proofs.Gapped.{gapped, gaps-at}
-use Rattle.clean.specs.declared.Cleaned.{Cleaned}
-use Rattle.clean.specs.declared.Cleaned.TheVariants.{BadLength, Faulty, NoRoom, Done}
-use Rattle.clean.specs.Clean.{runs_of, sectors_of, cleared_of, has_room, clean_of, bank_after, list_after, cleaned_said, clean_says, IsClean}
+use Rattle.clean.specs.declared.Refusal.TheVariants.{NoRoom}
+use Rattle.clean.specs.Clean.{Cleaned, refusal_of, done_with, runs_of, sectors_of, cleared_of, has_room, clean_of, bank_after, list_after, cleaned_said, clean_says, IsClean}
 use Rattle.clean.specs.Old.{old}
 use Rattle.clean.specs.Runs.{flat}
 use Rattle.clean.specs.Sectors.{held_at, numbers_at}
@@ -31,7 +34,7 @@ use Rattle.clean.proofs.Sectors.{numbers_same}
 use Rattle.clean.proofs.Walking.{whole_small}
 
 -- WHAT THE PASSES RUN ON: the gaps that were found, no marks at first, and at last those of the sectors that are listed
-pub good_bank : (b : List ℕ) (gaps : Gaps) → IsGaps b gaps → whole_length (length b) ≡ true → contents_good b ≡ true → GoodBank b gaps
+pub good_bank : (b : List ℕ) (gaps : List Gap) → IsGaps b gaps → whole_length (length b) ≡ true → contents_good b ≡ true → GoodBank b gaps
 good_bank b gaps is w c = record { whole = w; gapped = gapped b w c; are = gaps-at b gaps is }
 
 pub marks_none : (f : ℕ → Bool) {marks : List Bool} → marks ≡ no_marks → MarksAt f 0 marks
@@ -46,14 +49,19 @@ module _ (b : List ℕ) (w : whole_length (length b) ≡ true) {marks : List Boo
   pub sectors_room : length b / sector_size ≤ length marks
   sectors_room = let s = whole_small (length b) w in omega (arith, s.1, m.room)
 
-  pub sectors_small : length b / sector_size < 65535
-  sectors_small = let s = whole_small (length b) w in omega (arith, s.1)
+  -- those of its sectors
+  held_length : length (take (length b / sector_size) marks) ≡ length b / sector_size
+  held_length = length-take-le (length b / sector_size) marks sectors_room
 
-  pub sectors_are : numbers_at (mark_in marks) (length b / sector_size) ≡ sectors_of b
+  pub sectors_small : length (take (length b / sector_size) marks) < 65535
+  sectors_small = let s = whole_small (length b) w in omega (arith, s.1, held_length)
+
+  pub sectors_are : numbers_at (mark_in (take (length b / sector_size) marks)) (length (take (length b / sector_size) marks)) ≡ sectors_of b
   unfolding sectors_of
   sectors_are =
-      numbers_same (mark_in marks) (held_at (old b) (length b)) (length b / sector_size)
-      (λ s h. m.marked s (let l = sectors_room in omega (arith, m.room)))
+      rw held_length
+      (numbers_same (mark_in (take (length b / sector_size) marks)) (held_at (old b) (length b)) (length b / sector_size)
+      (λ s h. get_or-take (length b / sector_size) marks s false h ∙ m.marked s (let l = sectors_room in omega (arith, m.room))))
 
 -- WHAT COMES BACK, and what it says
 clean_is :
@@ -70,15 +78,17 @@ clean_is b runs sectors e s p q t =
     }
 
 module _ (b runs sectors : List ℕ) where
-  pub clean_bad : whole_length (length b) ≡ false → IsClean b runs sectors BadLength b runs sectors
+  -- by a fault that the check of the contents found
+  pub clean_refused : (fault : Fault) → contents_of b ≡ Err fault → IsClean b runs sectors (Err (refusal_of fault)) b runs sectors
   unfolding clean_of clean_says
-  clean_bad w = clean_is b runs sectors (rw w) (rw w) refl refl refl
+  clean_refused fault.BadLength e =
+      let w = no_bank_is b (contents_of b) refl e in
+      clean_is b runs sectors (rw w) (rw w) refl refl refl
+  clean_refused fault.Unsound e =
+      let f = faulty_is b (contents_of b) refl e in
+      clean_is b runs sectors (rw (f.0, f.1)) (rw (f.0, f.1)) refl refl refl
 
   module _ (w : whole_length (length b) ≡ true) where
-    pub clean-faulty : contents_good b ≡ false → IsClean b runs sectors Faulty b runs sectors
-    unfolding clean_of clean_says
-    clean-faulty c = clean_is b runs sectors (rw (w, c)) (rw (w, c)) refl refl refl
-
     -- r is whether there is room for the n runs and m sectors that were counted
     module _
         (c : contents_good b ≡ true) {n m : ℕ} {r : Bool} (runs-told : n ≡ length (runs_of b)) (sectors-told : m ≡ length (sectors_of b))
@@ -88,7 +98,7 @@ module _ (b runs sectors : List ℕ) where
         unfolding has_room
         room-is = sym (room ∙ rw (runs-told, sectors-told))
 
-        pub clean-full : r ≡ false → IsClean b runs sectors NoRoom b runs sectors
+        pub clean-full : r ≡ false → IsClean b runs sectors (Err NoRoom) b runs sectors
         unfolding clean_of clean_says
         clean-full f = let e = room-is ∙ f in clean_is b runs sectors (rw (w, c, e)) (rw (w, c, e)) refl refl refl
 
@@ -116,7 +126,7 @@ module _ (b runs sectors : List ℕ) where
 
           pub clean-done :
               {bank' runs' sectors' : List ℕ} → bank' ≡ cleared_of b → runs' ≡ sets runs 0 (flat (runs_of b))
-              → sectors' ≡ sets sectors 0 (sectors_of b) → IsClean b runs sectors (Done n m) bank' runs' sectors'
+              → sectors' ≡ sets sectors 0 (sectors_of b) → IsClean b runs sectors (done_with n m) bank' runs' sectors'
           unfolding clean_of clean_says
           clean-done p q s =
               let e = room-is ∙ t in

@@ -10,8 +10,8 @@ use lib.Dec.{ltb}
 use lib.ListN.{length, get_or}
 use borrow.Author.Tests.{lt-ltb, le-ltb}
 use Rattle.buffer.proofs.Bools.{not_so}
-use Rattle.bank.specs.declared.gaps.Gaps.{Gaps}
-use Rattle.bank.specs.Gaps.{outside, gap_count, gap_start, gap_end}
+use Rattle.bank.specs.declared.gaps.Gap.{Gap}
+use Rattle.bank.specs.Gaps.{outside, gap_count, gap_start, gap_end, no_gap}
 use Rattle.bank.proofs.Outside.{outside_is}
 use Rattle.clean.specs.Clean.{runs_of}
 use Rattle.clean.specs.Old.{old}
@@ -36,13 +36,13 @@ marks_quiet f at h q = record { room = at.room; marked = λ s l. at.marked s l �
 abbrev pub reach : List ℕ → ℕ → ℕ
 reach b i = cond (ltb i (gap_count b)) (gap_start b i) (length b + 1)
 
-module _ (b : List ℕ) (gaps : Gaps) (g : GoodBank b gaps) where
+module _ (b : List ℕ) (gaps : List Gap) (g : GoodBank b gaps) where
   module _ (i : ℕ) (h : i < gap_count b) where
-    pub start_is : get_or gaps.starts i 0 ≡ gap_start b i
-    start_is = g.are.start i ∙ rw (lt-ltb _ _ h)
+    pub start_is : (get_or gaps i no_gap).start ≡ gap_start b i
+    start_is = ap (λ (gap : Gap). gap.start) (g.are.gap i h)
 
-    pub end_is : get_or gaps.ends i 0 ≡ gap_end b i
-    end_is = g.are.end i ∙ rw (lt-ltb _ _ h)
+    pub end_is : (get_or gaps i no_gap).end ≡ gap_end b i
+    end_is = ap (λ (gap : Gap). gap.end) (g.are.gap i h)
 
     pub reach-is : reach b i ≡ gap_start b i
     reach-is = rw (lt-ltb _ _ h)
@@ -52,9 +52,9 @@ module _ (b : List ℕ) (gaps : Gaps) (g : GoodBank b gaps) where
 
     pub at_gap :
         {runs : ℕ} → open_at (old b) (reach b i) ≡ 0 → runs ≡ length (runs_at (old b) (reach b i))
-        → AtGap b (get_or gaps.starts i 0) (get_or gaps.ends i 0) runs
+        → AtGap b (get_or gaps i no_gap) runs
     at_gap o n =
-        rw (start_is, end_is)
+        rw (g.are.gap i h)
         (record { whole = g.whole; all_outside = gap-outside; no_run = rw reach-is at o; so_many = rw reach-is at n })
 
     -- from its end to the start of the next, at least one byte, and none that is old

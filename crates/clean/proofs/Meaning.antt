@@ -23,9 +23,10 @@ use Rattle.bank.specs.Sound.{contents_good}
 use Rattle.bank.specs.Stretch.{holders}
 use Rattle.bank.proofs.Meaning.{kept_inside, inside_back}
 use Rattle.bank.proofs.Outside.{outside_is, is_outside}
-use Rattle.clean.specs.declared.Cleaned.{Cleaned}
-use Rattle.clean.specs.declared.Cleaned.TheVariants.{BadLength, Faulty, NoRoom, Done}
-use Rattle.clean.specs.Clean.{runs_of, most_runs, sectors_of, cleared_of, has_room, clean_of, IsClean}
+use Rattle.std.specs.Prelude.{Err}
+use Rattle.clean.specs.declared.Counts.{Counts}
+use Rattle.clean.specs.declared.Refusal.TheVariants.{BadLength, Faulty, NoRoom}
+use Rattle.clean.specs.Clean.{Cleaned, counts, done_with, runs_of, most_runs, sectors_of, cleared_of, has_room, clean_of, IsClean}
 use Rattle.clean.specs.Meaning.{OldByte, run_in, AreRuns, AreSectors}
 use Rattle.clean.specs.Meaning.{TooMany, DoneRight, CleanRight, MeetsCleaner, cleaned, cleaner}
 use Rattle.clean.specs.Old.{old}
@@ -199,17 +200,17 @@ module _ (b runs sectors : List ℕ) where
 
   data Way : Type 0 where
     bad_length :
-        whole_length (length b) ≡ false → cleaner b runs sectors ≡ record { answer = BadLength; bank = b; runs = runs; sectors = sectors } → Way
+        whole_length (length b) ≡ false → cleaner b runs sectors ≡ record { answer = Err BadLength; bank = b; runs = runs; sectors = sectors } → Way
     faulty :
         whole_length (length b) ≡ true → (KeptInside b → ⊥)
-        → cleaner b runs sectors ≡ record { answer = Faulty; bank = b; runs = runs; sectors = sectors } → Way
+        → cleaner b runs sectors ≡ record { answer = Err Faulty; bank = b; runs = runs; sectors = sectors } → Way
     no_room :
         whole_length (length b) ≡ true → KeptInside b → TooMany b runs sectors
-        → cleaner b runs sectors ≡ record { answer = NoRoom; bank = b; runs = runs; sectors = sectors } → Way
+        → cleaner b runs sectors ≡ record { answer = Err NoRoom; bank = b; runs = runs; sectors = sectors } → Way
     done :
         whole_length (length b) ≡ true → KeptInside b → n ≤ length runs / 2 → m ≤ length sectors
         → cleaner b runs sectors
-        ≡ record { answer = Done n m; bank = cleared_of b; runs = front_of runs (flat (runs_of b)); sectors = front_of sectors (sectors_of b) }
+        ≡ record { answer = done_with n m; bank = cleared_of b; runs = front_of runs (flat (runs_of b)); sectors = front_of sectors (sectors_of b) }
         → Way
 
   way : Way
@@ -227,7 +228,7 @@ module _ (b runs sectors : List ℕ) where
   module _ (w : whole_length (length b) ≡ true) (h : n ≤ length runs / 2) (l : m ≤ length sectors) where
     done-right :
         DoneRight b runs sectors
-        (record { answer = Done n m; bank = cleared_of b; runs = front_of runs (flat (runs_of b)); sectors = front_of sectors (sectors_of b) }) n m
+        (record { answer = done_with n m; bank = cleared_of b; runs = front_of runs (flat (runs_of b)); sectors = front_of sectors (sectors_of b) }) n m
     done-right =
         let long : length (flat (runs_of b)) ≤ length runs = omega (arith, flat_length (runs_of b)) in
         record {
@@ -285,8 +286,9 @@ module _ (b runs sectors : List ℕ) where
             untouched = λ x q. no_way (cc);
             taken = λ v k f. record { runs = n; sectors = m; is = refl };
             done = λ i j q.
-                let p : n ≡ i = cc in
-                let r : m ≡ j = cc in
+                let s : counts n m ≡ counts i j = cc in
+                let p = ap (λ (c : Counts). c.runs) s in
+                let r = ap (λ (c : Counts). c.sectors) s in
                 rw (sym p, sym r) (done-right w h l);
           })
 

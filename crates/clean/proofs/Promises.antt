@@ -18,8 +18,7 @@ use Rattle.bank.specs.Said.{check_says}
 use Rattle.bank.specs.Sound.{contents_good, sound_of}
 use Rattle.bank.proofs.Meaning.{kept_inside, inside_back, kept}
 use Rattle.bank.proofs.Outside.{is_outside, sound_outside, outside_sound, inside_same, outside_same}
-use Rattle.clean.specs.declared.Cleaned.TheVariants.{Done}
-use Rattle.clean.specs.Clean.{cleaned_said}
+use Rattle.clean.specs.Clean.{done_with, cleaned_said}
 use Rattle.clean.specs.Meaning.{OldByte, run_in, AreRuns, AreSectors, CleanedOut, Cleaner, TooMany, DoneRight, MeetsCleaner, cleaner}
 use Rattle.clean.specs.Old.{old}
 use Rattle.clean.specs.Promises.{Differs, Promised, nothing_listed, Promises}
@@ -98,13 +97,13 @@ module _ (clean : Cleaner) (meets : MeetsCleaner clean) where
       let t = r.taken w (kept b s).inside (never_many b none runs sectors) in
       let n : t.runs ≡ 0 = no_runs b none _ _ (r.done _ _ t.is).are_runs in
       let m : t.sectors ≡ 0 = no_sectors b none _ _ (r.done _ _ t.is).are_sectors in
-      let is : (clean b runs sectors).answer ≡ Done 0 0 = rw (n, m) at t.is in
+      let is : (clean b runs sectors).answer ≡ done_with 0 0 = rw (n, m) at t.is in
       let d = r.done 0 0 is in
       let bank = ext_get_or 0 (clean b runs sectors).bank b d.same_length (λ k h. d.stays k (none k)) in
       λ x. record { answer = is x; bank = bank x; runs = d.runs_rest x; sectors = d.sectors_rest x }
 
   -- where it is done
-  module _ (b runs sectors : List ℕ) (n m : ℕ) (is : (clean b runs sectors).answer ≡ Done n m) where
+  module _ (b runs sectors : List ℕ) (n m : ℕ) (is : (clean b runs sectors).answer ≡ done_with n m) where
     abbrev o : CleanedOut
     o = clean b runs sectors
 

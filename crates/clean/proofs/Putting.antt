@@ -10,6 +10,7 @@ use lib.ListN.{length, length-append}
 use lib.Seq.{sets, length-sets}
 use Rattle.buffer.proofs.Places.{sets_next}
 use Rattle.bank.specs.declared.stretch.Stretch.{Stretch}
+use Rattle.bank.specs.declared.gaps.Gap.{Gap}
 use Rattle.clean.specs.declared.list.Progress.{Progress}
 use Rattle.clean.specs.Runs.{run_before, open_run, runs_at, flat}
 use Rattle.clean.specs.Walk.{Reached, ListsOn, ListsGap, met}
@@ -109,10 +110,11 @@ lists_more p q = record { same_length = q.same_length ∙ p.same_length; listed 
 
 -- behind a gap
 pub lists_gap :
-    {f : ℕ → Bool} {from to : ℕ} {before between after : List ℕ} {listed : Progress} → ListsOn f from to before between → Reached f to listed
-    → after ≡ sets between (2 * listed.runs) (flat (run_before to listed.length)) → ListsGap f from to before after
-lists_gap {f} {from} {to} {before} {between} p reached put =
+    {f : ℕ → Bool} (gap : Gap) {before between after : List ℕ} {listed : Progress} → ListsOn f gap.start gap.end before between
+    → Reached f gap.end listed → after ≡ sets between (2 * listed.runs) (flat (run_before gap.end listed.length))
+    → ListsGap f gap before after
+lists_gap {f} gap {before} {between} p reached put =
     record {
-      same_length = put-length f to reached between put ∙ p.same_length;
-      listed = λ list e. put_next f to reached between put list (p.listed list e);
+      same_length = put-length f gap.end reached between put ∙ p.same_length;
+      listed = λ list e. put_next f gap.end reached between put list (p.listed list e);
     }

@@ -2,17 +2,22 @@
 -- Assumes nothing.
 use mathlib.Core.Path.{◌≡◌, refl, sym, ◌∙◌}
 use mathlib.Core.Bool.{Bool, true, false, ◌&&◌, ◌||◌, cond}
-use mathlib.Core.List.{[], ◌∷◌, ◌++◌}
+use mathlib.Core.List.{List, [], ◌∷◌, ◌++◌}
 use Prim.Native.Nat.{ℕ, zero, suc, ◌+◌, ◌-◌, ◌/◌, ◌≤◌, ◌<◌}
 use native.Mathlib.Numerals.{add-one}
 use native.Mathlib.Omega.{arith}
 use native.Mathlib.Decide.{dec_lt}
 use lib.Dec.{eqb}
-use lib.ListN.{length, length-append}
+use lib.ListN.{length, take, length-append}
+use lib.Seq.{take_all}
+use Rattle.std.specs.Prelude.{filter, count_by}
+use Rattle.std.proofs.lemmas.List.Sums.{length-filter}
+use Rattle.std.proofs.lemmas.List.Filters.{length-filter_more}
 use borrow.Author.Tests.{eq-eqb, ne_eqb}
 use Rattle.buffer.proofs.Bools.{and_false, no_way}
 use Rattle.layout.specs.Layout.{sector_size}
 use Rattle.clean.specs.Sectors.{held_at, numbers_at}
+use Rattle.clean.specs.Walk.{mark_in}
 
 module _ (old : ℕ → Bool) (k s : ℕ) where
   pub held_here : k / sector_size ≡ s → (t : Bool) → old k ≡ t → held_at old (k + 1) s ≡ (held_at old k s || t)
@@ -115,3 +120,15 @@ pub numbers_same : (a b : ℕ → Bool) (m : ℕ) → ((s : ℕ) → s < m → a
 unfolding numbers_at
 numbers_same a b zero f = refl
 numbers_same a b (suc m) f = rw (numbers_same a b m (λ s h. f s (omega arith)), f m (omega arith))
+
+-- and as many as there are marks
+numbers_front :
+    (marks : List Bool) (k : ℕ) → k ≤ length marks → length (filter (λ (mark : Bool). mark) (take k marks)) ≡ length (numbers_at (mark_in marks) k)
+numbers_front marks zero h = rw (numbers_none (mark_in marks)) refl
+numbers_front marks (suc k) h =
+    rw (sym (add-one k), length-filter_more (λ (mark : Bool). mark) marks k false (omega arith), numbers_front marks k (omega arith))
+    (sym (numbers_more (mark_in marks) k))
+
+pub numbers_marked : (marks : List Bool) → count_by (λ (mark : Bool). mark) marks ≡ length (numbers_at (mark_in marks) (length marks))
+numbers_marked marks =
+    sym (length-filter (λ (mark : Bool). mark) marks) ∙ rw (take_all (length marks) marks (omega arith)) at (numbers_front marks (length marks) (omega arith))

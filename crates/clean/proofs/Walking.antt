@@ -6,6 +6,7 @@ use mathlib.Core.List.{List}
 use Prim.Native.Nat.{ℕ, ◌+◌, ◌*◌, ◌/◌, ◌%◌, ◌≤◌, ◌<◌}
 use native.Mathlib.Nat.{add-zero}
 use native.Mathlib.Omega.{arith}
+use mir.Val.{bool_byte}
 use lib.Dec.{eqb}
 use lib.ListN.{length, get_or, set, length-set}
 use lib.Seq.{get_or-set_same, get_or-set_other}
@@ -58,6 +59,15 @@ module _ (f : ℕ → Bool) (k s : ℕ) where
   pub seen_whole : {runs : ℕ} {last held : Bool} → SeenIs runs last held → record { runs = runs; last = last; held = held } ≡ seen_at f k s
   unfolding seen_at
   seen_whole i = λ d. record { runs = i.runs_is d; last = i.last-is d; held = i.held_is d }
+
+-- what is so counts as one
+pub one_is : (t : Bool) → bool_byte t ≡ cond t 1 0
+one_is true = refl
+one_is false = refl
+
+pub one_small : (t : Bool) → bool_byte t ≤ 1
+one_small true = omega arith
+one_small false = omega arith
 
 -- one byte more, t is whether it is old; it lies in sector s
 pub seen_next :

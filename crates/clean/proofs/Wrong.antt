@@ -13,8 +13,7 @@ use Rattle.buffer.proofs.Places.{front_fits}
 use Rattle.layout.specs.Layout.{sector_size, good_n, whole_length}
 use Rattle.bank.proofs.Dropped.{dropped_outside, dropped_inside}
 use Rattle.bank.proofs.Small.{small_end, small, small_length, small_byte, small_inside, small_outside, outside_small}
-use Rattle.clean.specs.declared.Cleaned.TheVariants.{Done}
-use Rattle.clean.specs.Clean.{most_runs}
+use Rattle.clean.specs.Clean.{done_with, most_runs}
 use Rattle.clean.specs.Meaning.{OldByte, Cleaner, IsDone, MeetsCleaner, cleaner}
 use Rattle.clean.specs.Sectors.{numbers_at}
 use Rattle.clean.specs.Wrong.{SaysDone, LeavesOld, ChangesInside, entry_dropper, HidesByte, HidesSector, untold, silent, ListsUncleared, all_of, all_lister}
@@ -145,7 +144,7 @@ pub lists_uncleared : ListsUncleared all_lister
 unfolding numbers_at
 lists_uncleared =
     let all : all_of bank ≡ 1 ∷ 2 ∷ [] = rw bank_length in
-    let done : (all_lister bank roomy roomy).answer ≡ Done is_done.runs 2 = rw (is_done.is, all, le-leb 2 (length roomy) (omega (arith, roomy_length))) in
+    let done : (all_lister bank roomy roomy).answer ≡ done_with is_done.runs 2 = rw (is_done.is, all, le-leb 2 (length roomy) (omega (arith, roomy_length))) in
     let two : get_or (all_lister bank roomy roomy).sectors 1 0 ≡ 2 =
     rw (done, all, front_fits roomy (1 ∷ 2 ∷ []) (omega (arith, roomy_length))) in
     record {

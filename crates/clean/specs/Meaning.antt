@@ -7,9 +7,7 @@ use Rattle.layout.specs.Said.{number}
 use Rattle.bank.specs.declared.stretch.Stretch.{Stretch}
 use Rattle.bank.specs.Meaning.{KeptInside, Outside}
 use Rattle.bank.specs.Stretch.{stop_of}
-use Rattle.clean.specs.declared.Cleaned.{Cleaned}
-use Rattle.clean.specs.declared.Cleaned.TheVariants.{Done}
-use Rattle.clean.specs.Clean.{runs_of, sectors_of, clean_of, bank_after, list_after, cleaned_said}
+use Rattle.clean.specs.Clean.{Cleaned, done_with, runs_of, sectors_of, clean_of, bank_after, list_after, cleaned_said}
 use Rattle.clean.specs.Runs.{flat}
 
 -- ---- what is to be listed
@@ -105,7 +103,7 @@ pub record DoneRight (b runs sectors : List ℕ) (o : CleanedOut) (n m : ℕ) : 
 pub record IsDone (answer : Cleaned) : Type 0 where
   pub runs : ℕ
   pub sectors : ℕ
-  pub is : answer ≡ Done runs sectors
+  pub is : answer ≡ done_with runs sectors
 
 pub record CleanRight (b runs sectors : List ℕ) (o : CleanedOut) : Type 0 where
   -- "Refusals, in this order"
@@ -116,7 +114,7 @@ pub record CleanRight (b runs sectors : List ℕ) (o : CleanedOut) : Type 0 wher
   pub untouched : (x : ℕ) → cleaned_said o.answer ≡ number x → (o.bank ≡ b) × (o.runs ≡ runs) × (o.sectors ≡ sectors)
   -- and else it is done
   pub taken : whole_length (length b) ≡ true → KeptInside b → (TooMany b runs sectors → ⊥) → IsDone o.answer
-  pub done : (n m : ℕ) → o.answer ≡ Done n m → DoneRight b runs sectors o n m
+  pub done : (n m : ℕ) → o.answer ≡ done_with n m → DoneRight b runs sectors o n m
 
 abbrev pub MeetsCleaner : Cleaner → Type 0
 MeetsCleaner clean = (b runs sectors : List ℕ) → CleanRight b runs sectors (clean b runs sectors)

@@ -6,8 +6,7 @@ use Rattle.layout.specs.Layout.{most_sectors, whole_length}
 use Rattle.layout.specs.Said.{number, result}
 use Rattle.bank.specs.Meaning.{KeptInside, Outside, Kept}
 use Rattle.bank.specs.Said.{check_says}
-use Rattle.clean.specs.declared.Cleaned.TheVariants.{Done}
-use Rattle.clean.specs.Clean.{most_runs, cleaned_said}
+use Rattle.clean.specs.Clean.{done_with, most_runs, cleaned_said}
 use Rattle.clean.specs.Meaning.{run_in, Has, InRun, sector_number, Listed, CleanedOut, Cleaner, TooMany}
 
 -- the byte at index k is another one than before
@@ -41,13 +40,13 @@ pub record Promised (b : List ℕ) (o : CleanedOut) (n m : ℕ) : Type 0 where
 
 -- nothing is listed, and nothing changes
 abbrev pub nothing_listed : List ℕ → List ℕ → List ℕ → CleanedOut
-nothing_listed b runs sectors = record { answer = Done 0 0; bank = b; runs = runs; sectors = sectors }
+nothing_listed b runs sectors = record { answer = done_with 0 0; bank = b; runs = runs; sectors = sectors }
 
 pub record Promises (clean : Cleaner) : Type 0 where
-  pub promised : (b runs sectors : List ℕ) (n m : ℕ) → (clean b runs sectors).answer ≡ Done n m → Promised b (clean b runs sectors) n m
+  pub promised : (b runs sectors : List ℕ) (n m : ℕ) → (clean b runs sectors).answer ≡ done_with n m → Promised b (clean b runs sectors) n m
   -- "cleaning again lists nothing", whatever lists are lent, empty ones too
   pub again :
-      (b runs sectors : List ℕ) (n m : ℕ) → (clean b runs sectors).answer ≡ Done n m → (runs' sectors' : List ℕ)
+      (b runs sectors : List ℕ) (n m : ℕ) → (clean b runs sectors).answer ≡ done_with n m → (runs' sectors' : List ℕ)
       → clean (clean b runs sectors).bank runs' sectors' ≡ nothing_listed (clean b runs sectors).bank runs' sectors'
   -- a fault in the gaps alone is never refused 9, any other always is; 9 and 10 are given for a bank's length only, 2 for no such length, and
   -- 10 where nothing but a list is at fault
@@ -64,6 +63,6 @@ pub record Promises (clean : Cleaner) : Type 0 where
       (b runs sectors : List ℕ) → 2 * most_runs ≤ length runs → most_sectors ≤ length sectors → cleaned_said (clean b runs sectors).answer ≡ number 10 → ⊥
   -- the check says sound before, of a bank's length, exactly if nothing is listed, and always after
   pub sound_none : (b runs sectors : List ℕ) → check_says b ≡ result 0x06 → clean b runs sectors ≡ nothing_listed b runs sectors
-  pub none_sound : (b runs sectors : List ℕ) → (clean b runs sectors).answer ≡ Done 0 0 → check_says b ≡ result 0x06
+  pub none_sound : (b runs sectors : List ℕ) → (clean b runs sectors).answer ≡ done_with 0 0 → check_says b ≡ result 0x06
   pub sound_after :
-      (b runs sectors : List ℕ) (n m : ℕ) → (clean b runs sectors).answer ≡ Done n m → check_says (clean b runs sectors).bank ≡ result 0x06
+      (b runs sectors : List ℕ) (n m : ℕ) → (clean b runs sectors).answer ≡ done_with n m → check_says (clean b runs sectors).bank ≡ result 0x06

@@ -3,7 +3,7 @@
 use Rattle.std.specs.Prelude.{◌≡◌, Bool, true, false, not, List, ◌++◌, ℕ, ◌+◌, ◌*◌, ◌/◌, ◌≤◌, ◌<◌, min, eqb, length, get_or, take, drop, replicate}
 use Rattle.std.proofs.lemmas.List.Edits.{sets}
 use Rattle.layout.specs.Layout.{sector_size, most_sectors, whole_length}
-use Rattle.bank.specs.declared.gaps.Gaps.{Gaps}
+use Rattle.bank.specs.declared.gaps.Gap.{Gap}
 use Rattle.bank.specs.Gaps.{GapsAt, Gapped, outside}
 use Rattle.clean.specs.declared.count.Seen.{Seen}
 use Rattle.clean.specs.declared.list.Progress.{Progress}
@@ -12,7 +12,7 @@ use Rattle.clean.specs.Runs.{open_at, open_run, runs_at, flat}
 use Rattle.clean.specs.Sectors.{held_at}
 
 -- a bank of some length with good contents, and its gaps
-pub record GoodBank (b : List ℕ) (gaps : Gaps) : Type 0 where
+pub record GoodBank (b : List ℕ) (gaps : List Gap) : Type 0 where
   pub whole : whole_length (length b) ≡ true
   pub gapped : Gapped b
   pub are : GapsAt b gaps
@@ -64,11 +64,11 @@ pub record MarksAt (old : ℕ → Bool) (k : ℕ) (marks : List Bool) : Type 0 w
   pub marked : (s : ℕ) → s < most_sectors → mark_in marks s ≡ held_at old k s
 
 -- a gap lies ahead, and no run goes on into it; so many end before it
-pub record AtGap (b : List ℕ) (from to runs : ℕ) : Type 0 where
+pub record AtGap (b : List ℕ) (gap : Gap) (runs : ℕ) : Type 0 where
   pub whole : whole_length (length b) ≡ true
-  pub all_outside : AllOutside b from to
-  pub no_run : open_at (old b) from ≡ 0
-  pub so_many : runs ≡ length (runs_at (old b) from)
+  pub all_outside : AllOutside b gap.start gap.end
+  pub no_run : open_at (old b) gap.start ≡ 0
+  pub so_many : runs ≡ length (runs_at (old b) gap.start)
 
 -- how many runs are listed behind the first k bytes, and how many bytes the one has that may go on
 pub record Reached (old : ℕ → Bool) (k : ℕ) (listed : Progress) : Type 0 where
@@ -81,10 +81,10 @@ pub record ListsOn (old : ℕ → Bool) (from to : ℕ) (before after : List ℕ
   pub listed : (list : List ℕ) → before ≡ sets list 0 (flat (runs_at old from)) → after ≡ sets list 0 (flat (runs_at old to))
 
 -- the same behind a gap, with the run that ends there
-pub record ListsGap (old : ℕ → Bool) (from to : ℕ) (before after : List ℕ) : Type 0 where
+pub record ListsGap (old : ℕ → Bool) (gap : Gap) (before after : List ℕ) : Type 0 where
   pub same_length : length after ≡ length before
   pub listed :
-      (list : List ℕ) → before ≡ sets list 0 (flat (runs_at old from)) → after ≡ sets list 0 (flat (runs_at old to ++ open_run old to))
+      (list : List ℕ) → before ≡ sets list 0 (flat (runs_at old gap.start)) → after ≡ sets list 0 (flat (runs_at old gap.end ++ open_run old gap.end))
 
 -- without a mark, no byte of a piece is old
 abbrev pub MarkTells : (ℕ → Bool) → ℕ → ℕ → Bool → Type 0

@@ -1,14 +1,13 @@
 -- Cleaners that are not as asked (02 §7), each kind by one misdeed: for some bank and some lists it says that it is done, and there does what it must not.
 -- So none that is as asked ever does what a kind does that is shut out. Behind each kind stands one that is of it.
 -- Assumes nothing.
-use Rattle.std.specs.Prelude.{◌≡◌, true, cond, List, ℕ, ◌/◌, ◌<◌, leb, length, get_or}
+use Rattle.std.specs.Prelude.{◌≡◌, true, cond, List, ℕ, ◌/◌, ◌<◌, Ok, Err, leb, length, get_or}
 use Rattle.buffer.specs.Number.{byte_at}
 use Rattle.layout.specs.Layout.{sector_size}
 use Rattle.bank.specs.Dropped.{dropped_of}
 use Rattle.bank.specs.Meaning.{Outside}
-use Rattle.clean.specs.declared.Cleaned.{Cleaned}
-use Rattle.clean.specs.declared.Cleaned.TheVariants.{BadLength, Faulty, NoRoom, Done}
-use Rattle.clean.specs.Clean.{runs_of, clean_of, bank_after, list_after}
+use Rattle.clean.specs.declared.Refusal.TheVariants.{NoRoom}
+use Rattle.clean.specs.Clean.{Cleaned, done_with, runs_of, clean_of, bank_after, list_after}
 use Rattle.clean.specs.Meaning.{OldByte, InRun, Listed, HoldsOld, CleanedOut, Cleaner, cleaner}
 use Rattle.clean.specs.Promises.{Differs}
 use Rattle.clean.specs.Runs.{flat}
@@ -21,7 +20,7 @@ pub record SaysDone (clean : Cleaner) : Type 0 where
   pub sectors : List ℕ
   pub n : ℕ
   pub m : ℕ
-  pub done : (clean b runs sectors).answer ≡ Done n m
+  pub done : (clean b runs sectors).answer ≡ done_with n m
 
 -- what it gives there
 abbrev pub given : {clean : Cleaner} → SaysDone clean → CleanedOut
@@ -45,10 +44,8 @@ pub record ChangesInside (clean : Cleaner) : Type 0 where
 
 -- 'erased means unlisted', of both kinds: it takes the last entry off the table, and leaves what lies outside
 abbrev pub bank_dropped : Cleaned → List ℕ → List ℕ
-bank_dropped BadLength b = b
-bank_dropped Faulty b = b
-bank_dropped NoRoom b = b
-bank_dropped (Done runs sectors) b = dropped_of b
+bank_dropped (Err refusal) b = b
+bank_dropped (Ok done) b = dropped_of b
 
 abbrev pub entry_dropper : Cleaner
 entry_dropper b runs sectors =
@@ -73,10 +70,8 @@ pub record HidesSector (clean : Cleaner) : Type 0 where
 
 -- of both kinds: it clears, and lists nothing
 abbrev pub untold : Cleaned → Cleaned
-untold BadLength = BadLength
-untold Faulty = Faulty
-untold NoRoom = NoRoom
-untold (Done runs sectors) = Done 0 0
+untold (Err refusal) = Err refusal
+untold (Ok done) = done_with 0 0
 
 abbrev pub silent : Cleaner
 silent b runs sectors =
@@ -97,10 +92,8 @@ abbrev pub all_of : List ℕ → List ℕ
 all_of b = numbers_at (λ (s : ℕ). true) (length b / sector_size)
 
 abbrev pub told_all : Cleaned → List ℕ → List ℕ → Cleaned
-told_all BadLength sectors all = BadLength
-told_all Faulty sectors all = Faulty
-told_all NoRoom sectors all = NoRoom
-told_all (Done n m) sectors all = cond (leb (length all) (length sectors)) (Done n (length all)) NoRoom
+told_all (Err refusal) sectors all = Err refusal
+told_all (Ok done) sectors all = cond (leb (length all) (length sectors)) (done_with done.runs (length all)) (Err NoRoom)
 
 abbrev pub all_lister : Cleaner
 all_lister b runs sectors =

@@ -16,11 +16,9 @@ pub(crate) fn blank(bank: &mut [u8], runs: &[u32], n: usize)
     requires { AreRuns bank.old runs.now n × (2 * n ≤ length runs.now) }
     ensures { bank.new ≡ cleared_of bank.old }
 {
-    let mut i = 0;
-    while i < n {
+    for i in 0..n {
         let from = runs[2 * i] as usize;
         let size = runs[2 * i + 1] as usize;
         blank_run(bank, from, size);
-        i += 1;
     }
 }

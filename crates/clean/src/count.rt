@@ -1,11 +1,11 @@
 // The first pass: how many runs of old bytes there are, and which sectors hold them. Nothing is written to the bank or to a list.
-ghost use Rattle.std.specs.Prelude.{◌≡◌, cond, ◌/◌, ◌≤◌, length};
+ghost use Rattle.std.specs.Prelude.{◌≡◌, ◌/◌, length};
 ghost use Rattle.layout.specs.Layout.{sector_size};
 ghost use Rattle.clean.specs.Clean.{runs_of};
 ghost use Rattle.clean.specs.Old.{old};
 ghost use Rattle.clean.specs.Walk.{Piece, GoodBank, AtGap, MarksAt, met, no_marks, seen_at};
 
-use bank::gaps::Gaps;
+use bank::gaps::Gap;
 use layout::{MOST, SECTOR};
 
 // What the first bytes of a bank have shown.
@@ -26,16 +26,6 @@ pub(crate) fn no_marks() -> [bool; MOST]
     [false; MOST]
 }
 
-// 1 if it is so, and else 0.
-pub(crate) fn one(so: bool) -> u8
-    ensures { (result ≡ cond so 1 0) × (result ≤ 1) }
-{
-    if so {
-        return 1;
-    }
-    0
-}
-
 // The bytes of a piece. There is no way out of the loop, so that the compiler takes many at once.
 fn look(bank: &[u8], from: usize, to: usize, seen: Seen) -> Seen
     requires piece { Piece bank.now from to }
@@ -45,13 +35,11 @@ fn look(bank: &[u8], from: usize, to: usize, seen: Seen) -> Seen
     let mut begun = 0u8;
     let mut last = seen.last;
     let mut held = seen.held;
-    let mut at = from;
-    while at < to {
-        let is_old = bank[at] != 0xFF;
-        begun += one(is_old & !last);
-        held = held | is_old;
+    for byte in &bank[from..to] {
+        let is_old = *byte != 0xFF;
+        begun += u8::from(is_old & !last);
+        held |= is_old;
         last = is_old;
-        at += 1;
     }
     Seen {
         runs: seen.runs + begun as usize,
@@ -61,18 +49,19 @@ fn look(bank: &[u8], from: usize, to: usize, seen: Seen) -> Seen
 }
 
 // One gap, where `runs` were met before it. Sectors that hold old bytes get their mark.
-fn mark_gap(bank: &[u8], from: usize, to: usize, runs: usize, marks: &mut [bool]) -> usize
-    requires at_gap { AtGap bank.now from to runs }
-    requires marks_at { MarksAt (old bank.now) from marks.old }
-    ensures value { result ≡ met (old bank.now) to }
-    ensures marks_at_2 { MarksAt (old bank.now) to marks.new }
+fn mark_gap(bank: &[u8], gap: Gap, runs: usize, marks: &mut [bool]) -> usize
+    requires at_gap { AtGap bank.now gap runs }
+    requires marks_at { MarksAt (old bank.now) gap.start marks.old }
+    ensures value { result ≡ met (old bank.now) gap.end }
+    ensures marks_at_2 { MarksAt (old bank.now) gap.end marks.new }
 {
     let mut met = runs;
     let mut last = false;
-    let mut at = from;
-    while at < to {
+    let mut at = gap.start;
+    // The index is kept: the pieces are of unlike length, for a gap starts and ends anywhere.
+    while at < gap.end {
         let sector = at / SECTOR;
-        let end = crate::piece::end(at, to);
+        let end = crate::piece::end(at, gap.end);
         let before = Seen {
             runs: met,
             last,
@@ -88,19 +77,15 @@ fn mark_gap(bank: &[u8], from: usize, to: usize, runs: usize, marks: &mut [bool]
 }
 
 // All gaps. `marks` has none before.
-pub(crate) fn mark(bank: &[u8], gaps: Gaps, marks: &mut [bool]) -> usize
-    requires good_bank { GoodBank bank.now gaps }
+pub(crate) fn mark(bank: &[u8], gaps: &[Gap], marks: &mut [bool]) -> usize
+    requires good_bank { GoodBank bank.now gaps.now }
     requires marks_at { MarksAt (old bank.now) 0 marks.old }
     ensures value { result ≡ length (runs_of bank.now) }
     ensures marks_at_2 { MarksAt (old bank.now) (length bank.now) marks.new }
 {
     let mut runs = 0;
-    let mut i = 0;
-    while i < gaps.count {
-        let from = gaps.starts[i];
-        let to = gaps.ends[i];
-        runs = mark_gap(bank, from, to, runs, marks);
-        i += 1;
+    for gap in gaps {
+        runs = mark_gap(bank, *gap, runs, marks);
     }
     runs
 }

@@ -6,7 +6,7 @@ ghost use Rattle.clean.specs.Old.{old};
 ghost use Rattle.clean.specs.Runs.{run_before, flat};
 ghost use Rattle.clean.specs.Walk.{GoodBank, Piece, AtGap, MarksAt, Reached, ListsOn, ListsGap, MarkTells, met};
 
-use bank::gaps::Gaps;
+use bank::gaps::Gap;
 use layout::SECTOR;
 
 // What is listed behind some bytes.
@@ -18,7 +18,7 @@ pub(crate) struct Progress {
     pub length: usize,
 }
 
-// Run n of the list.
+// Run n of the list: two of its numbers, since it is C that lends it.
 fn put_run(runs: &mut [u32], n: usize, offset: usize, size: usize)
     requires { (2 * n + 2 ≤ length runs.old) × (offset < 4294967296) × (size < 4294967296) }
     ensures { runs.new ≡ sets runs.old (2 * n) (offset ∷ size ∷ []) }
@@ -66,10 +66,8 @@ fn list_piece(bank: &[u8], from: usize, to: usize, listed: Progress, runs: &mut 
     ensures lists_on { ListsOn (old bank.now) from to runs.old runs.new }
 {
     let mut so_far = listed;
-    let mut at = from;
-    while at < to {
+    for at in from..to {
         so_far = list_byte(bank, at, so_far, runs);
-        at += 1;
     }
     so_far
 }
@@ -96,42 +94,32 @@ fn list_marked(
 }
 
 // One gap, where `n` runs are listed before it.
-fn list_gap(
-    bank: &[u8],
-    from: usize,
-    to: usize,
-    marks: &[bool],
-    n: usize,
-    runs: &mut [u32],
-) -> usize
-    requires at_gap { AtGap bank.now from to n }
-    requires marks_at { MarksAt (old bank.now) (length bank.now) marks.now × (met (old bank.now) to ≤ length runs.old / 2) }
-    ensures value { result ≡ met (old bank.now) to }
-    ensures lists_gap { ListsGap (old bank.now) from to runs.old runs.new }
+fn list_gap(bank: &[u8], gap: Gap, marks: &[bool], n: usize, runs: &mut [u32]) -> usize
+    requires at_gap { AtGap bank.now gap n }
+    requires marks_at { MarksAt (old bank.now) (length bank.now) marks.now × (met (old bank.now) gap.end ≤ length runs.old / 2) }
+    ensures value { result ≡ met (old bank.now) gap.end }
+    ensures lists_gap { ListsGap (old bank.now) gap runs.old runs.new }
 {
     let mut listed = Progress { runs: n, length: 0 };
-    let mut at = from;
-    while at < to {
-        let end = crate::piece::end(at, to);
+    let mut at = gap.start;
+    // The index is kept: the pieces are of unlike length, for a gap starts and ends anywhere.
+    while at < gap.end {
+        let end = crate::piece::end(at, gap.end);
         listed = list_marked(bank, at, end, marks[at / SECTOR], listed, runs);
         at = end;
     }
-    let done = close(runs, listed, to);
+    let done = close(runs, listed, gap.end);
     done.runs
 }
 
 // All gaps. There is room for all runs.
-pub(crate) fn list(bank: &[u8], gaps: Gaps, marks: &[bool], runs: &mut [u32])
-    requires good_bank { GoodBank bank.now gaps × MarksAt (old bank.now) (length bank.now) marks.now }
+pub(crate) fn list(bank: &[u8], gaps: &[Gap], marks: &[bool], runs: &mut [u32])
+    requires good_bank { GoodBank bank.now gaps.now × MarksAt (old bank.now) (length bank.now) marks.now }
     requires bank_in_bounds { length (runs_of bank.now) ≤ length runs.old / 2 }
     ensures { runs.new ≡ sets runs.old 0 (flat (runs_of bank.now)) }
 {
     let mut n = 0;
-    let mut i = 0;
-    while i < gaps.count {
-        let from = gaps.starts[i];
-        let to = gaps.ends[i];
-        n = list_gap(bank, from, to, marks, n, runs);
-        i += 1;
+    for gap in gaps {
+        n = list_gap(bank, *gap, marks, n, runs);
     }
 }

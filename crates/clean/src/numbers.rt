@@ -1,21 +1,14 @@
 // The numbers of the sectors that have a mark: how many there are, and the list of them.
-ghost use Rattle.std.specs.Prelude.{◌≡◌, cond, [], ◌∷◌, ◌+◌, ◌≤◌, ◌<◌, length};
+ghost use Rattle.std.specs.Prelude.{◌≡◌, cond, count_by, [], ◌∷◌, ◌+◌, ◌≤◌, ◌<◌, length};
 ghost use Rattle.std.proofs.lemmas.List.Edits.{sets};
 ghost use Rattle.clean.specs.Sectors.{numbers_at};
 ghost use Rattle.clean.specs.Walk.{mark_in};
 
-// How many of the first n.
-pub(crate) fn count(marks: &[bool], n: usize) -> usize
-    requires { n ≤ length marks.now }
-    ensures { result ≡ length (numbers_at (mark_in marks.now) n) }
+// How many have one.
+pub(crate) fn count(marks: &[bool]) -> usize
+    ensures { result ≡ count_by (λ mark. mark) marks.now }
 {
-    let mut m = 0;
-    let mut i = 0;
-    while i < n {
-        m += crate::count::one(marks[i]) as usize;
-        i += 1;
-    }
-    m
+    marks.iter().filter(|mark| **mark).count()
 }
 
 // The number of sector i, counted from 0, behind the first m, if it has a mark; so many there are then.
@@ -30,15 +23,13 @@ fn put(sectors: &mut [u16], m: usize, i: usize, mark: bool) -> usize
     m
 }
 
-// The numbers of those among the first n, ascending. There is room for all.
-pub(crate) fn list(marks: &[bool], n: usize, sectors: &mut [u16])
-    requires { (n ≤ length marks.now) × (n < 65535) × (length (numbers_at (mark_in marks.now) n) ≤ length sectors.old) }
-    ensures { sectors.new ≡ sets sectors.old 0 (numbers_at (mark_in marks.now) n) }
+// The numbers of those that have one, ascending. There is room for all.
+pub(crate) fn list(marks: &[bool], sectors: &mut [u16])
+    requires { (length marks.now < 65535) × (length (numbers_at (mark_in marks.now) (length marks.now)) ≤ length sectors.old) }
+    ensures { sectors.new ≡ sets sectors.old 0 (numbers_at (mark_in marks.now) (length marks.now)) }
 {
     let mut m = 0;
-    let mut i = 0;
-    while i < n {
-        m = put(sectors, m, i, marks[i]);
-        i += 1;
+    for (i, mark) in marks.iter().enumerate() {
+        m = put(sectors, m, i, *mark);
     }
 }

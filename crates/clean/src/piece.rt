@@ -12,9 +12,5 @@ pub(crate) fn end(at: usize, to: usize) -> usize
     requires { (at < to) × (to ≤ sector_size * most_sectors) }
     ensures { result ≡ piece_end at to }
 {
-    let end = (at / PIECE + 1) * PIECE;
-    if end < to {
-        return end;
-    }
-    to
+    to.min((at / PIECE + 1) * PIECE)
 }

@@ -5,20 +5,18 @@ use mathlib.Core.Bool.{Bool, true, false}
 use mathlib.Core.List.{List}
 use Prim.Native.Nat.{ℕ, ◌+◌, ◌-◌, ◌≤◌}
 use lib.ListN.{take, drop}
-use Rattle.buffer.specs.Compare.{blank_of}
 use Rattle.crc.specs.Crc.{crc_of}
-use Rattle.flash.specs.Bank.{IsWriteAt}
 use Rattle.layout.specs.declared.Bank.{Bank}
 use Rattle.layout.specs.Layout.{other_of, sector_size, most_sectors, sector_start, sector_offset}
 use Rattle.layout.proofs.Layouts.{good_told, offset_good, lent_out}
 use Rattle.commands.specs.declared.Command.{Command}
 use Rattle.commands.specs.declared.Command.TheVariants.{WriteEnd}
-use Rattle.exchange.specs.declared.answer.Answer.TheVariants.{Response, Written}
+use Rattle.exchange.specs.declared.answer.Answer.TheVariants.{Response}
 use Rattle.client.specs.declared.perform.Served.{Served}
 use Rattle.client.specs.declared.record.Client.{Client}
 use Rattle.client.specs.declared.record.Latest.TheVariants.{Good, Otherwise}
-use Rattle.client.specs.Record.{starting, marked, ended}
-use Rattle.client.specs.Perform.{fit_of, store_result, sector_crc, done, store_of, checked_of, served, IsServed}
+use Rattle.client.specs.Record.{starting, ended}
+use Rattle.client.specs.Perform.{fit_of, sector_crc, done, checked_of, served, IsServed}
 
 -- where the sector starts
 pub starts : (k start : ℕ) → (1 ≤ k) × (k ≤ most_sectors) → start ≡ sector_offset k → start ≡ sector_start k
@@ -27,19 +25,6 @@ starts k start h e = e ∙ sym (offset_good k (good_told k h.0 h.1))
 -- the part that is handed on is the sector
 pub crc_part : (bank : List ℕ) (k start r : ℕ) → start ≡ sector_start k → r ≡ crc_of (take ((start + sector_size) - start) (drop start bank)) → r ≡ sector_crc bank k
 crc_part bank k start r e c = c ∙ ap crc_of (lent_out bank k start e)
-
-pub store_is : (c m : Client) (target after bytes : List ℕ) (sector w crc : ℕ) (already blank : Bool)
-    → IsWriteAt target sector bytes after already → blank ≡ blank_of bytes → w ≡ store_result blank already
-    → crc ≡ sector_crc after sector → m ≡ marked sector c
-    → IsServed (store_of c sector bytes target) (served m (Written sector 0x06 w crc)) after
-unfolding store_of
-store_is c m target after bytes sector w crc already blank a b r s k =
-    record {
-      client = k;
-      answer =
-          ap₂ (Written sector 0x06) (r ∙ ap₂ store_result b a.already) (s ∙ ap (λ (t : List ℕ). sector_crc t sector) a.written);
-      target = a.written;
-    }
 
 -- a response with nothing behind its result, which leaves the target as it is
 pub responded : (c m : Client) (command : Command) (result : ℕ) (target : List ℕ) (r : Served) → m ≡ c → r ≡ served m (Response command result)

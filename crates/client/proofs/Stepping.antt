@@ -1,34 +1,30 @@
 -- How deciding, doing and saying become one step, on the target alone and with the running bank beside it.
 -- Assumes nothing.
 use mathlib.Core.Path.{◌≡◌, refl, sym, ap, ap₂, ◌∙◌}
-use mathlib.Core.Bool.{true, false}
 use mathlib.Core.List.{List, []}
 use Prim.Native.Nat.{ℕ}
+use Rattle.std.specs.Prelude.{None, Err}
 use lib.ListN.{length}
-use borrow.Author.Tests.{eq-eqb, ne_eqb}
 use Rattle.buffer.specs.Place.{front_of}
 use Rattle.frame.specs.Read.{data_in}
 use Rattle.layout.specs.declared.Bank.{Bank}
-use Rattle.layout.specs.Layout.{good_n, bank_size, good_size, other_of}
+use Rattle.layout.specs.Layout.{other_of}
 use Rattle.layout.specs.Pair.{Banks, bank_in, with_bank}
-use Rattle.layout.proofs.Layouts.{size_good}
-use Rattle.exchange.specs.declared.answer.Answer.{Answer}
-use Rattle.exchange.specs.declared.answer.Answer.TheVariants.{Refused}
-use Rattle.exchange.specs.declared.answer.Refusal.TheVariants.{BadN, BadLength}
-use Rattle.exchange.specs.Answer.{answer_bytes, answer_number, told_length, IsSay}
+use Rattle.exchange.specs.declared.answer.Refusal.{Refusal}
+use Rattle.exchange.specs.Answer.{Reply, reply_bytes, answer_number, told_length, IsSay}
+use Rattle.exchange.proofs.Saying.{say_refused}
 use Rattle.decision.specs.declared.plan.Plan.{Plan}
-use Rattle.decision.specs.declared.plan.Plan.TheVariants.{Keep}
-use Rattle.client.specs.declared.notice.Notice.{Notice}
+use Rattle.decision.specs.declared.plan.Plan.TheVariants.{Refuse}
 use Rattle.client.specs.declared.perform.Served.{Served}
 use Rattle.client.specs.declared.record.Client.{Client}
 use Rattle.client.specs.declared.step.Stepped.{Stepped}
-use Rattle.client.specs.Notice.{no_notice}
-use Rattle.client.specs.Perform.{served_of, served, IsServed}
-use Rattle.client.specs.Step.{notice_of, Carried, carried_of, IsCarried, Keeps, planned, take_of, IsTake, beside_of, step_of, IsStep}
+use Rattle.client.specs.Notice.{MaybeNotice}
+use Rattle.client.specs.Perform.{served_of, IsServed}
+use Rattle.client.specs.Step.{notice_of, Carried, carried_of, IsCarried, Refuses, planned, take_of, IsTake, beside_of, step_of, IsStep}
 use Rattle.client.proofs.Numbers.{take_says_lem, beside_says_lem}
 
 -- do, and then say
-pub carry_is : (c : Client) (plan : Plan) (target address buffer bytes : List ℕ) (notice : Notice) (s : Served) (after answered : List ℕ) (n : ℕ)
+pub carry_is : (c : Client) (plan : Plan) (target address buffer bytes : List ℕ) (notice : MaybeNotice) (s : Served) (after answered : List ℕ) (n : ℕ)
     → notice ≡ notice_of plan c.latest address → IsServed (served_of c plan target address bytes) s after → IsSay s.answer buffer answered n
     → IsCarried (carried_of c plan target address buffer bytes) (record { client = s.client; answer = s.answer; length = n; notice = notice }) after answered
 unfolding carried_of
@@ -36,19 +32,18 @@ carry_is c plan target address buffer bytes notice s after answered n e d a =
     record {
       client = d.client;
       answer = d.answer;
-      told = a.told ∙ ap (λ (x : Answer). told_length (answer_bytes x) (length buffer)) d.answer;
+      told = a.told ∙ ap (λ (x : Reply). told_length (reply_bytes x) (length buffer)) d.answer;
       notice = e;
       target = d.target;
-      buffer = a.said ∙ ap (λ (x : Answer). front_of buffer (answer_bytes x)) d.answer;
+      buffer = a.said ∙ ap (λ (x : Reply). front_of buffer (reply_bytes x)) d.answer;
     }
 
--- nothing done, and then say
-pub kept_is : (c : Client) (answer : Answer) (buffer answered : List ℕ) (notice : Notice) (n : ℕ) → notice ≡ no_notice → IsSay answer buffer answered n
-    → Keeps c answer buffer (record { client = c; answer = answer; length = n; notice = notice }) answered
+-- nothing done or said
+pub refused_is : (c : Client) (why : Refusal) → Refuses c why (record { client = c; answer = Err why; length = 0; notice = None })
 unfolding served_of
-kept_is c answer buffer answered notice n e a target address =
-    carry_is c (Keep answer) target address buffer [] notice (served c answer) target answered n e
-    (record { client = refl; answer = refl; target = refl }) a
+refused_is c why target address buffer =
+    carry_is c (Refuse why) target address buffer [] None (record { client = c; answer = Err why }) target buffer 0 refl
+    (record { client = refl; answer = refl; target = refl }) (say_refused buffer why)
 
 -- the same carried out, by another name
 pub carried_as : (d e : Carried) (r : Stepped) (after answered : List ℕ) → d ≡ e → IsCarried d r after answered → IsCarried e r after answered
@@ -73,29 +68,6 @@ module _ (c : Client) (target marks address buffer datagram : List ℕ) (r : Ste
         target_left = t.target;
         said = t.buffer;
       }
-
-  taken : IsTake c target marks address buffer datagram r after answered → IsCarried whole r after answered
-  taken t =
-      record { client = t.client; answer = t.answer; told = t.told; notice = t.notice; target = t.target_left; buffer = t.said }
-
-  module _ (running : ℕ) where
-    pub beside-bad : good_n c.fixed.n ≡ false → IsCarried (carried_of c (Keep (Refused BadN)) target address buffer []) r after answered
-        → IsCarried (beside_of c running target marks address buffer datagram) r after answered
-    unfolding beside_of
-    beside-bad g s = rw g s
-
-    module _ (g : good_n c.fixed.n ≡ true) (size : ℕ) (is : size ≡ good_size c.fixed.n) where
-      pub beside-wrong : (running ≡ size → ⊥) → IsCarried (carried_of c (Keep (Refused BadLength)) target address buffer []) r after answered
-          → IsCarried (beside_of c running target marks address buffer datagram) r after answered
-      unfolding beside_of
-      beside-wrong n s =
-          let e = is ∙ size_good c.fixed.n g in
-          rw (g, ne_eqb running (bank_size c.fixed.n) (λ t. n (t ∙ sym e))) s
-
-      pub beside-right : running ≡ size → IsTake c target marks address buffer datagram r after answered
-          → IsCarried (beside_of c running target marks address buffer datagram) r after answered
-      unfolding beside_of
-      beside-right e s = rw (g, eq-eqb running (bank_size c.fixed.n) (e ∙ is ∙ size_good c.fixed.n g)) (taken s)
 
 -- whichever bank runs
 module _ (c : Client) (pair : Banks) (marks address buffer datagram : List ℕ) (r : Stepped) (after answered : List ℕ) where

@@ -1,33 +1,27 @@
 -- Do: a plan carried out on the target bank (01, 'The client, step by step'). The running bank is never seen here.
 -- Assumes nothing.
-use Rattle.std.specs.Prelude.{◌≡◌, ◌⊎◌, Bool, true, false, ◌||◌, cond, List, ℕ, ◌≤◌}
+use Rattle.std.specs.Prelude.{◌≡◌, Ok, Err, ◌⊎◌, Bool, true, false, ◌||◌, cond, List, ℕ, ◌≤◌, is_ok}
 use Rattle.buffer.specs.Compare.{blank_of}
 use Rattle.crc.specs.Crc.{crc_of}
 use Rattle.flash.specs.Bank.{written_at, already_at, swept_of}
-use Rattle.bank.specs.declared.check.Verdict.{Verdict}
-use Rattle.bank.specs.declared.check.Verdict.TheVariants as verdict
 use Rattle.bank.specs.Sound.{verdict_of}
 use Rattle.layout.specs.Layout.{bank_size, most_sectors, other_of, sector_of}
 use Rattle.commands.specs.declared.Command.TheVariants.{ModeStart, WriteStart, WriteEnd, ModeEnd}
 use Rattle.exchange.specs.declared.answer.Answer.{Answer}
 use Rattle.exchange.specs.declared.answer.Answer.TheVariants.{Response, Written}
+use Rattle.exchange.specs.Answer.{Reply}
 use Rattle.decision.specs.declared.plan.Fixed.{Fixed}
 use Rattle.decision.specs.declared.plan.Plan.{Plan}
-use Rattle.decision.specs.declared.plan.Plan.TheVariants.{Keep, Open, Leave, Begin, Store, Wear, Finish}
+use Rattle.decision.specs.declared.plan.Plan.TheVariants.{Refuse, Keep, Open, Leave, Begin, Store, Wear, Finish}
 use Rattle.client.specs.declared.perform.Served.{Served}
 use Rattle.client.specs.declared.record.Client.{Client}
 use Rattle.client.specs.declared.record.Latest.TheVariants.{Good, Otherwise}
 use Rattle.client.specs.Record.{starting, opened, mode_ended, begun, marked, ended}
 
--- a sound bank may start next, an unsound one may not ("unsound gives 1E")
-abbrev pub fit_by : Verdict → Bool
-fit_by verdict.Refused = false
-fit_by verdict.Sound = true
-fit_by verdict.Unsound = false
-
--- whether a client may start a bank: by the bank, and by what was fixed when the client was made (of use from 02 §10 on)
+-- whether a client may start a bank: a sound one, and no other ("unsound gives 1E"); by the bank, and by what was fixed when the client was made
+-- (of use from 02 §10 on)
 abbrev pub fit_of : Fixed → List ℕ → Bool
-fit_of fixed bank = fit_by (verdict_of bank)
+fit_of fixed bank = is_ok (verdict_of bank)
 
 -- "1D if the data are all 0xFF", or if the sector already was what it should become
 abbrev pub store_result : Bool → Bool → ℕ
@@ -44,11 +38,11 @@ sector_crc bank k = crc_of (sector_of bank k)
 -- what a plan leads to: the record, the answer, the target bank
 pub record Done : Type 0 where
   pub client : Client
-  pub answer : Answer
+  pub answer : Reply
   pub target : List ℕ
 
 abbrev pub done : Client → Answer → List ℕ → Done
-done c answer target = record { client = c; answer = answer; target = target }
+done c answer target = record { client = c; answer = Ok answer; target = target }
 
 -- "Write packet in write state": its data to their sector
 unfoldable pub store_of : Client → ℕ → List ℕ → List ℕ → Done
@@ -70,6 +64,7 @@ finish_of c target = checked_of c (swept_of target c.fixed.n c.received)
 
 -- a plan, the target bank, the sender's address, the data of the datagram; at a write start the next-start bank is set first
 unfoldable pub served_of : Client → Plan → List ℕ → List ℕ → List ℕ → Done
+served_of c (Refuse why) target address bytes = record { client = c; answer = Err why; target = target }
 served_of c (Keep answer) target address bytes = done c answer target
 served_of c Open target address bytes = done (opened address c) (Response ModeStart 0x06) target
 served_of c Leave target address bytes = done (mode_ended c) (Response ModeEnd 0x06) target
@@ -79,7 +74,7 @@ served_of c Wear target address bytes = done (ended Otherwise c) (Response Write
 served_of c Finish target address bytes = finish_of c target
 
 abbrev pub served : Client → Answer → Served
-served c answer = record { client = c; answer = answer }
+served c answer = record { client = c; answer = Ok answer }
 
 pub record IsServed (d : Done) (r : Served) (after : List ℕ) : Type 0 where
   pub client : r.client ≡ d.client
@@ -93,6 +88,7 @@ pub record Storable (sector target : ℕ) : Type 0 where
   pub inside : bank_size sector ≤ target
 
 abbrev pub Fair : Plan → ℕ → Type 0
+Fair (Refuse why) target = Unit {0}
 Fair (Keep answer) target = Unit {0}
 Fair Open target = Unit {0}
 Fair Leave target = Unit {0}
@@ -103,6 +99,7 @@ Fair Finish target = Unit {0}
 
 -- what it needs of the address: where it is kept or told to the host it has its 16 bytes
 abbrev pub Addressed : Plan → ℕ → Type 0
+Addressed (Refuse why) address = Unit {0}
 Addressed (Keep answer) address = Unit {0}
 Addressed Open address = address ≡ 16
 Addressed Leave address = address ≡ 16

@@ -1,57 +1,56 @@
 -- One datagram: decided upon, carried out on the target bank, answered (01, 'The client, step by step').
 -- Assumes nothing.
-use Rattle.std.specs.Prelude.{◌≡◌, not, cond, List, [], ℕ, eqb, length}
+use Rattle.std.specs.Prelude.{◌≡◌, None, Some, not, cond, List, [], ℕ, eqb, length}
 use Rattle.buffer.specs.Place.{front_of}
 use Rattle.frame.specs.Read.{data_in}
 use Rattle.layout.specs.Layout.{good_n, bank_size, other_of}
 use Rattle.layout.specs.Pair.{Banks, banks, bank_in, with_bank}
-use Rattle.exchange.specs.declared.answer.Answer.{Answer}
-use Rattle.exchange.specs.declared.answer.Answer.TheVariants.{Refused}
+use Rattle.exchange.specs.declared.answer.Refusal.{Refusal}
 use Rattle.exchange.specs.declared.answer.Refusal.TheVariants.{BadN, BadLength}
-use Rattle.exchange.specs.Answer.{answer_bytes, answer_number, told_length}
+use Rattle.exchange.specs.Answer.{Reply, reply_bytes, answer_number, told_length}
 use Rattle.exchange.specs.Request.{asked_of}
 use Rattle.exchange.specs.State.{is_closed}
 use Rattle.decision.specs.declared.plan.Plan.{Plan}
-use Rattle.decision.specs.declared.plan.Plan.TheVariants.{Keep, Open, Leave, Begin, Store, Wear, Finish}
+use Rattle.decision.specs.declared.plan.Plan.TheVariants.{Refuse, Keep, Open, Leave, Begin, Store, Wear, Finish}
 use Rattle.decision.specs.Plan.{lent_good, plan_of}
-use Rattle.client.specs.declared.notice.Kind.TheVariants.{Started, Ended}
-use Rattle.client.specs.declared.notice.Notice.{Notice}
+use Rattle.client.specs.declared.notice.Notice.TheVariants.{Started, Ended}
 use Rattle.client.specs.declared.record.Client.{Client}
 use Rattle.client.specs.declared.record.Latest.{Latest}
 use Rattle.client.specs.declared.step.Stepped.{Stepped}
-use Rattle.client.specs.Notice.{no_notice, notice_with, latest_number}
+use Rattle.client.specs.Notice.{MaybeNotice, latest_number}
 use Rattle.client.specs.Perform.{Done, served_of}
 use Rattle.client.specs.Record.{standing_of}
 
 -- "host notice 6033 with sender address", "Notice 6034 carries .."; the latest session is the one before the step
-abbrev pub notice_of : Plan → Latest → List ℕ → Notice
-notice_of (Keep answer) latest address = no_notice
-notice_of Open latest address = notice_with Started 0 address
-notice_of Leave latest address = notice_with Ended (latest_number latest) address
-notice_of Begin latest address = no_notice
-notice_of (Store sector) latest address = no_notice
-notice_of Wear latest address = no_notice
-notice_of Finish latest address = no_notice
+abbrev pub notice_of : Plan → Latest → List ℕ → MaybeNotice
+notice_of (Refuse why) latest address = None
+notice_of (Keep answer) latest address = None
+notice_of Open latest address = Some (Started address)
+notice_of Leave latest address = Some (Ended (latest_number latest) address)
+notice_of Begin latest address = None
+notice_of (Store sector) latest address = None
+notice_of Wear latest address = None
+notice_of Finish latest address = None
 
 -- what a plan leads to, said and done
 pub record Carried : Type 0 where
   pub client : Client
-  pub answer : Answer
+  pub answer : Reply
   pub told : ℕ
-  pub notice : Notice
+  pub notice : MaybeNotice
   pub target : List ℕ
   pub buffer : List ℕ
 
 -- the answer goes to the front; "the rest keeps its bytes"
-abbrev pub said_of : Done → Notice → List ℕ → Carried
+abbrev pub said_of : Done → MaybeNotice → List ℕ → Carried
 said_of d notice buffer =
     record {
       client = d.client;
       answer = d.answer;
-      told = told_length (answer_bytes d.answer) (length buffer);
+      told = told_length (reply_bytes d.answer) (length buffer);
       notice = notice;
       target = d.target;
-      buffer = front_of buffer (answer_bytes d.answer);
+      buffer = front_of buffer (reply_bytes d.answer);
     }
 
 -- a plan carried out on a target, with the data that the datagram has
@@ -66,10 +65,9 @@ pub record IsCarried (d : Carried) (r : Stepped) (after answered : List ℕ) : T
   pub target : after ≡ d.target
   pub buffer : answered ≡ d.buffer
 
--- an answer for which nothing is done, whatever is lent
-abbrev pub Keeps : Client → Answer → List ℕ → Stepped → List ℕ → Type 0
-Keeps c answer buffer r answered =
-    (target address : List ℕ) → IsCarried (carried_of c (Keep answer) target address buffer []) r target answered
+-- no answer, and nothing is done, whatever is lent
+abbrev pub Refuses : Client → Refusal → Stepped → Type 0
+Refuses c why r = (target address buffer : List ℕ) → IsCarried (carried_of c (Refuse why) target address buffer []) r target buffer
 
 -- ---- on the target alone
 
@@ -105,8 +103,8 @@ beside_of c running target marks address buffer datagram =
     cond (good_n c.fixed.n)
     (cond (eqb running (bank_size c.fixed.n))
     (take_of c target marks address buffer datagram)
-    (carried_of c (Keep (Refused BadLength)) target address buffer []))
-    (carried_of c (Keep (Refused BadN)) target address buffer [])
+    (carried_of c (Refuse BadLength) target address buffer []))
+    (carried_of c (Refuse BadN) target address buffer [])
 
 -- "One bank runs, the other is the target"
 abbrev pub step_of : Client → Banks → List ℕ → List ℕ → List ℕ → List ℕ → Carried

@@ -6,40 +6,29 @@ ghost use Rattle.client.specs.Perform.{fit_of, store_result, sector_crc, store_o
 ghost use Rattle.exchange.specs.declared.answer.Answer.TheVariants.{Response};
 
 use crate::record::{Client, Latest};
-use bank::check::Verdict;
 use commands::Command;
 use decision::plan::{Fixed, Plan};
-use exchange::answer::Answer;
+use exchange::answer::{Answer, Refusal};
 use exchange::state::State;
 
 #[derive(Clone, Copy)]
 pub(crate) struct Served {
     pub client: Client,
-    pub answer: Answer,
+    pub answer: Result<Answer, Refusal>,
 }
 
 // Whether a client may start a bank.
 fn fit(fixed: Fixed, bank: &[u8]) -> bool
     ensures { result ≡ fit_of fixed bank.now }
 {
-    match bank::check::check(bank) {
-        Verdict::Refused => false,
-        Verdict::Sound => true,
-        Verdict::Unsound => false,
-    }
+    bank::check::check(bank).is_ok()
 }
 
 // 1D where nothing but 0xFF was sent, or the sector already was what it should become.
 fn store_result(blank: bool, already: bool) -> u8
     ensures { result ≡ store_result blank already }
 {
-    if blank {
-        return 0x1D;
-    }
-    if already {
-        return 0x1D;
-    }
-    0x06
+    if blank || already { 0x1D } else { 0x06 }
 }
 
 // The CRC-32 of sector k as it stands.
@@ -59,14 +48,15 @@ impl Client {
     {
         Served {
             client: self,
-            answer: Answer::Response {
+            answer: Ok(Answer::Response {
                 command,
                 result: res,
-            },
+            }),
         }
     }
 
     // A write packet: the bytes to their sector, which counts as received.
+    #[tactic(auto, unfolding(crate::specs::Perform::store_of))]
     fn store(self, target: &mut [u8], sector: u16, bytes: &[u8]) -> Served
         requires le_sector { (1 ≤ sector) × (sector ≤ most_sectors) }
         requires sector_in_bounds { bank_size sector ≤ length target.old }
@@ -80,25 +70,24 @@ impl Client {
         let client = self.marked(k);
         Served {
             client,
-            answer: Answer::Written {
+            answer: Ok(Answer::Written {
                 sector,
                 result: 0x06,
                 write,
                 crc,
-            },
+            }),
         }
     }
 
     // The bank check, of what the sweep left. The next-start bank is set last, and only where the bank is fit.
+    #[tactic(auto, unfolding(crate::specs::Perform::checked_of))]
     fn checked(self, target: &[u8]) -> Served
         ensures { IsServed (checked_of self target.now) result target.now }
     {
-        let fixed = self.fixed;
-        let running = fixed.running;
-        if fit(fixed, target) {
+        if fit(self.fixed, target) {
             return self
                 .ended(Latest::Good)
-                .starting(layout::other(running))
+                .starting(layout::other(self.fixed.running))
                 .responds(Command::WriteEnd, 0x06);
         }
         self.ended(Latest::Otherwise)
@@ -109,8 +98,7 @@ impl Client {
     fn finish(self, target: &mut [u8]) -> Served
         ensures { IsServed (finish_of self target.old) result target.new }
     {
-        let received = self.received;
-        flash::bank::sweep(target, self.fixed.n, &received);
+        flash::bank::sweep(target, self.fixed.n, &self.received);
         self.checked(target)
     }
 
@@ -118,20 +106,23 @@ impl Client {
     fn begin(self) -> Client
         ensures { result ≡ begun (starting self.fixed.running self) }
     {
-        let fixed = self.fixed;
-        let running = fixed.running;
-        self.starting(running).begun()
+        self.starting(self.fixed.running).begun()
     }
 
+    #[tactic(auto, unfolding(crate::specs::Perform::served_of))]
     pub(crate) fn serve(self, plan: Plan, target: &mut [u8], address: &[u8], bytes: &[u8]) -> Served
         requires fair { Fair plan (length target.old) }
         requires addressed { Addressed plan (length address.now) }
         ensures { IsServed (served_of self plan target.old address.now bytes.now) result target.new }
     {
         match plan {
+            Plan::Refuse(why) => Served {
+                client: self,
+                answer: Err(why),
+            },
             Plan::Keep(answer) => Served {
                 client: self,
-                answer,
+                answer: Ok(answer),
             },
             Plan::Open => self.opened(address).responds(Command::ModeStart, 0x06),
             Plan::Leave => self.left(State::Idle).responds(Command::ModeEnd, 0x06),

@@ -1,10 +1,10 @@
 // One datagram: decided upon, carried out on the target bank, answered.
 ghost use Rattle.std.specs.Prelude.{◌≡◌, length};
 ghost use Rattle.client.specs.Perform.{Fair, Addressed};
-ghost use Rattle.client.specs.Step.{notice_of, carried_of, beside_of, IsCarried, Keeps, IsTake, IsStep};
+ghost use Rattle.client.specs.Step.{notice_of, carried_of, beside_of, IsCarried, Refuses, IsTake, IsStep};
 
-use crate::notice::{Kind, Notice};
-use crate::record::{Client, Latest};
+use crate::notice::Notice;
+use crate::record::{Client, Latest, address_of};
 use decision::plan::Plan;
 use exchange::answer::{Answer, Refusal};
 use layout::Bank;
@@ -12,34 +12,37 @@ use layout::Bank;
 #[derive(Clone, Copy)]
 pub struct Stepped {
     pub client: Client,
-    pub answer: Answer,
+    pub answer: Result<Answer, Refusal>,
     // As many bytes as the answer has.
     pub length: usize,
-    pub notice: Notice,
+    pub notice: Option<Notice>,
 }
 
 // The notice for the host, with the sender's address; the latest session is the one before the plan.
-fn notice_for(plan: Plan, latest: Latest, address: &[u8]) -> Notice
+fn notice_for(plan: Plan, latest: Latest, address: &[u8]) -> Option<Notice>
     requires { Addressed plan (length address.now) }
     ensures { result ≡ notice_of plan latest address.now }
 {
     match plan {
-        Plan::Keep(_) => crate::notice::no_notice(),
-        Plan::Open => crate::notice::notice_with(Kind::Started, 0, address),
-        Plan::Leave => crate::notice::notice_with(
-            Kind::Ended,
-            crate::notice::latest_number(latest),
-            address,
-        ),
-        Plan::Begin => crate::notice::no_notice(),
-        Plan::Store { sector: _ } => crate::notice::no_notice(),
-        Plan::Wear => crate::notice::no_notice(),
-        Plan::Finish => crate::notice::no_notice(),
+        Plan::Open => Some(Notice::Started {
+            address: address_of(address),
+        }),
+        Plan::Leave => Some(Notice::Ended {
+            result: u8::from(latest),
+            address: address_of(address),
+        }),
+        Plan::Refuse(_)
+        | Plan::Keep(_)
+        | Plan::Begin
+        | Plan::Store { .. }
+        | Plan::Wear
+        | Plan::Finish => None,
     }
 }
 
 impl Client {
     // Do and say. The record is taken from what was done at the very end, which spares a copy of its flags.
+    #[tactic(auto, unfolding(crate::specs::Step::carried_of))]
     fn carry(
         self,
         plan: Plan,
@@ -52,8 +55,7 @@ impl Client {
         requires addressed { Addressed plan (length address.now) }
         ensures { IsCarried (carried_of self plan target.old address.now buffer.old bytes.now) result target.new buffer.new }
     {
-        let latest = self.latest;
-        let notice = notice_for(plan, latest, address);
+        let notice = notice_for(plan, self.latest, address);
         let served = self.serve(plan, target, address, bytes);
         let answer = served.answer;
         let length = exchange::answer::say(answer, buffer);
@@ -83,21 +85,21 @@ impl Client {
         self.carry(plan, target, address, buffer, frame::read::data(datagram))
     }
 
-    // Nothing is done, and this is said. `carry` has one caller so, into which it is compiled: a call would copy the record's flags.
-    fn kept(self, answer: Answer, buffer: &mut [u8]) -> Stepped
-        ensures { Keeps self answer buffer.old result buffer.new }
+    // Nothing is done or said. `carry` has one caller so, into which it is compiled: a call would copy the record's flags.
+    #[tactic(auto, using(crate::proofs::Stepping::refused_is))]
+    fn refused(self, why: Refusal) -> Stepped
+        ensures { Refuses self why result }
     {
-        let length = exchange::answer::say(answer, buffer);
-        let notice = crate::notice::no_notice();
         Stepped {
             client: self,
-            answer,
-            length,
-            notice,
+            answer: Err(why),
+            length: 0,
+            notice: None,
         }
     }
 
     // N and the length of the running bank first; of that bank nothing else is seen.
+    #[tactic(auto, using(layout::proofs::Layouts::size_good), unfolding(crate::specs::Step::beside_of))]
     fn beside(
         self,
         running: usize,
@@ -111,10 +113,10 @@ impl Client {
     {
         let n = self.fixed.n;
         if !layout::good_n(n) {
-            return self.kept(Answer::Refused(Refusal::BadN), buffer);
+            return self.refused(Refusal::BadN);
         }
         if running != layout::bank_size(n) {
-            return self.kept(Answer::Refused(Refusal::BadLength), buffer);
+            return self.refused(Refusal::BadLength);
         }
         self.take(target, marks, address, buffer, datagram)
     }
@@ -131,9 +133,7 @@ impl Client {
     ) -> Stepped
         ensures { IsStep self bank0.old bank1.old marks.now address.now buffer.old datagram.now result bank0.new bank1.new buffer.new }
     {
-        let fixed = self.fixed;
-        let running = fixed.running;
-        match running {
+        match self.fixed.running {
             Bank::Zero => self.beside(bank0.len(), bank1, marks, address, buffer, datagram),
             Bank::One => self.beside(bank1.len(), bank0, marks, address, buffer, datagram),
         }

@@ -12,9 +12,8 @@ use Rattle.crc.specs.Crc.{crc_of}
 use Rattle.frame.specs.Read.{read_of, data_in}
 use Rattle.flash.specs.Sector.{padded_of}
 use Rattle.layout.proofs.Layouts.{good_high}
-use Rattle.exchange.specs.declared.answer.Answer.{Answer}
 use Rattle.client.specs.declared.record.Client.{Client}
-use Rattle.exchange.specs.Answer.{answer_bytes}
+use Rattle.exchange.specs.Answer.{Reply, reply_bytes}
 use Rattle.client.specs.Record.{none_received}
 use Rattle.layout.specs.Layout.{most_sectors, other_of}
 use Rattle.layout.specs.Pair.{bank_in}
@@ -49,29 +48,29 @@ module _ (b : Board) (call : LentCall) where
   begun_none e =
       by (step_course b.client _ (lent_target b call) call.marks call.address call.buffer call.datagram) (sym (ap is_begin (said_is b call)) ∙ e)
     where
-      by : Course b.client (lent_target b call) call.datagram (called b call) → is_begin (answer_bytes (called b call).answer) ≡ true
+      by : Course b.client (lent_target b call) call.datagram (called b call) → is_begin (reply_bytes (called b call).answer) ≡ true
           → next.client.received ≡ none_received
       by (still q t w) f = absurd (false≢true (sym (quiet_begin (called b call).answer q) ∙ f))
       by (begins a t m h) f = m
       by (stores sector write h v a t k) f =
           absurd
           (false≢true
-          (sym (ap (λ (x : Answer). is_begin (answer_bytes x)) a ∙ written_begin sector 0x06 write (crc_of (padded_of (data_in call.datagram)))) ∙ f))
-      by (ends result u a t x h) f = absurd (false≢true (sym (ap (λ (y : Answer). is_begin (answer_bytes y)) a ∙ ended_begin result) ∙ f))
+          (sym (ap (λ (x : Reply). is_begin (reply_bytes x)) a ∙ written_begin sector 0x06 write (crc_of (padded_of (data_in call.datagram)))) ∙ f))
+      by (ends result u a t x h) f = absurd (false≢true (sym (ap (λ (y : Reply). is_begin (reply_bytes y)) a ∙ ended_begin result) ∙ f))
 
   stored_some : length b.client.received ≡ most_sectors → is_stored (said (step_machine b (Datagram call))) ≡ true → Some next
   stored_some l e =
       by (step_course b.client _ (lent_target b call) call.marks call.address call.buffer call.datagram) (sym (ap is_stored (said_is b call)) ∙ e)
     where
-      by : Course b.client (lent_target b call) call.datagram (called b call) → is_stored (answer_bytes (called b call).answer) ≡ true → Some next
+      by : Course b.client (lent_target b call) call.datagram (called b call) → is_stored (reply_bytes (called b call).answer) ≡ true → Some next
       by (still q t w) f = absurd (false≢true (sym (quiet_stored (called b call).answer q) ∙ f))
-      by (begins a t m h) f = absurd (false≢true (sym (ap (λ (x : Answer). is_stored (answer_bytes x)) a ∙ response_stored WriteStart 0x06) ∙ f))
+      by (begins a t m h) f = absurd (false≢true (sym (ap (λ (x : Reply). is_stored (reply_bytes x)) a ∙ response_stored WriteStart 0x06) ∙ f))
       by (stores sector write h v a t k) f =
           let most = good_high b.client.fixed.n h.good in
           let low = values_low b.client.fixed.n sector h.m h.values in
           let high = values-high b.client.fixed.n sector h.m h.values in
           ap (λ (c : Client). any_of c.received) k ∙ any_set b.client.received (sector - 1) (omega arith)
-      by (ends result u a t x h) f = absurd (false≢true (sym (ap (λ (y : Answer). is_stored (answer_bytes y)) a ∙ response_stored WriteEnd result) ∙ f))
+      by (ends result u a t x h) f = absurd (false≢true (sym (ap (λ (y : Reply). is_stored (reply_bytes y)) a ∙ response_stored WriteEnd result) ∙ f))
 
 -- ---- the machine
 

@@ -5,14 +5,14 @@ use mathlib.Core.Logic.{inl, inr}
 use mathlib.Core.Bool.{Bool, true, false, ◌&&◌, ◌||◌}
 use Prim.Native.Nat.{ℕ}
 use lib.Dec.{eqb}
+use Rattle.std.specs.Prelude.{Ok, Err}
 use Rattle.buffer.specs.Number.{bytes_of}
 use Rattle.frame.specs.Frame.{framed, control_frame, write_frame, frame_error}
 use Rattle.commands.specs.declared.Command.{Command}
 use Rattle.commands.specs.declared.Command.TheVariants.{WriteStart, WriteEnd}
 use Rattle.commands.specs.Command.{response_code}
-use Rattle.exchange.specs.declared.answer.Answer.{Answer}
-use Rattle.exchange.specs.declared.answer.Answer.TheVariants.{Refused, FrameError, ParameterError, Response, BankIs, VersionIs, Written}
-use Rattle.exchange.specs.Answer.{answer_bytes}
+use Rattle.exchange.specs.declared.answer.Answer.TheVariants.{FrameError, ParameterError, Response, BankIs, VersionIs, Written}
+use Rattle.exchange.specs.Answer.{Reply, answer_bytes, reply_bytes}
 use Rattle.client.specs.Perform.{Accepted}
 use Rattle.decision.proofs.Leading.{Quiet}
 use Rattle.demands.specs.Session.{is_begin, ends_session, is_stored}
@@ -21,37 +21,37 @@ either : (a b c : Bool) → (a && (b || c)) ≡ false → ((a && b) || (a && c))
 either true b c e = e
 either false b c e = refl
 
--- ---- an answer that tells of no session begun or ended, and of no sector stored
+-- ---- no answer, or one that tells of no session begun or ended, and of no sector stored
 
-pub quiet_begin : (answer : Answer) → Quiet answer → is_begin (answer_bytes answer) ≡ false
+pub quiet_begin : (reply : Reply) → Quiet reply → is_begin (reply_bytes reply) ≡ false
 unfolding answer_bytes control_frame write_frame framed frame_error
-quiet_begin (Refused why) q = refl
-quiet_begin FrameError q = refl
-quiet_begin ParameterError q = refl
-quiet_begin (Response command result) q = q.0
-quiet_begin (BankIs bank) q = refl
-quiet_begin (VersionIs major minor revision) q = refl
-quiet_begin (Written sector result write crc) q = refl
+quiet_begin (Err why) q = refl
+quiet_begin (Ok FrameError) q = refl
+quiet_begin (Ok ParameterError) q = refl
+quiet_begin (Ok (Response command result)) q = q.0
+quiet_begin (Ok (BankIs bank)) q = refl
+quiet_begin (Ok (VersionIs major minor revision)) q = refl
+quiet_begin (Ok (Written sector result write crc)) q = refl
 
-pub quiet_end : (answer : Answer) → Quiet answer → ends_session (answer_bytes answer) ≡ false
+pub quiet_end : (reply : Reply) → Quiet reply → ends_session (reply_bytes reply) ≡ false
 unfolding answer_bytes control_frame write_frame framed frame_error
-quiet_end (Refused why) q = refl
-quiet_end FrameError q = refl
-quiet_end ParameterError q = refl
-quiet_end (Response command result) q = either (eqb (response_code command) 0x75) (eqb result 0x06) (eqb result 0x1E) q.1
-quiet_end (BankIs bank) q = refl
-quiet_end (VersionIs major minor revision) q = refl
-quiet_end (Written sector result write crc) q = refl
+quiet_end (Err why) q = refl
+quiet_end (Ok FrameError) q = refl
+quiet_end (Ok ParameterError) q = refl
+quiet_end (Ok (Response command result)) q = either (eqb (response_code command) 0x75) (eqb result 0x06) (eqb result 0x1E) q.1
+quiet_end (Ok (BankIs bank)) q = refl
+quiet_end (Ok (VersionIs major minor revision)) q = refl
+quiet_end (Ok (Written sector result write crc)) q = refl
 
-pub quiet_stored : (answer : Answer) → Quiet answer → is_stored (answer_bytes answer) ≡ false
+pub quiet_stored : (reply : Reply) → Quiet reply → is_stored (reply_bytes reply) ≡ false
 unfolding answer_bytes control_frame write_frame framed frame_error bytes_of
-quiet_stored (Refused why) q = refl
-quiet_stored FrameError q = refl
-quiet_stored ParameterError q = refl
-quiet_stored (Response command result) q = refl
-quiet_stored (BankIs bank) q = refl
-quiet_stored (VersionIs major minor revision) q = refl
-quiet_stored (Written sector result write crc) q = q
+quiet_stored (Err why) q = refl
+quiet_stored (Ok FrameError) q = refl
+quiet_stored (Ok ParameterError) q = refl
+quiet_stored (Ok (Response command result)) q = refl
+quiet_stored (Ok (BankIs bank)) q = refl
+quiet_stored (Ok (VersionIs major minor revision)) q = refl
+quiet_stored (Ok (Written sector result write crc)) q = q
 
 -- ---- the others
 

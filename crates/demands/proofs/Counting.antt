@@ -9,12 +9,14 @@ use native.Mathlib.Omega.{arith}
 use lib.ListN.{length, get_or, length-append, get_or-append}
 use lib.Seq.{get_or_at}
 use borrow.Author.Tests.{eq-eqb, ne_eqb, lt-ltb, le-ltb}
+use Rattle.std.specs.Prelude.{Result, Ok}
 use Rattle.buffer.specs.Compare.{blank_of}
 use Rattle.flash.specs.Bank.{blank_sector}
 use Rattle.flash.proofs.Blanks.{blank_whole}
 use Rattle.layout.specs.Layout.{sector_size, sector_of}
-use Rattle.sender.specs.declared.packet.Placed.TheVariants.{At}
-use Rattle.sender.specs.Packet.{sent_of, packet_count, packet_sector, tally_of, placed_of}
+use Rattle.sender.specs.declared.made.Place.{Place}
+use Rattle.sender.specs.declared.made.Refusal.{Refusal}
+use Rattle.sender.specs.Packet.{sent_of, packet_count, packet_sector, tally_of, placed_in, placed_of}
 use Rattle.sender.proofs.Packets.{sent_blank, sent_more, sector_length}
 use Rattle.demands.specs.Counting.{Used, none_used, blank_one, used_one, MeetsCounter, MeetsPlacer}
 
@@ -94,7 +96,7 @@ stands image (suc n) p h = by (blank_of (sector_of image (suc n))) refl (λ q. s
     by false t rest = last t (dec_lt p (length l)) rest (omega (arith, ap length (sent_more image n t)))
 
 pub placer_meets : MeetsPlacer placed_of
-unfolding placed_of
+unfolding placed_of placed_in
 placer_meets =
     record {
       bad_n = λ image n p g. rw g;
@@ -107,12 +109,13 @@ placer_meets =
           let there : p < packet_count image n = omega arith in
           let s = stands image n p there in
           let i = s.inside in
+          let at : ℕ → Result Place Refusal = λ x. Ok (record { sector = x; count = packet_count image n }) in
           record {
             before = s.before;
             count = packet_count image n;
             tells =
                 rw (g, eq-eqb (length image) (sector_size * n) e, lt-ltb p (packet_count image n) there)
-                (ap (λ (x : ℕ). At x (packet_count image n)) s.sector_is);
+                (ap at s.sector_is);
             inside = s.inside;
             used = λ b. false≢true (sym s.some ∙ ap blank_of b ∙ blank_is);
             number_is = subst (Used image s.before) s.counts (are_used image n e s.before (omega arith));

@@ -9,6 +9,7 @@ use native.Mathlib.Omega.{arith}
 use lib.Dec.{eqb}
 use lib.ListN.{length, get_or, drop}
 use borrow.Author.Tests.{eqb-true}
+use Rattle.std.specs.Prelude.{None, Ok, Err}
 use Rattle.buffer.specs.Compare.{same_of, blank_of}
 use Rattle.buffer.specs.Number.{number_at}
 use Rattle.buffer.specs.Place.{front_of}
@@ -30,17 +31,17 @@ use Rattle.layout.proofs.Pairs.{pair_same}
 use Rattle.commands.specs.declared.Command.TheVariants.{ModeStart, BankInfo, VersionInfo, WriteStart, WriteEnd, ModeEnd}
 use Rattle.commands.specs.Command.{coded_by}
 use Rattle.exchange.specs.declared.answer.Answer.{Answer}
-use Rattle.exchange.specs.declared.answer.Answer.TheVariants.{Refused, FrameError, ParameterError, Response, BankIs, VersionIs, Written}
+use Rattle.exchange.specs.declared.answer.Answer.TheVariants.{FrameError, ParameterError, Response, BankIs, VersionIs, Written}
 use Rattle.exchange.specs.declared.answer.Refusal.{Refusal}
 use Rattle.exchange.specs.declared.answer.Refusal.TheVariants.{BadN, BadLength, Closed}
 use Rattle.exchange.specs.declared.state.State.{State}
 use Rattle.exchange.specs.declared.state.State.TheVariants as state
-use Rattle.exchange.specs.Answer.{refusal_number, answer_number, answer_bytes, told_length}
+use Rattle.exchange.specs.Answer.{Reply, refusal_number, answer_number, answer_bytes, reply_bytes, told_length}
 use Rattle.exchange.specs.Request.{counted, asked_by}
 use Rattle.exchange.specs.State.{is_closed}
 use Rattle.exchange.proofs.Saying.{answer_short, told_whole}
 use Rattle.decision.specs.declared.plan.Fixed.{Fixed}
-use Rattle.decision.specs.declared.plan.Plan.TheVariants.{Keep}
+use Rattle.decision.specs.declared.plan.Plan.TheVariants.{Refuse}
 use Rattle.decision.specs.Plan.{
   lent_good,
   is_worn,
@@ -58,11 +59,10 @@ use Rattle.decision.specs.Plan.{
   plan_of,
 }
 use Rattle.decision.proofs.Planning.{lent}
-use Rattle.client.specs.declared.notice.Notice.{Notice}
 use Rattle.client.specs.declared.record.Client.{Client}
 use Rattle.client.specs.declared.record.Latest.{Latest}
 use Rattle.client.specs.Host.{initiate_of, terminate_of}
-use Rattle.client.specs.Notice.{no_notice}
+use Rattle.client.specs.Notice.{MaybeNotice}
 use Rattle.client.specs.Perform.{fit_of, store_result, store_of, checked_of, served_of}
 use Rattle.client.specs.Record.{standing_of, marked}
 use Rattle.client.specs.Step.{Carried, carried_of, take_of, beside_of}
@@ -100,34 +100,34 @@ module _ (b : Board) (call : LentCall) where
 
   -- what the three parts of a step say together
   pub record Said (r : Carried) (answer : Answer) : Type 0 where
-    pub answers : r.answer ≡ answer
-    pub tells : r.told ≡ length (answer_bytes r.answer)
-    pub fills : r.buffer ≡ front_of call.buffer (answer_bytes r.answer)
+    pub answers : r.answer ≡ Ok answer
+    pub tells : r.told ≡ length (reply_bytes r.answer)
+    pub fills : r.buffer ≡ front_of call.buffer (reply_bytes r.answer)
 
-  stored_is : (r : Carried) (c : Client) (target : List ℕ) (answer : Answer) → Said r answer → r.client ≡ c → r.target ≡ target → r.notice ≡ no_notice
-      → answer_number answer ≡ 0 → call_outcome b call r ≡ stored b call c target (answer_bytes answer)
-  stored_is r c target answer s e t n z =
+  stored_is : (r : Carried) (c : Client) (target : List ℕ) (answer : Answer) → Said r answer → r.client ≡ c → r.target ≡ target → r.notice ≡ None
+      → call_outcome b call r ≡ stored b call c target (answer_bytes answer)
+  stored_is r c target answer s e t n =
       λ k. record {
         board = board (e k) ((ap back t ∙ put target) k);
-        number = (ap answer_number s.answers ∙ z) k;
-        told = (s.tells ∙ ap (λ (x : Answer). length (answer_bytes x)) s.answers) k;
-        buffer = (s.fills ∙ ap (λ (x : Answer). front_of call.buffer (answer_bytes x)) s.answers) k;
+        number = ap answer_number s.answers k;
+        told = (s.tells ∙ ap (λ (x : Reply). length (reply_bytes x)) s.answers) k;
+        buffer = (s.fills ∙ ap (λ (x : Reply). front_of call.buffer (reply_bytes x)) s.answers) k;
         notice = n k;
       }
 
-  changed_is : (r : Carried) (c : Client) (notice : Notice) (answer : Answer) → Said r answer → r.client ≡ c → r.target ≡ lent_target b call → r.notice ≡ notice
-      → answer_number answer ≡ 0 → call_outcome b call r ≡ changed b call c notice (answer_bytes answer)
-  changed_is r c notice answer s e t n z =
+  changed_is : (r : Carried) (c : Client) (notice : MaybeNotice) (answer : Answer) → Said r answer → r.client ≡ c → r.target ≡ lent_target b call → r.notice ≡ notice
+      → call_outcome b call r ≡ changed b call c notice (answer_bytes answer)
+  changed_is r c notice answer s e t n =
       λ k. record {
         board = board (e k) (left_alone r.target t k);
-        number = (ap answer_number s.answers ∙ z) k;
-        told = (s.tells ∙ ap (λ (x : Answer). length (answer_bytes x)) s.answers) k;
-        buffer = (s.fills ∙ ap (λ (x : Answer). front_of call.buffer (answer_bytes x)) s.answers) k;
+        number = ap answer_number s.answers k;
+        told = (s.tells ∙ ap (λ (x : Reply). length (reply_bytes x)) s.answers) k;
+        buffer = (s.fills ∙ ap (λ (x : Reply). front_of call.buffer (reply_bytes x)) s.answers) k;
         notice = n k;
       }
 
   -- nothing changes and nothing is said
-  refused_is : (r : Carried) (why : Refusal) → r.answer ≡ Refused why → r.client ≡ b.client → r.target ≡ lent_target b call → r.notice ≡ no_notice
+  refused_is : (r : Carried) (why : Refusal) → r.answer ≡ Err why → r.client ≡ b.client → r.target ≡ lent_target b call → r.notice ≡ None
       → r.told ≡ 0 → r.buffer ≡ call.buffer → call_outcome b call r ≡ refused b call.buffer (refusal_number why)
   refused_is r why a e t n l f =
       λ k. record {
@@ -166,28 +166,28 @@ module _ (fixed : Fixed) (next : Bank) (latest : Latest) (opener : List ℕ) (re
     -- how many bytes are told, and where they stand
     Tells : Carried → Type 0
     Tells r =
-        (r.told ≡ told_length (answer_bytes r.answer) (length call.buffer)) × (r.buffer ≡ front_of call.buffer (answer_bytes r.answer))
+        (r.told ≡ told_length (reply_bytes r.answer) (length call.buffer)) × (r.buffer ≡ front_of call.buffer (reply_bytes r.answer))
 
-    says : (s : State) (r : Carried) (answer : Answer) → r.answer ≡ answer → Tells r → Said (at s) call r answer
+    says : (s : State) (r : Carried) (answer : Answer) → r.answer ≡ Ok answer → Tells r → Said (at s) call r answer
     unfolding Tells
     says s r answer a f =
-        let short = answer_short r.answer in
-        record { answers = a; tells = f.0 ∙ told_whole r.answer (length call.buffer) (omega arith); fills = f.1 }
+        let short = answer_short answer in
+        record { answers = a; tells = f.0 ∙ told_whole r.answer (length call.buffer) (rw a (omega arith)); fills = f.1 }
 
     -- what was said of a target that was left alone, and of one that was not
-    kept : (s : State) (answer : Answer) (r : Carried) → r.answer ≡ answer → Tells r → r.target ≡ lent_target (at s) call → answer_number answer ≡ 0
+    kept : (s : State) (answer : Answer) (r : Carried) → r.answer ≡ Ok answer → Tells r → r.target ≡ lent_target (at s) call
         → Some (changed (at s) call r.client r.notice (answer_bytes answer)) ≡ Some (call_outcome (at s) call r)
-    kept s answer r a f t z = ap Some (sym (changed_is (at s) call r r.client r.notice answer (says s r answer a f) refl t refl z))
+    kept s answer r a f t = ap Some (sym (changed_is (at s) call r r.client r.notice answer (says s r answer a f) refl t refl))
 
     -- E0 with 05
-    faulty : (s : State) (r : Carried) → r.answer ≡ ParameterError → Tells r → r.target ≡ lent_target (at s) call
+    faulty : (s : State) (r : Carried) → r.answer ≡ Ok ParameterError → Tells r → r.target ≡ lent_target (at s) call
         → Some (changed (at s) call r.client r.notice parameter_error) ≡ Some (call_outcome (at s) call r)
     unfolding answer_bytes
-    faulty s r a f t = ap (λ (x : List ℕ). Some (changed (at s) call r.client r.notice x)) (sym parameter_bytes) ∙ kept s ParameterError r a f t refl
+    faulty s r a f t = ap (λ (x : List ℕ). Some (changed (at s) call r.client r.notice x)) (sym parameter_bytes) ∙ kept s ParameterError r a f t
 
-    left : (s : State) (answer : Answer) (r : Carried) → r.answer ≡ answer → Tells r → r.notice ≡ no_notice → answer_number answer ≡ 0
+    left : (s : State) (answer : Answer) (r : Carried) → r.answer ≡ Ok answer → Tells r → r.notice ≡ None
         → Some (stored (at s) call r.client r.target (answer_bytes answer)) ≡ Some (call_outcome (at s) call r)
-    left s answer r a f n z = ap Some (sym (stored_is (at s) call r r.client r.target answer (says s r answer a f) refl refl n z))
+    left s answer r a f n = ap Some (sym (stored_is (at s) call r r.client r.target answer (says s r answer a f) refl refl n))
 
     -- from the address that opened the mode, or while none is open
     abbrev strange : State → Bool
@@ -196,38 +196,38 @@ module _ (fixed : Fixed) (next : Bank) (latest : Latest) (opener : List ℕ) (re
     code-61 : (m : ℕ) (t x : Bool) (s : State) → eqb m 0 ≡ t → strange s ≡ x → is_closed s ≡ false → Holds s (Some (Control 0x61 m))
     unfolding Tells asked_by coded_by counted plan_asked plan_request is_stranger plan_good plan_control carried_of served_of answer_bytes
     code-61 m false x s z y l = rw z (faulty s _ refl (refl, refl) refl)
-    code-61 m true true s z y l = rw (z, y) (kept s (Response ModeStart 0x15) _ refl (refl, refl) refl refl)
+    code-61 m true true s z y l = rw (z, y) (kept s (Response ModeStart 0x15) _ refl (refl, refl) refl)
     code-61 m true false state.Closed z y l = closed_not l
-    code-61 m true false state.Idle z y l = rw z (kept state.Idle (Response ModeStart 0x06) _ refl (refl, refl) refl refl)
-    code-61 m true false state.Control z y l = rw (z, y) (kept state.Control (Response ModeStart 0x15) _ refl (refl, refl) refl refl)
-    code-61 m true false state.Write z y l = rw (z, y) (kept state.Write (Response ModeStart 0x15) _ refl (refl, refl) refl refl)
+    code-61 m true false state.Idle z y l = rw z (kept state.Idle (Response ModeStart 0x06) _ refl (refl, refl) refl)
+    code-61 m true false state.Control z y l = rw (z, y) (kept state.Control (Response ModeStart 0x15) _ refl (refl, refl) refl)
+    code-61 m true false state.Write z y l = rw (z, y) (kept state.Write (Response ModeStart 0x15) _ refl (refl, refl) refl)
 
     code-62 : (m : ℕ) (t x : Bool) (s : State) → eqb m 0 ≡ t → strange s ≡ x → is_closed s ≡ false → Holds s (Some (Control 0x62 m))
     unfolding Tells asked_by coded_by counted plan_asked plan_request is_stranger plan_good plan_control carried_of served_of answer_bytes
     code-62 m false x s z y l = rw z (faulty s _ refl (refl, refl) refl)
-    code-62 m true true s z y l = rw (z, y) (kept s (Response BankInfo 0x15) _ refl (refl, refl) refl refl)
+    code-62 m true true s z y l = rw (z, y) (kept s (Response BankInfo 0x15) _ refl (refl, refl) refl)
     code-62 m true false state.Closed z y l = closed_not l
-    code-62 m true false state.Idle z y l = rw z (kept state.Idle (Response BankInfo 0x15) _ refl (refl, refl) refl refl)
-    code-62 m true false state.Control z y l = rw (z, y) (kept state.Control (BankIs (other_of fixed.running)) _ refl (refl, refl) refl refl)
-    code-62 m true false state.Write z y l = rw (z, y) (kept state.Write (Response BankInfo 0x15) _ refl (refl, refl) refl refl)
+    code-62 m true false state.Idle z y l = rw z (kept state.Idle (Response BankInfo 0x15) _ refl (refl, refl) refl)
+    code-62 m true false state.Control z y l = rw (z, y) (kept state.Control (BankIs (other_of fixed.running)) _ refl (refl, refl) refl)
+    code-62 m true false state.Write z y l = rw (z, y) (kept state.Write (Response BankInfo 0x15) _ refl (refl, refl) refl)
 
     code-68 : (m : ℕ) (t x : Bool) (s : State) → eqb m 0 ≡ t → strange s ≡ x → is_closed s ≡ false → Holds s (Some (Control 0x68 m))
     unfolding Tells asked_by coded_by counted plan_asked plan_request is_stranger plan_good plan_control carried_of served_of answer_bytes
     code-68 m false x s z y l = rw z (faulty s _ refl (refl, refl) refl)
-    code-68 m true true s z y l = rw (z, y) (kept s (Response VersionInfo 0x15) _ refl (refl, refl) refl refl)
+    code-68 m true true s z y l = rw (z, y) (kept s (Response VersionInfo 0x15) _ refl (refl, refl) refl)
     code-68 m true false state.Closed z y l = closed_not l
-    code-68 m true false state.Idle z y l = rw z (kept state.Idle (Response VersionInfo 0x15) _ refl (refl, refl) refl refl)
-    code-68 m true false state.Control z y l = rw (z, y) (kept state.Control (VersionIs fixed.major fixed.minor fixed.revision) _ refl (refl, refl) refl refl)
-    code-68 m true false state.Write z y l = rw (z, y) (kept state.Write (Response VersionInfo 0x15) _ refl (refl, refl) refl refl)
+    code-68 m true false state.Idle z y l = rw z (kept state.Idle (Response VersionInfo 0x15) _ refl (refl, refl) refl)
+    code-68 m true false state.Control z y l = rw (z, y) (kept state.Control (VersionIs fixed.major fixed.minor fixed.revision) _ refl (refl, refl) refl)
+    code-68 m true false state.Write z y l = rw (z, y) (kept state.Write (Response VersionInfo 0x15) _ refl (refl, refl) refl)
 
     code-64 : (m : ℕ) (t x : Bool) (s : State) → eqb m 0 ≡ t → strange s ≡ x → is_closed s ≡ false → Holds s (Some (Control 0x64 m))
     unfolding Tells asked_by coded_by counted plan_asked plan_request is_stranger plan_good plan_control carried_of served_of answer_bytes
     code-64 m false x s z y l = rw z (faulty s _ refl (refl, refl) refl)
-    code-64 m true true s z y l = rw (z, y) (kept s (Response ModeEnd 0x15) _ refl (refl, refl) refl refl)
+    code-64 m true true s z y l = rw (z, y) (kept s (Response ModeEnd 0x15) _ refl (refl, refl) refl)
     code-64 m true false state.Closed z y l = closed_not l
-    code-64 m true false state.Idle z y l = rw z (kept state.Idle (Response ModeEnd 0x15) _ refl (refl, refl) refl refl)
-    code-64 m true false state.Control z y l = rw (z, y) (kept state.Control (Response ModeEnd 0x06) _ refl (refl, refl) refl refl)
-    code-64 m true false state.Write z y l = rw (z, y) (kept state.Write (Response ModeEnd 0x15) _ refl (refl, refl) refl refl)
+    code-64 m true false state.Idle z y l = rw z (kept state.Idle (Response ModeEnd 0x15) _ refl (refl, refl) refl)
+    code-64 m true false state.Control z y l = rw (z, y) (kept state.Control (Response ModeEnd 0x06) _ refl (refl, refl) refl)
+    code-64 m true false state.Write z y l = rw (z, y) (kept state.Write (Response ModeEnd 0x15) _ refl (refl, refl) refl)
 
     -- the address pair
     abbrev pair-good : Bool
@@ -236,25 +236,25 @@ module _ (fixed : Fixed) (next : Bank) (latest : Latest) (opener : List ℕ) (re
     code-40 : (m : ℕ) (t x : Bool) (s : State) (v : Bool) → eqb m 8 ≡ t → strange s ≡ x → pair-good ≡ v → is_closed s ≡ false → Holds s (Some (Control 0x40 m))
     unfolding Tells asked_by coded_by counted plan_asked plan_request is_stranger plan_good plan_control carried_of served_of answer_bytes plan_start
     code-40 m false x s v z y a l = rw z (faulty s _ refl (refl, refl) refl)
-    code-40 m true true s v z y a l = rw (z, y) (kept s (Response WriteStart 0x15) _ refl (refl, refl) refl refl)
+    code-40 m true true s v z y a l = rw (z, y) (kept s (Response WriteStart 0x15) _ refl (refl, refl) refl)
     code-40 m true false state.Closed v z y a l = closed_not l
-    code-40 m true false state.Idle v z y a l = rw z (kept state.Idle (Response WriteStart 0x15) _ refl (refl, refl) refl refl)
+    code-40 m true false state.Idle v z y a l = rw z (kept state.Idle (Response WriteStart 0x15) _ refl (refl, refl) refl)
     code-40 m true false state.Control false z y a l = rw (z, y, a) (faulty state.Control _ refl (refl, refl) refl)
-    code-40 m true false state.Control true z y a l = rw (z, y, a) (kept state.Control (Response WriteStart 0x06) _ refl (refl, refl) refl refl)
-    code-40 m true false state.Write v z y a l = rw (z, y) (kept state.Write (Response WriteStart 0x15) _ refl (refl, refl) refl refl)
+    code-40 m true false state.Control true z y a l = rw (z, y, a) (kept state.Control (Response WriteStart 0x06) _ refl (refl, refl) refl)
+    code-40 m true false state.Write v z y a l = rw (z, y) (kept state.Write (Response WriteStart 0x15) _ refl (refl, refl) refl)
 
     -- the worn marks, and then what the sweep left
     code-45 : (m : ℕ) (t x : Bool) (s : State) (w f : Bool) → eqb m 0 ≡ t → strange s ≡ x → any_worn call.marks ≡ w
         → fit_of fixed (swept_target (at state.Write) call) ≡ f → is_closed s ≡ false → Holds s (Some (Control 0x45 m))
     unfolding Tells asked_by coded_by counted plan_asked plan_request is_stranger plan_good plan_control carried_of served_of answer_bytes plan_end checked_of
     code-45 m false x s w f z y a e l = rw z (faulty s _ refl (refl, refl) refl)
-    code-45 m true true s w f z y a e l = rw (z, y) (kept s (Response WriteEnd 0x15) _ refl (refl, refl) refl refl)
+    code-45 m true true s w f z y a e l = rw (z, y) (kept s (Response WriteEnd 0x15) _ refl (refl, refl) refl)
     code-45 m true false state.Closed w f z y a e l = closed_not l
-    code-45 m true false state.Idle w f z y a e l = rw z (kept state.Idle (Response WriteEnd 0x15) _ refl (refl, refl) refl refl)
-    code-45 m true false state.Control w f z y a e l = rw (z, y) (kept state.Control (Response WriteEnd 0x15) _ refl (refl, refl) refl refl)
-    code-45 m true false state.Write true f z y a e l = rw (z, y, a) (kept state.Write (Response WriteEnd 0x1C) _ refl (refl, refl) refl refl)
-    code-45 m true false state.Write false true z y a e l = rw (z, y, a, e) (left state.Write (Response WriteEnd 0x06) _ refl (refl, refl) refl refl)
-    code-45 m true false state.Write false false z y a e l = rw (z, y, a, e) (left state.Write (Response WriteEnd 0x1E) _ refl (refl, refl) refl refl)
+    code-45 m true false state.Idle w f z y a e l = rw z (kept state.Idle (Response WriteEnd 0x15) _ refl (refl, refl) refl)
+    code-45 m true false state.Control w f z y a e l = rw (z, y) (kept state.Control (Response WriteEnd 0x15) _ refl (refl, refl) refl)
+    code-45 m true false state.Write true f z y a e l = rw (z, y, a) (kept state.Write (Response WriteEnd 0x1C) _ refl (refl, refl) refl)
+    code-45 m true false state.Write false true z y a e l = rw (z, y, a, e) (left state.Write (Response WriteEnd 0x06) _ refl (refl, refl) refl)
+    code-45 m true false state.Write false false z y a e l = rw (z, y, a, e) (left state.Write (Response WriteEnd 0x1E) _ refl (refl, refl) refl)
 
     -- none of the six
     code_other : (code m : ℕ) (s : State) → eqb code 0x61 ≡ false → eqb code 0x62 ≡ false → eqb code 0x68 ≡ false → eqb code 0x40 ≡ false
@@ -311,12 +311,12 @@ module _ (fixed : Fixed) (next : Bank) (latest : Latest) (opener : List ℕ) (re
       packet : (s : State) (x v w : Bool) → strange s ≡ x → values_good fixed.n sector m ≡ v → is_worn (get_or call.marks (sector - 1) 0) ≡ w → is_closed s ≡ false
           → Holds s (Some (Write sector m footer))
       unfolding Tells asked_by plan_asked plan_request is_stranger plan_good plan_packet carried_of served_of store_of answer_bytes
-      packet s true v w y a e l = rw y (kept s (Written sector 0x15 0x15 0) _ refl (refl, refl) refl refl)
+      packet s true v w y a e l = rw y (kept s (Written sector 0x15 0x15 0) _ refl (refl, refl) refl)
       packet state.Closed false v w y a e l = closed_not l
-      packet state.Idle false v w y a e l = kept state.Idle (Written sector 0x15 0x15 0) _ refl (refl, refl) refl refl
-      packet state.Control false v w y a e l = rw y (kept state.Control (Written sector 0x15 0x15 0) _ refl (refl, refl) refl refl)
+      packet state.Idle false v w y a e l = kept state.Idle (Written sector 0x15 0x15 0) _ refl (refl, refl) refl
+      packet state.Control false v w y a e l = rw y (kept state.Control (Written sector 0x15 0x15 0) _ refl (refl, refl) refl)
       packet state.Write false false w y a e l = rw (y, a) (faulty state.Write _ refl (refl, refl) refl)
-      packet state.Write false true true y a e l = rw (y, a, e) (kept state.Write (Written sector 0x06 0x1C 0) _ refl (refl, refl) refl refl)
+      packet state.Write false true true y a e l = rw (y, a, e) (kept state.Write (Written sector 0x06 0x1C 0) _ refl (refl, refl) refl)
       packet state.Write false true false y a e l =
           let answer : Answer =
           Written sector 0x06 (store_result (blank_of bytes) (same_of (sector_of before sector) (padded_of bytes))) (crc_of (padded_of bytes)) in
@@ -325,10 +325,10 @@ module _ (fixed : Fixed) (next : Bank) (latest : Latest) (opener : List ℕ) (re
           (sym
           (stored_is (at state.Write) call _ (marked sector (c state.Write)) (with_sector before sector (padded_of bytes)) answer
           (says state.Write _ answer
-          (ap₂ (Written sector 0x06) (ap (store_result (blank_of bytes)) (already_same before sector bytes (fits a)))
+          (ap₂ (λ (x y : ℕ). Ok (Written sector 0x06 x y)) (ap (store_result (blank_of bytes)) (already_same before sector bytes (fits a)))
           (ap crc_of (written_here before sector bytes (fits a))))
           (refl, refl))
-          refl (written_with before sector bytes (fits a)) refl refl)))
+          refl (written_with before sector bytes (fits a)) refl)))
 
     -- ---- the whole table
 
@@ -336,7 +336,7 @@ module _ (fixed : Fixed) (next : Bank) (latest : Latest) (opener : List ℕ) (re
       read-on : (r : Option Frame) → read_of d ≡ r
           → cond (is_fault r) (Some (answered (at s) call frame_error)) (first_of (after_frame (at s) call r)) ≡ Some (comesOf s r)
       unfolding Tells asked_by plan_asked carried_of served_of answer_bytes
-      read-on None e = kept s FrameError _ refl (refl, refl) refl refl
+      read-on None e = kept s FrameError _ refl (refl, refl) refl
       read-on (Some (Control code m)) e = control code m s live
       read-on (Some (Write sector m footer)) e = packet sector m footer e good whole s _ _ _ refl refl refl live
 
@@ -347,13 +347,13 @@ module _ (fixed : Fixed) (next : Bank) (latest : Latest) (opener : List ℕ) (re
   lengths-good s =
       lent_good fixed.n (length (lent_target (at s) call)) (length call.marks) (length call.address) (length call.buffer)
 
-  silent : (why : Refusal) → told_length (answer_bytes (Refused why)) (length call.buffer) ≡ 0
+  silent : (why : Refusal) → told_length (reply_bytes (Err why)) (length call.buffer) ≡ 0
   unfolding answer_bytes
-  silent why = told_whole (Refused why) (length call.buffer) (omega arith)
+  silent why = told_whole (Err why) (length call.buffer) (omega arith)
 
   refuses : (s : State) (why : Refusal) (bytes : List ℕ)
       → Some (refused (at s) call.buffer (refusal_number why))
-      ≡ Some (call_outcome (at s) call (carried_of (c s) (Keep (Refused why)) (lent_target (at s) call) call.address call.buffer bytes))
+      ≡ Some (call_outcome (at s) call (carried_of (c s) (Refuse why) (lent_target (at s) call) call.address call.buffer bytes))
   unfolding carried_of served_of answer_bytes
   refuses s why bytes = ap Some (sym (refused_is (at s) call _ why refl refl refl refl (silent why) (front_none call.buffer)))
 

@@ -12,6 +12,7 @@ use native.Mathlib.Omega.{arith}
 use lib.ListN.{length, get_or, take, replicate, length-replicate, get_or-replicate}
 use lib.Seq.{length-take-le, take_all}
 use borrow.Author.Tests.{eq-eqb}
+use Rattle.std.specs.Prelude.{None}
 use Rattle.buffer.specs.Compare.{same_of, blank_of}
 use Rattle.buffer.specs.Place.{front_of}
 use Rattle.buffer.proofs.Places.{front_take}
@@ -40,7 +41,6 @@ use Rattle.client.specs.declared.record.Latest.TheVariants.{Good}
 use Rattle.exchange.specs.declared.state.State.TheVariants as state
 use Rattle.exchange.specs.Answer.{written_bytes, answer_bytes}
 use Rattle.exchange.specs.State.{is_closed}
-use Rattle.client.specs.Notice.{no_notice}
 use Rattle.client.specs.Perform.{Accepted, fit_of, store_result}
 use Rattle.decision.specs.declared.plan.Fixed.{Fixed}
 use Rattle.decision.specs.Plan.{is_worn, any_worn, values_good}
@@ -161,7 +161,7 @@ begins_blank n image datagram = rw response_begin
 module _ (b : Board) (r : Ready b) (call : LentCall) (sent : call.datagram ≡ request_frame (WriteStart (other_of b.client.fixed.running) b.client.fixed.n))
     (l : SentFrom b.client.opener b.client.fixed.n call) where
   pub begun_is : step_machine b (Datagram call)
-      ≡ changed b call (begun (starting b.client.fixed.running b.client)) no_notice (control_frame 0x70 (0x06 ∷ []))
+      ≡ changed b call (begun (starting b.client.fixed.running b.client)) None (control_frame 0x70 (0x06 ∷ []))
   begun_is =
       write_start b call (heard b call r.good l.lends r.whole (ap is_closed r.control)) (from_opener_lem b.client call.address l.sender) r.control
       (ap read_of sent ∙ start_read (other_of b.client.fixed.running) b.client.fixed.n)

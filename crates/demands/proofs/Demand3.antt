@@ -9,13 +9,13 @@ use Rattle.buffer.specs.Place.{front_of}
 use Rattle.buffer.proofs.Places.{front_fits}
 use Rattle.frame.specs.Frame.{write_frame}
 use Rattle.frame.specs.declared.read.Footer.TheVariants.{End}
-use Rattle.exchange.specs.declared.answer.Answer.{Answer}
+use Rattle.std.specs.Prelude.{Ok}
 use Rattle.exchange.specs.declared.answer.Answer.TheVariants.{Written}
 use Rattle.client.specs.declared.record.Client.{Client}
 use Rattle.layout.specs.declared.Bank.{Bank}
 use Rattle.layout.specs.Layout.{other_of}
 use Rattle.layout.specs.Pair.{Banks, bank_in}
-use Rattle.exchange.specs.Answer.{written_bytes, answer_bytes, answer_number}
+use Rattle.exchange.specs.Answer.{written_bytes, answer_bytes, answer_number, Reply, reply_bytes}
 use Rattle.client.specs.Step.{Carried, beside_of}
 use Rattle.exchange.proofs.Saying.{written_long, told_whole}
 use Rattle.decision.specs.declared.plan.Fixed.{Fixed}
@@ -42,21 +42,21 @@ module _ (c : Client) (running : ℕ) (a b marks address buffer datagram : List 
   two = beside_of c running b marks address buffer datagram
 
   -- a write response fills the front; the rest is that of the buffer that was lent
-  written_front : (r : Carried) (sector v crc : ℕ) → r.buffer ≡ front_of buffer (answer_bytes r.answer)
-      → length (answer_bytes r.answer) ≤ length buffer
-      → r.answer ≡ Written sector 0x06 v crc → r.buffer ≡ write_frame sector (written_bytes 0x06 v crc) End ++ drop 13 buffer
+  written_front : (r : Carried) (sector v crc : ℕ) → r.buffer ≡ front_of buffer (reply_bytes r.answer)
+      → length (reply_bytes r.answer) ≤ length buffer
+      → r.answer ≡ Ok (Written sector 0x06 v crc) → r.buffer ≡ write_frame sector (written_bytes 0x06 v crc) End ++ drop 13 buffer
   unfolding answer_bytes
   written_front r sector v crc s f e =
       s
-      ∙ front_fits buffer (answer_bytes r.answer) f
-      ∙ ap (λ (x : Answer). answer_bytes x ++ drop (length (answer_bytes x)) buffer) e
+      ∙ front_fits buffer (reply_bytes r.answer) f
+      ∙ ap (λ (x : Reply). reply_bytes x ++ drop (length (reply_bytes x)) buffer) e
       ∙ ap (λ (n : ℕ). write_frame sector (written_bytes 0x06 v crc) End ++ drop n buffer) (written_long sector 0x06 v crc)
 
   matched : Match one.answer two.answer → AlikeBytes one.buffer two.buffer
   matched (same e) =
       same_bytes
       (step_said c running a marks address buffer datagram
-      ∙ ap (λ (x : Answer). front_of buffer (answer_bytes x)) e
+      ∙ ap (λ (x : Reply). front_of buffer (reply_bytes x)) e
       ∙ sym (step_said c running b marks address buffer datagram))
   matched (either sector crc v w p q e f) =
       either-bytes sector crc v w (drop 13 buffer) p q
@@ -72,30 +72,30 @@ module _ (c : Client) (running : ℕ) (a b marks address buffer datagram : List 
       (step_told c running b marks address buffer datagram
       ∙ told_whole two.answer (length buffer) (step_fits c running b marks address buffer datagram))
     where
-      by : Match one.answer two.answer → length (answer_bytes one.answer) ≡ length (answer_bytes two.answer)
-      by (same e) = ap (λ (x : Answer). length (answer_bytes x)) e
+      by : Match one.answer two.answer → length (reply_bytes one.answer) ≡ length (reply_bytes two.answer)
+      by (same e) = ap (λ (x : Reply). length (reply_bytes x)) e
       by (either sector crc v w p q e f) =
-          ap (λ (x : Answer). length (answer_bytes x)) e
+          ap (λ (x : Reply). length (reply_bytes x)) e
           ∙ written_long sector 0x06 v crc
-          ∙ sym (ap (λ (x : Answer). length (answer_bytes x)) f ∙ written_long sector 0x06 w crc)
+          ∙ sym (ap (λ (x : Reply). length (reply_bytes x)) f ∙ written_long sector 0x06 w crc)
 
-pub match_number : {a b : Answer} → Match a b → answer_number a ≡ answer_number b
+pub match_number : {a b : Reply} → Match a b → answer_number a ≡ answer_number b
 match_number (same e) = ap answer_number e
 match_number (either sector crc v w p q e f) = ap answer_number e ∙ sym (ap answer_number f)
 
 -- the session shows the same, whichever of the two answers came
-match_shown : (n : ℕ) (image datagram : List ℕ) {a b : Answer} → Match a b
-    → exchanged n image datagram (answer_bytes a) ≡ exchanged n image datagram (answer_bytes b)
-match_shown n image datagram (same e) = ap (λ (x : Answer). exchanged n image datagram (answer_bytes x)) e
+match_shown : (n : ℕ) (image datagram : List ℕ) {a b : Reply} → Match a b
+    → exchanged n image datagram (reply_bytes a) ≡ exchanged n image datagram (reply_bytes b)
+match_shown n image datagram (same e) = ap (λ (x : Reply). exchanged n image datagram (reply_bytes x)) e
 match_shown n image datagram (either sector crc v w p q e f) =
     rw (e, f, written_begin sector 0x06 v crc, written_begin sector 0x06 w crc, written_stored sector v crc p, written_stored sector w crc q)
 
-match_end : {a b : Answer} → Match a b → ends_session (answer_bytes a) ≡ ends_session (answer_bytes b)
-match_end (same e) = ap (λ (x : Answer). ends_session (answer_bytes x)) e
+match_end : {a b : Reply} → Match a b → ends_session (reply_bytes a) ≡ ends_session (reply_bytes b)
+match_end (same e) = ap (λ (x : Reply). ends_session (reply_bytes x)) e
 match_end (either sector crc v w p q e f) =
-    ap (λ (x : Answer). ends_session (answer_bytes x)) e
+    ap (λ (x : Reply). ends_session (reply_bytes x)) e
     ∙ written_end sector 0x06 v crc
-    ∙ sym (ap (λ (x : Answer). ends_session (answer_bytes x)) f ∙ written_end sector 0x06 w crc)
+    ∙ sym (ap (λ (x : Reply). ends_session (reply_bytes x)) f ∙ written_end sector 0x06 w crc)
 
 -- ---- one input on two boards
 

@@ -9,6 +9,7 @@ use native.Mathlib.Omega.{arith}
 use lib.ListN.{length, get_or, take, drop, replicate, get_or-replicate}
 use lib.Seq.{take_at}
 use borrow.Author.Tests.{not-true, eq-eqb}
+use Rattle.std.specs.Prelude.{Ok, Err}
 use Rattle.buffer.specs.Compare.{same_of, blank_of}
 use Rattle.buffer.specs.Number.{bytes_of, byte_at}
 use Rattle.buffer.specs.Total.{total}
@@ -34,7 +35,7 @@ use Rattle.layout.proofs.Pairs.{bank_there}
 use Rattle.decision.specs.declared.plan.Fixed.{Fixed}
 use Rattle.lines.specs.Line.{lines}
 use Rattle.hex_text.specs.declared.fault.Kind.TheVariants.{H6}
-use Rattle.hex_text.specs.declared.read.Answer.TheVariants.{Refused, Accepted}
+use Rattle.hex_text.specs.declared.read.ReadError.TheVariants.{Line}
 use Rattle.digits.specs.Digit.{value_of, is_digit}
 use Rattle.hex_text.specs.Spell.{byte_of, digit_bytes}
 use Rattle.hex_text.specs.Record.{digits_in, digits_whole, record_of, data_at, typed, found_of}
@@ -302,11 +303,11 @@ module _ (b : Board) (call again : LentCall) (sector m : ℕ) (p : Brings b call
 
 -- 10
 module _ (bank : Bank) (n : ℕ) (image : List ℕ) (g : good_n n ≡ true) (e : length image ≡ sector_size * n) where
-  example_10 : (text_read [] bank n image).answer ≡ Refused (record { kind = H6; line = 1; byte = 1 })
+  example_10 : (text_read [] bank n image).answer ≡ Err (Line (record { kind = H6; line = 1; byte = 1 }))
   unfolding text_read read_lines lines
   example_10 = rw (g, eq-eqb (length image) (sector_size * n) e)
 
-  example_10_end : (text_read (0x3A ∷ 48 ∷ 48 ∷ 48 ∷ 48 ∷ 48 ∷ 48 ∷ 48 ∷ 49 ∷ 70 ∷ 70 ∷ []) bank n image).answer ≡ Accepted
+  example_10_end : (text_read (0x3A ∷ 48 ∷ 48 ∷ 48 ∷ 48 ∷ 48 ∷ 48 ∷ 48 ∷ 49 ∷ 70 ∷ 70 ∷ []) bank n image).answer ≡ Ok tt
   unfolding text_read read_lines lines found_of record_of digits_whole digits_in typed data_at digit_bytes byte_of is_digit value_of total
   example_10_end = rw (g, eq-eqb (length image) (sector_size * n) e)
 

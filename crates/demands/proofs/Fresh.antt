@@ -3,6 +3,7 @@
 use mathlib.Core.Path.{◌≡◌, refl, sym, ap, subst, ◌∙◌}
 use mathlib.Core.List.{List, [], ◌∷◌}
 use Prim.Native.Nat.{ℕ}
+use Rattle.std.specs.Prelude.{Some}
 use Rattle.buffer.specs.Number.{bytes_of}
 use Rattle.frame.specs.Checksum.{taken_away, checksum_of}
 use Rattle.frame.specs.Frame.{framed, control_frame}
@@ -13,12 +14,12 @@ use Rattle.layout.specs.Pair.{Banks}
 use Rattle.decision.specs.declared.plan.Fixed.{Fixed}
 use Rattle.sender.specs.declared.request.Request.TheVariants.{ModeStart, ModeEnd}
 use Rattle.sender.specs.Request.{request_frame}
-use Rattle.client.specs.declared.notice.Kind.TheVariants.{Started, Ended}
+use Rattle.client.specs.declared.notice.Notice.TheVariants.{Started, Ended}
 use Rattle.client.specs.declared.record.Latest.{Latest}
 use Rattle.exchange.specs.State.{is_closed}
 use Rattle.client.specs.declared.record.Client.{Client}
 use Rattle.client.specs.Host.{fixed_of, new_of}
-use Rattle.client.specs.Notice.{notice_with, notice_bytes, latest_number}
+use Rattle.client.specs.Notice.{notice_bytes, latest_number}
 use Rattle.client.specs.Record.{closed_client, initiated, opened, mode_ended}
 use Rattle.calls.specs.Call.{Board, board}
 use Rattle.demands.specs.Board.{LentCall, Input, Initiate, Datagram, Outcome, said, step_machine}
@@ -55,7 +56,7 @@ module _ (n : ℕ) (running : Bank) (major minor revision : ℕ) (pair : Banks) 
     abbrev opened-board : Board
     opened-board = board (opened mode.address (initiated new)) pair
 
-    mode-is : step_machine hosted (Datagram mode) ≡ changed hosted mode (opened mode.address hosted.client) (notice_with Started 0 mode.address) (control_frame 0x71 (0x06 ∷ []))
+    mode-is : step_machine hosted (Datagram mode) ≡ changed hosted mode (opened mode.address hosted.client) (Some (Started mode.address)) (control_frame 0x71 (0x06 ∷ []))
     mode-is = mode_start hosted mode (heard hosted mode fresh.good l fresh.whole refl) refl (ap read_of sent ∙ request_read ModeStart)
 
     made-step : step_machine (step_machine made Initiate).board (Datagram mode) ≡ step_machine hosted (Datagram mode)
@@ -95,7 +96,7 @@ module _ (n : ℕ) (running : Bank) (major minor revision : ℕ) (pair : Banks) 
       fixed-last = done.stays ∙ fixed_in
 
       end_is : step_machine last (Datagram ending)
-          ≡ changed last ending (mode_ended last.client) (notice_with Ended (latest_number last.client.latest) ending.address) (control_frame 0x74 (0x06 ∷ []))
+          ≡ changed last ending (mode_ended last.client) (Some (Ended (latest_number last.client.latest) ending.address)) (control_frame 0x74 (0x06 ∷ []))
       end_is =
           mode_end last ending
           (heard last ending (ap (λ (f : Fixed). good_n f.n) fixed-last ∙ fresh.good) (subst (λ (f : Fixed). Lends f.n ending) (sym fixed-last) e)
@@ -113,7 +114,7 @@ module _ (n : ℕ) (running : Bank) (major minor revision : ℕ) (pair : Banks) 
             ended = ap said end_is ∙ said_back ending (control_frame 0x74 (0x06 ∷ [])) (control_short 0x74 0x06) e.room ∙ ended_bytes;
             end_notice =
                 ap (λ (o : Outcome). notice_bytes o.notice) end_is
-                ∙ ap (λ (x : Latest). notice_bytes (notice_with Ended (latest_number x) ending.address)) done.latest;
+                ∙ ap (λ (x : Latest). notice_bytes (Some (Ended (latest_number x) ending.address))) done.latest;
           }
 
 pub demand2_fresh : MeetsFresh step_machine

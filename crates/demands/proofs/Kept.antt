@@ -28,7 +28,7 @@ use Rattle.exchange.specs.State.{is_closed, is_open}
 use Rattle.exchange.specs.declared.state.State.{State}
 use Rattle.exchange.specs.declared.state.State.TheVariants as state
 use Rattle.decision.specs.declared.plan.Plan.{Plan}
-use Rattle.decision.specs.declared.plan.Plan.TheVariants.{Keep, Open, Leave, Begin, Store, Wear, Finish}
+use Rattle.decision.specs.declared.plan.Plan.TheVariants.{Refuse, Keep, Open, Leave, Begin, Store, Wear, Finish}
 use Rattle.client.specs.declared.host.Hosted.{Hosted}
 use Rattle.client.specs.declared.record.Client.{Client}
 use Rattle.client.specs.Host.{new_of, initiate_of, terminate_of}
@@ -279,6 +279,7 @@ kept_open e = absurd (false≢true (sym e))
 module _ (c : Client) (f : Forgets c) where
   carried_forgets : (plan : Plan) (target address buffer bytes : List ℕ) → Forgets (carried_of c plan target address buffer bytes).client
   unfolding carried_of served_of store_of checked_of
+  carried_forgets (Refuse why) target address buffer bytes = f
   carried_forgets (Keep answer) target address buffer bytes = f
   carried_forgets Open target address buffer bytes = kept_open
   carried_forgets Leave target address buffer bytes = λ _. refl

@@ -18,7 +18,7 @@ use Rattle.flash.proofs.Words.{length_padded}
 use Rattle.layout.specs.Layout.{bank_size, sector_of}
 use Rattle.commands.specs.declared.Command.TheVariants.{WriteEnd}
 use Rattle.decision.specs.declared.plan.Fixed.{Fixed}
-use Rattle.exchange.specs.Answer.{answer_bytes}
+use Rattle.exchange.specs.Answer.{reply_bytes}
 use Rattle.calls.proofs.Courses.{Course, still, begins, stores, ends}
 use Rattle.calls.proofs.Leading.{fits_stored, packed_in}
 use Rattle.calls.proofs.Beside.{step_course}
@@ -52,7 +52,7 @@ module _ (n k : ℕ) (low : 1 ≤ k) (high : k ≤ n) where
 
     module _ (b : Board) (call : LentCall) (sectors : b.client.fixed.n ≡ n) where
       step_at : Course b.client (lent_target b call) call.datagram (called b call)
-          → At n k (exchanged n image call.datagram (answer_bytes (called b call).answer)) (next_accepted k sector call.datagram (answer_bytes (called b call).answer))
+          → At n k (exchanged n image call.datagram (reply_bytes (called b call).answer)) (next_accepted k sector call.datagram (reply_bytes (called b call).answer))
       step_at (still q t w) = rw (quiet_begin (called b call).answer q, quiet_stored (called b call).answer q) at
       step_at (begins a t m h) = rw (a, response_begin) blank_at
       step_at (stores number write h v a t c) =

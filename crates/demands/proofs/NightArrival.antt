@@ -10,6 +10,7 @@ use lib.Dec.{leb, ltb}
 use lib.ListN.{length, length-append}
 use lib.Seq.{get_or_at}
 use borrow.Author.Tests.{ltb-true, ltb-false}
+use Rattle.std.specs.Prelude.{Ok}
 use Rattle.buffer.proofs.Bools.{split, no_way}
 use Rattle.layout.specs.declared.Bank.{Bank}
 use Rattle.sender.specs.Made.{room}
@@ -262,7 +263,7 @@ module _ (image : List ℕ) (bank : Bank) (n tries : ℕ) (st : Startable image 
 
     arrive : {names : List Name} {left given : ℕ} {rs : List Round} → Goes address n tries names left given rs → (k : Name) (gone : ℕ)
         → names ≡ k ∷ behind count k
-        → gone + left ≡ tries → (l : Loop Night) → Way address k gone given l → (rounds night_sender step_machine image l rs).told.next ≡ next.Finished
+        → gone + left ≡ tries → (l : Loop Night) → Way address k gone given l → (rounds night_sender step_machine image l rs).told.next ≡ Ok next.Finished
     unfolding first_or rest_of
     arrive home k gone e q l w = no_way cc
     arrive (fails {name} {names} {left} {given} {rs} t buffer f h rest) k gone e q l w =
@@ -282,13 +283,13 @@ module _ (image : List ℕ) (bank : Bank) (n tries : ℕ) (st : Startable image 
         then = round night_sender step_machine image l (round_of given buffer (Through a))
 
         P : Stand → Type 0
-        P s = s ≡ following_of k count → (rounds night_sender step_machine image then rs).told.next ≡ next.Finished
+        P s = s ≡ following_of k count → (rounds night_sender step_machine image then rs).told.next ≡ Ok next.Finished
 
         tails : names ≡ behind count k
         tails = ap rest_of e
 
         ended : {ns : List Name} {left given : ℕ} {rs : List Round} → Goes address n tries ns left given rs → ns ≡ [] → Finished ≡ following_of k count
-            → (rounds night_sender step_machine image then rs).told.next ≡ next.Finished
+            → (rounds night_sender step_machine image then rs).told.next ≡ Ok next.Finished
         ended home z s =
             ap (λ (o : Told Night). o.next) (told-then address k gone given l w (round_of given buffer (Through a)) h (passage_more tt no_passage))
             ∙ ap (λ (x : Stand). (toldAt image bank n tries buffer x).next) (settled k gone given l w a buffer r ∙ sym s)

@@ -14,6 +14,7 @@ use lib.ListN.{length, take, drop}
 use Rattle.buffer.proofs.Bools.{and_false}
 use lib.Seq.{length-take-le}
 use borrow.Author.Tests.{not-false}
+use Rattle.std.specs.Prelude.{None, Some}
 use Rattle.buffer.specs.Compare.{blank_of, same_of}
 use Rattle.buffer.specs.Number.{bytes_of}
 use Rattle.buffer.specs.Place.{front_of}
@@ -50,10 +51,9 @@ use Rattle.exchange.specs.declared.state.State.TheVariants as state
 use Rattle.exchange.specs.Answer.{version_bytes, written_bytes, answer_bytes}
 use Rattle.exchange.specs.State.{is_open}
 use Rattle.client.specs.Perform.{Accepted, store_result}
-use Rattle.client.specs.declared.notice.Kind.TheVariants.{Started, Ended}
-use Rattle.client.specs.declared.notice.Notice.{Notice}
+use Rattle.client.specs.declared.notice.Notice.TheVariants.{Started, Ended}
 use Rattle.client.specs.declared.record.Client.{Client}
-use Rattle.client.specs.Notice.{no_notice, notice_with, latest_number}
+use Rattle.client.specs.Notice.{MaybeNotice, latest_number}
 use Rattle.client.specs.Record.{nobody, none_received, starting, in_state, lately, opened_by, having, initiated, terminated, opened, mode_ended, begun, ended}
 use Rattle.client.specs.declared.record.Latest.{Latest}
 use Rattle.client.specs.declared.record.Latest.TheVariants.{Nothing, Good}
@@ -350,7 +350,7 @@ module _ (image : List ℕ) (bank : Bank) (n : ℕ) (P : List ℕ → Type 0) wh
       parameter-fine = answered-fine parameter_error (omega arith) refl refl error_idle
 
       -- a response with a result alone, and a record that is no session's
-      changed-fine : (c : Client) (notice : Notice) (answer : List ℕ) → length answer ≤ 14 → idle (response_of answer) ≡ true
+      changed-fine : (c : Client) (notice : MaybeNotice) (answer : List ℕ) → length answer ≤ 14 → idle (response_of answer) ≡ true
           → (c.state ≡ state.Write → ⊥) → (is_ending k ≡ true → Done image bank n P b → Done image bank n P (board c b.pair)) → Fine (changed b call c notice answer)
       changed-fine c notice answer l d r e _ =
           let o : Outcome = changed b call c notice answer in
@@ -392,7 +392,7 @@ module _ (image : List ℕ) (bank : Bank) (n : ℕ) (P : List ℕ → Type 0) wh
         (λ h _ _.
         skips 4 refl
         (decides refl
-        (changed-fine ModeStart b g call (roomy b call h) (opened call.address b.client) (notice_with Started 0 call.address) (control_frame 0x71 (0x06 ∷ []))
+        (changed-fine ModeStart b g call (roomy b call h) (opened call.address b.client) (Some (Started call.address)) (control_frame 0x71 (0x06 ∷ []))
         (control_short 0x71 0x06) (plain_idle command.ModeStart 0x06 refl refl refl) (not_write state.Control refl) (λ x. absurd (false≢true x)))))
 
     -- a version is told in control state
@@ -434,7 +434,7 @@ module _ (image : List ℕ) (bank : Bank) (n : ℕ) (P : List ℕ → Type 0) wh
         (λ h _ _.
         skips 8 refl
         (decides refl
-        (changed-fine ModeEnd b g call (roomy b call h) (mode_ended b.client) (notice_with Ended (latest_number b.client.latest) call.address)
+        (changed-fine ModeEnd b g call (roomy b call h) (mode_ended b.client) (Some (Ended (latest_number b.client.latest) call.address))
         (control_frame 0x74 (0x06 ∷ [])) (control_short 0x74 0x06) (plain_idle command.ModeEnd 0x06 refl refl refl) (not_write state.Idle refl)
         (λ _ d. still_done b state.Idle Nothing nobody none_received refl d))))
 
@@ -446,10 +446,10 @@ module _ (image : List ℕ) (bank : Bank) (n : ℕ) (P : List ℕ → Type 0) wh
         subst (λ (x : Outcome). Shows x.board (noted b.client.fixed.n g (Datagram call) x)) e (step_shows b g (Datagram call) v)
 
     begun-fine : 14 ≤ length call.buffer → b.client.state ≡ state.Control → other_of b.client.fixed.running ≡ bank → b.client.fixed.n ≡ n
-        → Fine WriteStart b g call (changed b call (begun (starting b.client.fixed.running b.client)) no_notice (control_frame 0x70 (0x06 ∷ [])))
+        → Fine WriteStart b g call (changed b call (begun (starting b.client.fixed.running b.client)) None (control_frame 0x70 (0x06 ∷ [])))
     unfolding may_carry added_of
     begun-fine room c target sectors e =
-        let o : Outcome = changed b call (begun (starting b.client.fixed.running b.client)) no_notice (control_frame 0x70 (0x06 ∷ [])) in
+        let o : Outcome = changed b call (begun (starting b.client.fixed.running b.client)) None (control_frame 0x70 (0x06 ∷ [])) in
         let s : said o ≡ control_frame 0x70 (0x06 ∷ []) = said_back call (control_frame 0x70 (0x06 ∷ [])) (control_short 0x70 0x06) room in
         let h : List ℕ = shown WriteStart b g call o in
         let blank : h ≡ all_blank n =

@@ -10,6 +10,7 @@ use native.Mathlib.Omega.{arith}
 use lib.Dec.{leb}
 use lib.ListN.{length}
 use borrow.Author.Tests.{leb-true, leb-false, le-leb}
+use Rattle.std.specs.Prelude.{Result, Ok}
 use Rattle.buffer.proofs.Bools.{no_way}
 use Rattle.commands.specs.declared.Command.TheVariants as command
 use Rattle.layout.specs.declared.Bank.{Bank}
@@ -22,6 +23,7 @@ use Rattle.night.specs.declared.name.Name.TheVariants.{ModeStart, VersionInfo, B
 use Rattle.night.specs.declared.record.Next.{Next}
 use Rattle.night.specs.declared.record.Next.TheVariants as next
 use Rattle.night.specs.declared.record.Night.{Night}
+use Rattle.night.specs.declared.record.Refusal.{Refusal}
 use Rattle.night.specs.declared.record.Stand.{Stand}
 use Rattle.night.specs.declared.record.Stand.TheVariants.{NotBegun, At, Finished, GaveUp}
 use Rattle.night.specs.declared.record.Why.{Why}
@@ -213,7 +215,7 @@ module _ (image : List ℕ) (bank : Bank) (n : ℕ) where
         (λ why e. x.unstopped why (stops-of why event e))
 
 -- the same request was at hand one event before exactly where it has gone out twice
-record Agrees (name : Name) (gone : ℕ) (last : Next) : Type 0 where
+record Agrees (name : Name) (gone : ℕ) (last : Result Next Refusal) : Type 0 where
   twice : 2 ≤ gone → Repeated name last
   only : Repeated name last → 2 ≤ gone
 
@@ -269,16 +271,16 @@ module _ (image : List ℕ) (bank : Bank) (n tries : ℕ) (s : Startable image n
 
   -- ---- what is at hand agrees with how often it has gone out
 
-  abbrev AgreesAt : Stand → Next → Type 0
+  abbrev AgreesAt : Stand → Result Next Refusal → Type 0
   AgreesAt NotBegun last = Unit {0}
   AgreesAt (At name gone) last = Agrees name gone last
   AgreesAt Finished last = Unit {0}
   AgreesAt (GaveUp name why) last = Unit {0}
 
-  abbrev hand : Name → Next
-  hand name = next_of image bank n (At name 1)
+  abbrev hand : Name → Result Next Refusal
+  hand name = Ok (next_of image bank n (At name 1))
 
-  other_hand : (name k : Name) {last : Next} → last ≡ hand name → Repeated k last → name ≡ k
+  other_hand : (name k : Name) {last : Result Next Refusal} → last ≡ hand name → Repeated k last → name ≡ k
   other_hand name k e (again {size = size}) = cc
 
   first_time : (name k : Name) → (name ≡ k → ⊥) → Agrees k 1 (hand name)
@@ -295,46 +297,46 @@ module _ (image : List ℕ) (bank : Bank) (n tries : ℕ) (s : Startable image n
   step_agrees name gone event r (tired e h) = tt
   step_agrees name gone event r (stops e) = tt
 
-  agrees_on : (stand : Stand) (event : Event) → Right count tries stand → AgreesAt (moves image bank n tries stand event) (next_of image bank n stand)
+  agrees_on : (stand : Stand) (event : Event) → Right count tries stand → AgreesAt (moves image bank n tries stand event) (Ok (next_of image bank n stand))
   agrees_on NotBegun event r = absurd r
   agrees_on (At name gone) event r = step_agrees name gone event r (step_at name gone event r)
   agrees_on Finished event r = tt
   agrees_on (GaveUp name why) event r = tt
 
-  agrees_first : Agrees ModeStart 1 next.NotBegun
+  agrees_first : Agrees ModeStart 1 (Ok next.NotBegun)
   agrees_first = record { twice = λ h. absurd (omega arith); only = λ r. absurd (none_before refl r) }
     where
-      none_before : {last : Next} → last ≡ next.NotBegun → Repeated ModeStart last → ⊥
+      none_before : {last : Result Next Refusal} → last ≡ Ok next.NotBegun → Repeated ModeStart last → ⊥
       none_before e (again {size = size}) = no_way cc
 
-  first_only : (name : Name) {last : Next} → Agrees name 1 last → Repeated name last → ⊥
+  first_only : (name : Name) {last : Result Next Refusal} → Agrees name 1 last → Repeated name last → ⊥
   first_only name a r = let two = a.only r in absurd (omega arith)
 
   -- ---- given up for its tries: only then
 
-  abbrev Vain : Name → ℕ → Next → List Turn → Type 0
-  Vain name = InVain image bank n (AllTold (next.GaveUp name Tries)) name
+  abbrev Vain : Name → ℕ → Result Next Refusal → List Turn → Type 0
+  Vain name = InVain image bank n (AllTold (Ok (next.GaveUp name Tries))) name
 
-  abbrev Tried : Name → Next → List Turn → Type 0
-  Tried name = TriedInVain image bank n (AllTold (next.GaveUp name Tries)) name tries
+  abbrev Tried : Name → Result Next Refusal → List Turn → Type 0
+  Tried name = TriedInVain image bank n (AllTold (Ok (next.GaveUp name Tries))) name tries
 
   abbrev Up : Name → Why → Stand → List Given → Type 0
   Up k why stand gs = final stand gs ≡ GaveUp k why
 
-  abbrev VainOrLater : Name → Name → ℕ → Next → List Turn → Type 0
+  abbrev VainOrLater : Name → Name → ℕ → Result Next Refusal → List Turn → Type 0
   VainOrLater k name gone last ts = ((k ≡ name) × ((left : ℕ) → left + gone ≡ suc tries → Vain name left last ts)) ⊎ Tried k last ts
 
   abbrev VainFrom : List Given → Type 0
   VainFrom gs =
-      (k name : Name) (gone : ℕ) (last : Next) → Right count tries (At name gone) → Agrees name gone last → Up k Tries (At name gone) gs
+      (k name : Name) (gone : ℕ) (last : Result Next Refusal) → Right count tries (At name gone) → Agrees name gone last → Up k Tries (At name gone) gs
       → VainOrLater k name gone last (turns (At name gone) gs)
 
-  new_hand : (k name : Name) (last : Next) {ts : List Turn} → Agrees name 1 last → VainOrLater k name 1 last ts → Tried k last ts
+  new_hand : (k name : Name) (last : Result Next Refusal) {ts : List Turn} → Agrees name 1 last → VainOrLater k name 1 last ts → Tried k last ts
   new_hand k name last {ts} a (inl x) =
       subst (λ (y : Name). Tried y last ts) (sym x.0) (from-here (first_only name a) (x.1 tries (omega arith)))
   new_hand k name last a (inr x) = x
 
-  same_hand : (k name : Name) (gone : ℕ) (event : Event) (last : Next) {rest : List Turn} → Spends image bank n name (Repeated name last) event
+  same_hand : (k name : Name) (gone : ℕ) (event : Event) (last : Result Next Refusal) {rest : List Turn} → Spends image bank n name (Repeated name last) event
       → gone < tries
       → VainOrLater k name (gone + 1) (hand name) rest → VainOrLater k name gone last (turn (hand name) event ∷ rest)
   same_hand k name gone event last {rest} spent h (inl x) = inl (x.0, count_down)
@@ -344,9 +346,9 @@ module _ (image : List ℕ) (bank : Bank) (n tries : ℕ) (s : Startable image n
       count_down (suc left) e = in-vain spent (x.1 left (omega arith))
   same_hand k name gone event last spent h (inr x) = inr (from-later x)
 
-  last_hand : (k name : Name) (gone : ℕ) (event : Event) (last : Next) {rest : List Turn} → Spends image bank n name (Repeated name last) event
+  last_hand : (k name : Name) (gone : ℕ) (event : Event) (last : Result Next Refusal) {rest : List Turn} → Spends image bank n name (Repeated name last) event
       → tries ≤ gone
-      → gone ≤ tries → k ≡ name → AllTold (next.GaveUp name Tries) rest → VainOrLater k name gone last (turn (hand name) event ∷ rest)
+      → gone ≤ tries → k ≡ name → AllTold (Ok (next.GaveUp name Tries)) rest → VainOrLater k name gone last (turn (hand name) event ∷ rest)
   last_hand k name gone event last {rest} spent h l e told = inl (e, one_left)
     where
       one_left : (left : ℕ) → left + gone ≡ suc tries → Vain name left last (turn (hand name) event ∷ rest)
@@ -360,11 +362,11 @@ module _ (image : List ℕ) (bank : Bank) (n tries : ℕ) (s : Startable image n
   same_end : (name k : Name) (why whyk : Why) (gs : List Given) → Up k whyk (GaveUp name why) gs → GaveUp name why ≡ GaveUp k whyk
   same_end name k why whyk gs e = sym (stays_given_up image bank n tries s name why gs) ∙ e
 
-  gave_up_told_on : (name : Name) (why : Why) (gs : List Given) → AllTold (next.GaveUp name why) (turns (GaveUp name why) gs)
+  gave_up_told_on : (name : Name) (why : Why) (gs : List Given) → AllTold (Ok (next.GaveUp name why)) (turns (GaveUp name why) gs)
   gave_up_told_on name why [] = told_none
   gave_up_told_on name why (g ∷ gs) = told_more (gave_up_told_on name why gs)
 
-  vain_on : (gs : List Given) → VainFrom gs → (k name : Name) (gone : ℕ) (event : Event) (last : Next) (stand : Stand)
+  vain_on : (gs : List Given) → VainFrom gs → (k name : Name) (gone : ℕ) (event : Event) (last : Result Next Refusal) (stand : Stand)
       → Right count tries (At name gone)
       → Agrees name gone last → Up k Tries stand gs → Step name gone event stand
       → VainOrLater k name gone last (turn (hand name) event ∷ turns stand gs)
@@ -394,24 +396,24 @@ module _ (image : List ℕ) (bank : Bank) (n tries : ℕ) (s : Startable image n
 
   -- ---- and always then
 
-  abbrev VainAny : Name → ℕ → Next → List Turn → Type 0
+  abbrev VainAny : Name → ℕ → Result Next Refusal → List Turn → Type 0
   VainAny = InVain image bank n Whatever
 
-  abbrev TriedAny : Name → Next → List Turn → Type 0
+  abbrev TriedAny : Name → Result Next Refusal → List Turn → Type 0
   TriedAny name = TriedInVain image bank n Whatever name tries
 
-  record Head (name : Name) (left : ℕ) (last : Next) (t : Turn) (rest : List Turn) : Type 0 where
+  record Head (name : Name) (left : ℕ) (last : Result Next Refusal) (t : Turn) (rest : List Turn) : Type 0 where
     size : ℕ
-    hand-is : t.hand ≡ next.Send name size
+    hand-is : t.hand ≡ Ok (next.Send name size)
     spent : Spends image bank n name (Repeated name last) t.event
     less : (k : ℕ) → left ≡ suc k → VainAny name k t.hand rest
 
-  vain_head : (name : Name) {left : ℕ} {last : Next} {ts : List Turn} (t : Turn) (rest : List Turn) → 1 ≤ left → VainAny name left last ts
+  vain_head : (name : Name) {left : ℕ} {last : Result Next Refusal} {ts : List Turn} (t : Turn) (rest : List Turn) → 1 ≤ left → VainAny name left last ts
       → ts ≡ t ∷ rest
       → Head name left last t rest
   vain_head name t rest h (enough _) e = absurd (omega arith)
   vain_head name t rest h (in-vain {k = j} {last = last} {size = size} {event = event} {rest = more} spent v) e =
-      let same : turn (next.Send name size) event ≡ t = cc in
+      let same : turn (Ok (next.Send name size)) event ≡ t = cc in
       let rests : more ≡ rest = cc in
       record {
         size = size;
@@ -423,16 +425,16 @@ module _ (image : List ℕ) (bank : Bank) (n tries : ℕ) (s : Startable image n
             (subst (VainAny name j t.hand) rests (subst (λ (u : Turn). VainAny name j u.hand more) same v));
       }
 
-  vain_some : (name : Name) {left : ℕ} {last : Next} {ts : List Turn} → 1 ≤ left → VainAny name left last ts → ts ≡ [] → ⊥
+  vain_some : (name : Name) {left : ℕ} {last : Result Next Refusal} {ts : List Turn} → 1 ≤ left → VainAny name left last ts → ts ≡ [] → ⊥
   vain_some name h (enough _) e = absurd (omega arith)
   vain_some name h (in-vain spent v) e = no_way cc
 
   abbrev Ends·From : List Given → Type 0
   Ends·From gs =
-      (name : Name) (gone : ℕ) (last : Next) (left : ℕ) → Right count tries (At name gone) → Agrees name gone last → left + gone ≡ suc tries
+      (name : Name) (gone : ℕ) (last : Result Next Refusal) (left : ℕ) → Right count tries (At name gone) → Agrees name gone last → left + gone ≡ suc tries
       → VainAny name left last (turns (At name gone) gs) → Up name Tries (At name gone) gs
 
-  ends_on : (gs : List Given) → Ends·From gs → (name : Name) (gone : ℕ) (event : Event) (last : Next) (left : ℕ) (stand : Stand)
+  ends_on : (gs : List Given) → Ends·From gs → (name : Name) (gone : ℕ) (event : Event) (last : Result Next Refusal) (left : ℕ) (stand : Stand)
       → Right count tries (At name gone) → SpentAt image bank n name gone event → left + gone ≡ suc tries
       → ((k : ℕ) → left ≡ suc k → VainAny name k (hand name) (turns stand gs)) → Step name gone event stand → Up name Tries stand gs
   ends_on gs ih name gone event last left _ r spent e less (onto-other t other q) =
@@ -456,7 +458,7 @@ module _ (image : List ℕ) (bank : Bank) (n tries : ℕ) (s : Startable image n
       (step_at name gone g.event r)
 
   -- it begins where the request was new
-  gone_once : (name k : Name) (gone : ℕ) (last : Next) (gs : List Given) → name ≡ k → Right count tries (At name gone) → Agrees name gone last
+  gone_once : (name k : Name) (gone : ℕ) (last : Result Next Refusal) (gs : List Given) → name ≡ k → Right count tries (At name gone) → Agrees name gone last
       → (Repeated k last → ⊥) → VainAny k tries last (turns (At name gone) gs) → Up k Tries (At name gone) gs
   gone_once name k gone last gs same r a new v =
       let once : gone ≡ 1 = first-gone (leb 2 gone) refl in
@@ -468,31 +470,31 @@ module _ (image : List ℕ) (bank : Bank) (n tries : ℕ) (s : Startable image n
       first-gone true t = absurd (new (subst (λ (x : Name). Repeated x last) same (a.twice (leb-true 2 gone t))))
       first-gone false t = let l = leb-false 2 gone t in let low = r.0 in omega arith
 
-  begins_here : (gs : List Given) (stand : Stand) (k : Name) (last : Next) → Right count tries stand → AgreesAt stand last → (Repeated k last → ⊥)
+  begins_here : (gs : List Given) (stand : Stand) (k : Name) (last : Result Next Refusal) → Right count tries stand → AgreesAt stand last → (Repeated k last → ⊥)
       → VainAny k tries last (turns stand gs) → Up k Tries stand gs
   begins_here [] stand k last r a new v = absurd (vain_some k s.low v refl)
   begins_here (g ∷ gs) NotBegun k last r a new v = absurd r
   begins_here (g ∷ gs) (At name gone) k last r a new v =
       let h : Head k tries last (turn (hand name) g.event) (turns (moves image bank n tries (At name gone) g.event) gs) =
       vain_head k (turn (hand name) g.event) (turns (moves image bank n tries (At name gone) g.event) gs) s.low v refl in
-      let at : hand name ≡ next.Send k h.size = h.hand-is in
+      let at : hand name ≡ (Ok (next.Send k h.size)) = h.hand-is in
       let same : name ≡ k = cc in
       gone_once name k gone last (g ∷ gs) same r a new v
   begins_here (g ∷ gs) Finished k last r a new v =
-      let h : Head k tries last (turn next.Finished g.event) (turns Finished gs) =
-      vain_head k (turn next.Finished g.event) (turns Finished gs) s.low v refl in
-      let at : next.Finished ≡ next.Send k h.size = h.hand-is in no_way cc
+      let h : Head k tries last (turn (Ok next.Finished) g.event) (turns Finished gs) =
+      vain_head k (turn (Ok next.Finished) g.event) (turns Finished gs) s.low v refl in
+      let at : (Ok next.Finished) ≡ (Ok (next.Send k h.size)) = h.hand-is in no_way cc
   begins_here (g ∷ gs) (GaveUp name why) k last r a new v =
-      let h : Head k tries last (turn (next.GaveUp name why) g.event) (turns (GaveUp name why) gs) =
-      vain_head k (turn (next.GaveUp name why) g.event) (turns (GaveUp name why) gs) s.low v refl in
-      let at : next.GaveUp name why ≡ next.Send k h.size = h.hand-is in no_way cc
+      let h : Head k tries last (turn (Ok (next.GaveUp name why)) g.event) (turns (GaveUp name why) gs) =
+      vain_head k (turn (Ok (next.GaveUp name why)) g.event) (turns (GaveUp name why) gs) s.low v refl in
+      let at : (Ok (next.GaveUp name why)) ≡ (Ok (next.Send k h.size)) = h.hand-is in no_way cc
 
-  tried_later : (k : Name) {last : Next} {ts : List Turn} → TriedAny k last ts
+  tried_later : (k : Name) {last : Result Next Refusal} {ts : List Turn} → TriedAny k last ts
       → (((Repeated k last → ⊥) × VainAny k tries last ts)) ⊎ ((t : Turn) × (rest : List Turn) × (ts ≡ t ∷ rest) × TriedAny k t.hand rest)
   tried_later k (from-here new v) = inl (new, v)
   tried_later k (from-later {t = t} {rest = rest} x) = inr (t, rest, refl, x)
 
-  tried_from : (gs : List Given) (stand : Stand) (k : Name) (last : Next) → Right count tries stand → AgreesAt stand last
+  tried_from : (gs : List Given) (stand : Stand) (k : Name) (last : Result Next Refusal) → Right count tries stand → AgreesAt stand last
       → TriedAny k last (turns stand gs)
       → Up k Tries stand gs
   tried_from [] stand k last r a x = by (tried_later k x)
@@ -503,33 +505,33 @@ module _ (image : List ℕ) (bank : Bank) (n tries : ℕ) (s : Startable image n
       by (inr y) = let e : [] ≡ y.0 ∷ y.1 = y.2 in no_way cc
   tried_from (g ∷ gs) stand k last r a x =
       by (tried_later k x)
-      (tried_from gs (moves image bank n tries stand g.event) k (next_of image bank n stand) (stays-right image bank n tries s stand g.event r)
+      (tried_from gs (moves image bank n tries stand g.event) k (Ok (next_of image bank n stand)) (stays-right image bank n tries s stand g.event r)
       (agrees_on stand g.event r))
     where
       ts : List Turn
       ts = turns (moves image bank n tries stand g.event) gs
 
-      by : (((Repeated k last → ⊥) × VainAny k tries last (turn (next_of image bank n stand) g.event ∷ ts)))
-          ⊎ ((t : Turn) × (rest : List Turn) × (turn (next_of image bank n stand) g.event ∷ ts ≡ t ∷ rest) × TriedAny k t.hand rest)
-          → (TriedAny k (next_of image bank n stand) ts → Up k Tries stand (g ∷ gs)) → Up k Tries stand (g ∷ gs)
+      by : (((Repeated k last → ⊥) × VainAny k tries last (turn (Ok (next_of image bank n stand)) g.event ∷ ts)))
+          ⊎ ((t : Turn) × (rest : List Turn) × (turn (Ok (next_of image bank n stand)) g.event ∷ ts ≡ t ∷ rest) × TriedAny k t.hand rest)
+          → (TriedAny k (Ok (next_of image bank n stand)) ts → Up k Tries stand (g ∷ gs)) → Up k Tries stand (g ∷ gs)
       by (inl y) ih = begins_here (g ∷ gs) stand k last r a y.0 y.1
       by (inr y) ih =
-          let e : turn (next_of image bank n stand) g.event ∷ ts ≡ y.0 ∷ y.1 = y.2 in
-          let same : y.0 ≡ turn (next_of image bank n stand) g.event = cc in
+          let e : turn (Ok (next_of image bank n stand)) g.event ∷ ts ≡ y.0 ∷ y.1 = y.2 in
+          let same : y.0 ≡ turn (Ok (next_of image bank n stand)) g.event = cc in
           let rests : y.1 ≡ ts = cc in
-          ih (subst (TriedAny k (next_of image bank n stand)) rests (subst (λ (u : Turn). TriedAny k u.hand y.1) same y.3))
+          ih (subst (TriedAny k (Ok (next_of image bank n stand))) rests (subst (λ (u : Turn). TriedAny k u.hand y.1) same y.3))
 
   -- ---- stopped: only then
 
-  abbrev Halted : Why → Name → Next → List Turn → Type 0
+  abbrev Halted : Why → Name → Result Next Refusal → List Turn → Type 0
   Halted = Stopped image bank n
 
   abbrev HaltedFrom : List Given → Type 0
   HaltedFrom gs =
-      (why : Why) (k name : Name) (gone : ℕ) (last : Next) → (why ≡ Tries → ⊥) → Right count tries (At name gone) → Agrees name gone last
+      (why : Why) (k name : Name) (gone : ℕ) (last : Result Next Refusal) → (why ≡ Tries → ⊥) → Right count tries (At name gone) → Agrees name gone last
       → Up k why (At name gone) gs → Halted why k last (turns (At name gone) gs)
 
-  halted_on : (gs : List Given) → HaltedFrom gs → (why : Why) (k name : Name) (gone : ℕ) (event : Event) (last : Next) (stand : Stand)
+  halted_on : (gs : List Given) → HaltedFrom gs → (why : Why) (k name : Name) (gone : ℕ) (event : Event) (last : Result Next Refusal) (stand : Stand)
       → (why ≡ Tries → ⊥)
       → Right count tries (At name gone) → Agrees name gone last → Up k why stand gs → Step name gone event stand
       → Halted why k last (turn (hand name) event ∷ turns stand gs)
@@ -558,15 +560,15 @@ module _ (image : List ℕ) (bank : Bank) (n tries : ℕ) (s : Startable image n
 
   -- ---- and always then
 
-  record Halt (why : Why) (k : Name) (last : Next) (t : Turn) : Type 0 where
+  record Halt (why : Why) (k : Name) (last : Result Next Refusal) (t : Turn) : Type 0 where
     size : ℕ
-    hand-is : t.hand ≡ next.Send k size
+    hand-is : t.hand ≡ Ok (next.Send k size)
     halts : Brings t.event (Stops image bank n why k (Repeated k last))
 
-  halt_or_later : (why : Why) (k : Name) {last : Next} {ts : List Turn} (t : Turn) (rest : List Turn) → Halted why k last ts → ts ≡ t ∷ rest
+  halt_or_later : (why : Why) (k : Name) {last : Result Next Refusal} {ts : List Turn} (t : Turn) (rest : List Turn) → Halted why k last ts → ts ≡ t ∷ rest
       → Halt why k last t ⊎ Halted why k t.hand rest
   halt_or_later why k t rest (stopped-here {last = last} {size = size} {event = event} x) e =
-      let same : turn (next.Send k size) event ≡ t = cc in
+      let same : turn (Ok (next.Send k size)) event ≡ t = cc in
       inl
       (record {
         size = size;
@@ -578,7 +580,7 @@ module _ (image : List ℕ) (bank : Bank) (n tries : ℕ) (s : Startable image n
       let rests : us ≡ rest = cc in
       inr (subst (Halted why k t.hand) rests (subst (λ (v : Turn). Halted why k v.hand us) same x))
 
-  never_halted : (why : Why) (k : Name) {last : Next} {ts : List Turn} → Halted why k last ts → ts ≡ [] → ⊥
+  never_halted : (why : Why) (k : Name) {last : Result Next Refusal} {ts : List Turn} → Halted why k last ts → ts ≡ [] → ⊥
   never_halted why k (stopped-here x) e = no_way cc
   never_halted why k (stopped-later x) e = no_way cc
 
@@ -596,46 +598,46 @@ module _ (image : List ℕ) (bank : Bank) (n tries : ℕ) (s : Startable image n
       stays_given_up image bank n tries s name w gs
       ∙ ap (GaveUp name) (stopped_once name (leb 2 gone) bank image (packet_sector image n (number_of name)) (heard_in event) w why t e)
 
-  halt_ends : (stand : Stand) (event : Event) (why : Why) (k : Name) (last : Next) (gs : List Given) → Right count tries stand → AgreesAt stand last
-      → Halt why k last (turn (next_of image bank n stand) event) → Up k why (moves image bank n tries stand event) gs
+  halt_ends : (stand : Stand) (event : Event) (why : Why) (k : Name) (last : Result Next Refusal) (gs : List Given) → Right count tries stand → AgreesAt stand last
+      → Halt why k last (turn (Ok (next_of image bank n stand)) event) → Up k why (moves image bank n tries stand event) gs
   halt_ends NotBegun event why k last gs r a h = absurd r
   halt_ends (At name gone) event why k last gs r a h =
-      let at : hand name ≡ next.Send k h.size = h.hand-is in
+      let at : hand name ≡ (Ok (next.Send k h.size)) = h.hand-is in
       let same : k ≡ name = cc in
       subst (λ (x : Name). Up x why (moves image bank n tries (At name gone) event) gs) (sym same)
       (halts_step name gone event why gs
       (of-stops image bank n name gone (Repeated name last) a.twice a.only why event (subst (λ (x : Name). Brings event (Stops image bank n why x (Repeated x last))) same h.halts))
       (step_at name gone event r))
-  halt_ends Finished event why k last gs r a h = let at : next.Finished ≡ next.Send k h.size = h.hand-is in no_way cc
-  halt_ends (GaveUp name w) event why k last gs r a h = let at : next.GaveUp name w ≡ next.Send k h.size = h.hand-is in no_way cc
+  halt_ends Finished event why k last gs r a h = let at : (Ok next.Finished) ≡ (Ok (next.Send k h.size)) = h.hand-is in no_way cc
+  halt_ends (GaveUp name w) event why k last gs r a h = let at : (Ok (next.GaveUp name w)) ≡ (Ok (next.Send k h.size)) = h.hand-is in no_way cc
 
-  halted_ends : (gs : List Given) (stand : Stand) (why : Why) (k : Name) (last : Next) → Right count tries stand → AgreesAt stand last
+  halted_ends : (gs : List Given) (stand : Stand) (why : Why) (k : Name) (last : Result Next Refusal) → Right count tries stand → AgreesAt stand last
       → Halted why k last (turns stand gs) → Up k why stand gs
   halted_ends [] stand why k last r a x = absurd (never_halted why k x refl)
   halted_ends (g ∷ gs) stand why k last r a x =
-      by (halt_or_later why k (turn (next_of image bank n stand) g.event) (turns (moves image bank n tries stand g.event) gs) x refl)
-      (halted_ends gs (moves image bank n tries stand g.event) why k (next_of image bank n stand)
+      by (halt_or_later why k (turn (Ok (next_of image bank n stand)) g.event) (turns (moves image bank n tries stand g.event) gs) x refl)
+      (halted_ends gs (moves image bank n tries stand g.event) why k (Ok (next_of image bank n stand))
       (stays-right image bank n tries s stand g.event r) (agrees_on stand g.event r))
     where
-      by : Halt why k last (turn (next_of image bank n stand) g.event)
-          ⊎ Halted why k (next_of image bank n stand) (turns (moves image bank n tries stand g.event) gs)
-          → (Halted why k (next_of image bank n stand) (turns (moves image bank n tries stand g.event) gs) → Up k why stand (g ∷ gs))
+      by : Halt why k last (turn (Ok (next_of image bank n stand)) g.event)
+          ⊎ Halted why k (Ok (next_of image bank n stand)) (turns (moves image bank n tries stand g.event) gs)
+          → (Halted why k (Ok (next_of image bank n stand)) (turns (moves image bank n tries stand g.event) gs) → Up k why stand (g ∷ gs))
           → Up k why stand (g ∷ gs)
       by (inl h) ih = halt_ends stand g.event why k last gs r a h
       by (inr y) ih = ih y
 
   -- ---- an end stays
 
-  finished_stays : (gs : List Given) → Stays next.Finished gs (toldsAt image bank n tries Finished gs)
+  finished_stays : (gs : List Given) → Stays (Ok next.Finished) gs (toldsAt image bank n tries Finished gs)
   finished_stays [] = stays_none
   finished_stays (g ∷ gs) = stays_more refl refl (finished_stays gs)
 
-  gave_up_stays : (name : Name) (why : Why) (gs : List Given) → Stays (next.GaveUp name why) gs (toldsAt image bank n tries (GaveUp name why) gs)
+  gave_up_stays : (name : Name) (why : Why) (gs : List Given) → Stays (Ok (next.GaveUp name why)) gs (toldsAt image bank n tries (GaveUp name why) gs)
   gave_up_stays name why [] = stays_none
   gave_up_stays name why (g ∷ gs) = stays_more refl refl (gave_up_stays name why gs)
 
-  end_stays : (stand : Stand) (gs : List Given) → is_over (next_of image bank n stand) ≡ true
-      → Stays (next_of image bank n stand) gs (toldsAt image bank n tries stand gs)
+  end_stays : (stand : Stand) (gs : List Given) → is_over (Ok (next_of image bank n stand)) ≡ true
+      → Stays (Ok (next_of image bank n stand)) gs (toldsAt image bank n tries stand gs)
   end_stays NotBegun gs e = absurd (false≢true e)
   end_stays (At name gone) gs e = absurd (false≢true e)
   end_stays Finished gs e = finished_stays gs
@@ -645,7 +647,8 @@ module _ (image : List ℕ) (bank : Bank) (n tries : ℕ) (s : Startable image n
   right_last stand [] r = r
   right_last stand (g ∷ gs) r = right_last (moves image bank n tries stand g.event) gs (stays-right image bank n tries s stand g.event r)
 
-  gave_up_told : (stand : Stand) (name : Name) (why : Why) → next_of image bank n stand ≡ next.GaveUp name why → stand ≡ GaveUp name why
+  gave_up_told : (stand : Stand) (name : Name) (why : Why) → ◌≡◌ {A = Result Next Refusal} (Ok (next_of image bank n stand)) (Ok (next.GaveUp name why))
+      → stand ≡ GaveUp name why
   gave_up_told NotBegun name why e = no_way cc
   gave_up_told (At k gone) name why e = no_way cc
   gave_up_told Finished name why e = no_way cc
@@ -657,36 +660,36 @@ module _ (image : List ℕ) (bank : Bank) (n tries : ℕ) (s : Startable image n
     abbrev Run : List Turn
     Run = runTurns night_sender image bank n tries before gs
 
-    up_of : (name : Name) (why : Why) → ends_with night_sender image bank n tries before gs ≡ next.GaveUp name why → Up name why (At ModeStart 1) gs
+    up_of : (name : Name) (why : Why) → ends_with night_sender image bank n tries before gs ≡ Ok (next.GaveUp name why) → Up name why (At ModeStart 1) gs
     up_of name why e = gave_up_told (final (At ModeStart 1) gs) name why (sym (run_ends image bank n tries s before gs h hs) ∙ e)
 
-    of-up : (name : Name) (why : Why) → Up name why (At ModeStart 1) gs → ends_with night_sender image bank n tries before gs ≡ next.GaveUp name why
-    of-up name why e = run_ends image bank n tries s before gs h hs ∙ ap (next_of image bank n) e
+    of-up : (name : Name) (why : Why) → Up name why (At ModeStart 1) gs → ends_with night_sender image bank n tries before gs ≡ Ok (next.GaveUp name why)
+    of-up name why e = run_ends image bank n tries s before gs h hs ∙ ap (λ (x : Stand). Ok (next_of image bank n x)) e
 
-    pub run-tries : (name : Name) → ends_with night_sender image bank n tries before gs ≡ next.GaveUp name Tries → Tried name next.NotBegun Run
+    pub run-tries : (name : Name) → ends_with night_sender image bank n tries before gs ≡ Ok (next.GaveUp name Tries) → Tried name (Ok next.NotBegun) Run
     run-tries name e =
-        subst (Tried name next.NotBegun) (sym (run-turns image bank n tries s before gs h hs))
-        (new_hand name ModeStart next.NotBegun agrees_first
-        (vain_from gs name ModeStart 1 next.NotBegun (begins-right image bank n tries s) agrees_first (up_of name Tries e)))
+        subst (Tried name (Ok next.NotBegun)) (sym (run-turns image bank n tries s before gs h hs))
+        (new_hand name ModeStart (Ok next.NotBegun) agrees_first
+        (vain_from gs name ModeStart 1 (Ok next.NotBegun) (begins-right image bank n tries s) agrees_first (up_of name Tries e)))
 
-    pub tries-run : (name : Name) → TriedAny name next.NotBegun Run → ends_with night_sender image bank n tries before gs ≡ next.GaveUp name Tries
+    pub tries-run : (name : Name) → TriedAny name (Ok next.NotBegun) Run → ends_with night_sender image bank n tries before gs ≡ Ok (next.GaveUp name Tries)
     tries-run name x =
         of-up name Tries
-        (tried_from gs (At ModeStart 1) name next.NotBegun (begins-right image bank n tries s) agrees_first
-        (subst (TriedAny name next.NotBegun) (run-turns image bank n tries s before gs h hs) x))
+        (tried_from gs (At ModeStart 1) name (Ok next.NotBegun) (begins-right image bank n tries s) agrees_first
+        (subst (TriedAny name (Ok next.NotBegun)) (run-turns image bank n tries s before gs h hs) x))
 
-    pub run-halts : (why : Why) (name : Name) → (why ≡ Tries → ⊥) → ends_with night_sender image bank n tries before gs ≡ next.GaveUp name why
-        → Halted why name next.NotBegun Run
+    pub run-halts : (why : Why) (name : Name) → (why ≡ Tries → ⊥) → ends_with night_sender image bank n tries before gs ≡ Ok (next.GaveUp name why)
+        → Halted why name (Ok next.NotBegun) Run
     run-halts why name no-tries e =
-        subst (Halted why name next.NotBegun) (sym (run-turns image bank n tries s before gs h hs))
-        (halted_from gs why name ModeStart 1 next.NotBegun no-tries (begins-right image bank n tries s) agrees_first (up_of name why e))
+        subst (Halted why name (Ok next.NotBegun)) (sym (run-turns image bank n tries s before gs h hs))
+        (halted_from gs why name ModeStart 1 (Ok next.NotBegun) no-tries (begins-right image bank n tries s) agrees_first (up_of name why e))
 
-    pub halts-run : (why : Why) (name : Name) → Halted why name next.NotBegun Run
-        → ends_with night_sender image bank n tries before gs ≡ next.GaveUp name why
+    pub halts-run : (why : Why) (name : Name) → Halted why name (Ok next.NotBegun) Run
+        → ends_with night_sender image bank n tries before gs ≡ Ok (next.GaveUp name why)
     halts-run why name x =
         of-up name why
-        (halted_ends gs (At ModeStart 1) why name next.NotBegun (begins-right image bank n tries s) agrees_first
-        (subst (Halted why name next.NotBegun) (run-turns image bank n tries s before gs h hs) x))
+        (halted_ends gs (At ModeStart 1) why name (Ok next.NotBegun) (begins-right image bank n tries s) agrees_first
+        (subst (Halted why name (Ok next.NotBegun)) (run-turns image bank n tries s before gs h hs) x))
 
     pub run_stays : is_over (ends_with night_sender image bank n tries before gs) ≡ true → (more : List Given) → Roomy more
         → Stays (ends_with night_sender image bank n tries before gs) more
@@ -696,10 +699,10 @@ module _ (image : List ℕ) (bank : Bank) (n tries : ℕ) (s : Startable image n
         let stand : Stand = final (At ModeStart 1) gs in
         let same = run_ends image bank n tries s before gs h hs in
         let right : Right count tries stand = right_last (At ModeStart 1) gs (begins-right image bank n tries s) in
-        let over : is_over (next_of image bank n stand) ≡ true = sym (ap is_over same) ∙ e in
-        subst (λ (end : Next). Stays end more (tolds night_sender image
+        let over : is_over (Ok (next_of image bank n stand)) ≡ true = sym (ap is_over same) ∙ e in
+        subst (λ (end : Result Next Refusal). Stays end more (tolds night_sender image
         (last_told (first night_sender image bank n tries before gs) (later night_sender image bank n tries before gs)).record_then more)) (sym same)
-        (subst (Stays (next_of image bank n stand) more)
+        (subst (Stays (Ok (next_of image bank n stand)) more)
         (sym
         (ap (λ (x : Night). tolds night_sender image x more) (run-stands image bank n tries s before gs h hs)
         ∙ tolds-are image bank n tries s stand more right rs))

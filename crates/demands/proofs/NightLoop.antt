@@ -12,6 +12,7 @@ use native.Mathlib.Omega.{arith}
 use lib.Dec.{leb, ltb}
 use lib.ListN.{length, get_or}
 use borrow.Author.Tests.{ltb-false}
+use Rattle.std.specs.Prelude.{Ok}
 use Rattle.buffer.proofs.Bools.{split, no_way}
 use Rattle.buffer.proofs.Places.{front_take}
 use Rattle.frame.specs.Read.{read_of}
@@ -484,7 +485,7 @@ module _ (image : List ℕ) (bank : Bank) (n tries : ℕ) (st : Startable image 
   event_keeps (GaveUp name why) event is b answers r f v = v
 
   -- it is in where that is told
-  pub in_done : (stand : Stand) → Right (packet_count image n) tries stand → is_in (next_of image bank n stand) ≡ true → (is : List Input) (b : Board) (answers : List (List ℕ))
+  pub in_done : (stand : Stand) → Right (packet_count image n) tries stand → is_in (Ok (next_of image bank n stand)) ≡ true → (is : List Input) (b : Board) (answers : List (List ℕ))
       → InvAt stand is b answers
       → D is b
   in_done NotBegun r e is b answers v = absurd r

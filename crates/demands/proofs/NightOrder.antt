@@ -7,6 +7,7 @@ use Prim.Native.Nat.{ℕ, zero, suc, ◌+◌, ◌*◌, ◌≤◌}
 use native.Mathlib.Nat.{mul-suc}
 use native.Mathlib.Omega.{arith}
 use lib.ListN.{length, replicate, length-append, replicate-append-replicate}
+use Rattle.std.specs.Prelude.{Ok}
 use Rattle.layout.specs.declared.Bank.{Bank}
 use Rattle.sender.specs.Packet.{packet_count}
 use Rattle.night.specs.declared.name.Name.{Name}
@@ -102,7 +103,7 @@ module _ (image : List ℕ) (bank : Bank) (n tries : ℕ) (s : Startable image n
   -- ---- the end
 
   abbrev Over : Stand → Type 0
-  Over stand = is_over (next_of image bank n stand) ≡ true
+  Over stand = is_over (Ok (next_of image bank n stand)) ≡ true
 
   -- how many events may still come
   abbrev EndsFrom : List Given → Type 0

@@ -10,6 +10,7 @@ use native.Mathlib.Nat.{mul-suc}
 use native.Mathlib.Omega.{arith}
 use lib.Dec.{eqb, leb}
 use lib.ListN.{length, replicate, length-append, length-replicate}
+use Rattle.std.specs.Prelude.{Ok}
 use Rattle.buffer.specs.Number.{bytes_of}
 use Rattle.buffer.proofs.Bools.{no_way}
 use Rattle.commands.specs.declared.Command.TheVariants as command
@@ -240,7 +241,7 @@ module _ (image : List ℕ) (bank : Bank) (n : ℕ) where
           (goes_at image bank n tries s name tries (Heard (spelled (reply name))) (s.low, omega arith, l))
 
       abbrev Runs : Stand → Type 0
-      Runs stand = is_over (next_of image bank n stand) ≡ false
+      Runs stand = is_over (Ok (next_of image bank n stand)) ≡ false
 
       runs_on : (names : List Name) (name : Name) → number_of name < packet_count image n → behind (packet_count image n) name ≡ names
           → Runs (final (At name 1) (waits name names))

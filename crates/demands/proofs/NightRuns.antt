@@ -8,6 +8,7 @@ use native.Mathlib.Omega.{arith}
 use lib.Dec.{leb, ltb}
 use lib.ListN.{length}
 use borrow.Author.Tests.{ltb-true, ltb-false}
+use Rattle.std.specs.Prelude.{Ok}
 use Rattle.buffer.proofs.Bools.{split}
 use Rattle.buffer.proofs.Places.{front_take}
 use Rattle.layout.specs.declared.Bank.{Bank}
@@ -150,7 +151,7 @@ module _ (image : List ℕ) (bank : Bank) (n tries : ℕ) where
 
   abbrev pub turnsAt : Stand → List Given → List Turn
   turnsAt stand [] = []
-  turnsAt stand (g ∷ gs) = turn (next_of image bank n stand) g.event ∷ turnsAt (moves stand g.event) gs
+  turnsAt stand (g ∷ gs) = turn (Ok (next_of image bank n stand)) g.event ∷ turnsAt (moves stand g.event) gs
 
   abbrev pub sentAt : Stand → List Sent
   sentAt NotBegun = []
@@ -211,12 +212,12 @@ module _ (image : List ℕ) (bank : Bank) (n tries : ℕ) where
         → turns_of night_sender image (toldAt before stand) gs ≡ turnsAt stand gs
     turns-are before stand [] r none = refl
     turns-are before stand (g ∷ gs) r (more h hs) =
-        ap (λ (o : Told Night). turn (next_of image bank n stand) g.event ∷ turns_of night_sender image o gs) (event-is stand g.event g.buffer r h)
-        ∙ ap (λ (l : List Turn). turn (next_of image bank n stand) g.event ∷ l)
+        ap (λ (o : Told Night). turn (Ok (next_of image bank n stand)) g.event ∷ turns_of night_sender image o gs) (event-is stand g.event g.buffer r h)
+        ∙ ap (λ (l : List Turn). turn (Ok (next_of image bank n stand)) g.event ∷ l)
         (turns-are g.buffer (moves stand g.event) gs (stays-right stand g.event r) hs)
 
     last-is : (before : List ℕ) (stand : Stand) (gs : List Given)
-        → (last_told (toldAt before stand) (toldsAt stand gs)).next ≡ next_of image bank n (lastStand stand gs)
+        → (last_told (toldAt before stand) (toldsAt stand gs)).next ≡ Ok (next_of image bank n (lastStand stand gs))
     last-is before stand [] = refl
     last-is before stand (g ∷ gs) = last-is g.buffer (moves stand g.event) gs
 
@@ -267,7 +268,7 @@ module _ (image : List ℕ) (bank : Bank) (n tries : ℕ) where
           ap all_sent run_is
           ∙ ap₂ (λ (a b : List Sent). a ++ b) (went-out before (At ModeStart 1) begins-right h) (all-went-out (At ModeStart 1) gs begins-right hs)
 
-      pub run_ends : ends_with night_sender image bank n tries before gs ≡ next_of image bank n (lastStand (At ModeStart 1) gs)
+      pub run_ends : ends_with night_sender image bank n tries before gs ≡ Ok (next_of image bank n (lastStand (At ModeStart 1) gs))
       run_ends =
           ap (λ (o : Told Night). (last_told o (tolds night_sender image o.record_then gs)).next) (start_is before h)
           ∙ ap (λ (l : List (Told Night)). (last_told (toldAt before (At ModeStart 1)) l).next) (tolds-are (At ModeStart 1) gs begins-right hs)

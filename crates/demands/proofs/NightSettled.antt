@@ -9,6 +9,7 @@ use Prim.Native.Nat.{ℕ, ◌+◌, ◌≤◌}
 use native.Mathlib.Omega.{arith}
 use lib.Dec.{leb}
 use borrow.Author.Tests.{leb-true, le-leb}
+use Rattle.std.specs.Prelude.{Result, Ok}
 use Rattle.buffer.proofs.Bools.{no_way}
 use Rattle.commands.specs.declared.Command.TheVariants as command
 use Rattle.layout.specs.declared.Bank.{Bank}
@@ -20,6 +21,7 @@ use Rattle.night.specs.declared.name.Name.{Name}
 use Rattle.night.specs.declared.name.Name.TheVariants.{ModeStart, VersionInfo, BankInfo, WriteStart, Packet, WriteEnd, ModeEnd}
 use Rattle.night.specs.declared.record.Next.{Next}
 use Rattle.night.specs.declared.record.Next.TheVariants as next
+use Rattle.night.specs.declared.record.Refusal.{Refusal}
 use Rattle.night.specs.declared.record.Stand.{Stand}
 use Rattle.night.specs.declared.record.Stand.TheVariants.{NotBegun, At, Finished, GaveUp}
 use Rattle.night.specs.declared.record.Why.{Why}
@@ -137,18 +139,18 @@ module _ (image : List ℕ) (bank : Bank) (n tries : ℕ) (s : Startable image n
   abbrev turns : Stand → List Given → List Turn
   turns = turnsAt image bank n tries
 
-  abbrev Each : List Name → Next → List Turn → Type 0
+  abbrev Each : List Name → Result Next Refusal → List Turn → Type 0
   Each = EachSettled image bank n
 
   -- ---- finished only then
 
-  later_each : {names : List Name} {last : Next} {t : Turn} {rest : List Turn} → Each names t.hand rest → Each names last (t ∷ rest)
+  later_each : {names : List Name} {last : Result Next Refusal} {t : Turn} {rest : List Turn} → Each names t.hand rest → Each names last (t ∷ rest)
   later_each all = all
   later_each (one x xs) = one (after x) (later_each xs)
 
   -- what settles it was heard
-  settled_here : (name : Name) (gone : ℕ) (event : Event) (last : Next) (rest : List Turn) → (2 ≤ gone → Repeated name last)
-      → SettlesAt image bank n tries name gone event → SettledIn image bank n name last (turn (next_of image bank n (At name gone)) event ∷ rest)
+  settled_here : (name : Name) (gone : ℕ) (event : Event) (last : Result Next Refusal) (rest : List Turn) → (2 ≤ gone → Repeated name last)
+      → SettlesAt image bank n tries name gone event → SettledIn image bank n name last (turn (Ok (next_of image bank n (At name gone))) event ∷ rest)
   settled_here name gone (Heard datagram) last rest twice t =
       here (by (judge_reads image bank n (leb 2 gone) (response_of datagram) name t))
     where
@@ -160,23 +162,23 @@ module _ (image : List ℕ) (bank : Bank) (n tries : ℕ) (s : Startable image n
 
   abbrev OnlyFrom : List Given → Type 0
   OnlyFrom gs =
-      (name : Name) (gone : ℕ) (last : Next) → Right count tries (At name gone) → (2 ≤ gone → Repeated name last) → final (At name gone) gs ≡ Finished
+      (name : Name) (gone : ℕ) (last : Result Next Refusal) → Right count tries (At name gone) → (2 ≤ gone → Repeated name last) → final (At name gone) gs ≡ Finished
       → Each (name ∷ behind count name) last (turns (At name gone) gs)
 
-  only_on : (gs : List Given) → OnlyFrom gs → (name : Name) (gone : ℕ) (event : Event) (last : Next) (stand : Stand)
+  only_on : (gs : List Given) → OnlyFrom gs → (name : Name) (gone : ℕ) (event : Event) (last : Result Next Refusal) (stand : Stand)
       → Right count tries (At name gone)
       → (2 ≤ gone → Repeated name last) → final stand gs ≡ Finished
       → Goes count tries name gone (SettlesAt image bank n tries name gone event) stand
-      → Each (name ∷ behind count name) last (turn (next_of image bank n (At name gone)) event ∷ turns stand gs)
+      → Each (name ∷ behind count name) last (turn (Ok (next_of image bank n (At name gone))) event ∷ turns stand gs)
   only_on gs ih name gone event last _ r twice e (onto {next = k} t b q) =
       one (settled_here name gone event last (turns (At k 1) gs) twice t)
-      (subst (λ (l : List Name). Each l last (turn (next_of image bank n (At name gone)) event ∷ turns (At k 1) gs)) (sym b)
-      (later_each (ih k 1 (next_of image bank n (At name gone)) q (λ h. absurd (omega arith)) e)))
+      (subst (λ (l : List Name). Each l last (turn (Ok (next_of image bank n (At name gone))) event ∷ turns (At k 1) gs)) (sym b)
+      (later_each (ih k 1 (Ok (next_of image bank n (At name gone))) q (λ h. absurd (omega arith)) e)))
   only_on gs ih name gone event last _ r twice e (done t b) =
       one (settled_here name gone event last (turns Finished gs) twice t)
-      (subst (λ (l : List Name). Each l last (turn (next_of image bank n (At name gone)) event ∷ turns Finished gs)) (sym b) all)
+      (subst (λ (l : List Name). Each l last (turn (Ok (next_of image bank n (At name gone))) event ∷ turns Finished gs)) (sym b) all)
   only_on gs ih name gone event last _ r twice e (repeats no-settling h) =
-      later_each (ih name (gone + 1) (next_of image bank n (At name gone)) (omega arith, omega arith, r.2) (λ _. again) e)
+      later_each (ih name (gone + 1) (Ok (next_of image bank n (At name gone))) (omega arith, omega arith, r.2) (λ _. again) e)
   only_on gs ih name gone event last _ r twice e (ends {why = why} no-settling) =
       let q : GaveUp name why ≡ Finished = sym (stays_given_up image bank n tries s name why gs) ∙ e in no_way cc
 
@@ -186,7 +188,7 @@ module _ (image : List ℕ) (bank : Bank) (n tries : ℕ) (s : Startable image n
       only_on gs (only_from gs) name gone g.event last (moves image bank n tries (At name gone) g.event) r twice e
       (goes_at image bank n tries s name gone g.event r)
 
-  finished_told : (stand : Stand) → next_of image bank n stand ≡ next.Finished → stand ≡ Finished
+  finished_told : (stand : Stand) → ◌≡◌ {A = Result Next Refusal} (Ok (next_of image bank n stand)) (Ok next.Finished) → stand ≡ Finished
   finished_told NotBegun e = no_way cc
   finished_told (At name gone) e = no_way cc
   finished_told Finished e = refl
@@ -203,10 +205,10 @@ module _ (image : List ℕ) (bank : Bank) (n tries : ℕ) (s : Startable image n
   mode_end_goes P gone settling (ends {why = why} no-settling) f a u = u no-settling why
 
   -- one that is at hand a second time has gone out twice
-  abbrev Twice : Stand → Next → Type 0
+  abbrev Twice : Stand → Result Next Refusal → Type 0
   Twice stand last = (gone : ℕ) → stand ≡ At ModeEnd gone → Repeated ModeEnd last → 2 ≤ gone
 
-  repeated_is : {last : Next} → Repeated ModeEnd last → (size : ℕ) × (last ≡ next.Send ModeEnd size)
+  repeated_is : {last : Result Next Refusal} → Repeated ModeEnd last → (size : ℕ) × (last ≡ Ok (next.Send ModeEnd size))
   repeated_is (again {size = size}) = (size, refl)
 
   mode_end_twice : (gone : ℕ) (event : Event) (k : ℕ) → Right count tries (At ModeEnd gone)
@@ -219,11 +221,11 @@ module _ (image : List ℕ) (bank : Bank) (n tries : ℕ) (s : Startable image n
       (λ _ why q. no_way cc)
       e
 
-  twice_kept : (stand : Stand) (event : Event) → Right count tries stand → Twice (moves image bank n tries stand event) (next_of image bank n stand)
+  twice_kept : (stand : Stand) (event : Event) → Right count tries stand → Twice (moves image bank n tries stand event) (Ok (next_of image bank n stand))
   twice_kept stand event r k e rep = by stand r e (repeated_is rep).0 (repeated_is rep).1
     where
       by : (x : Stand) → Right count tries x → moves image bank n tries x event ≡ At ModeEnd k → (size : ℕ)
-          → next_of image bank n x ≡ next.Send ModeEnd size → 2 ≤ k
+          → ◌≡◌ {A = Result Next Refusal} (Ok (next_of image bank n x)) (Ok (next.Send ModeEnd size)) → 2 ≤ k
       by NotBegun q m size h = absurd q
       by (At name gone) q m size h =
           let same : name ≡ ModeEnd = cc in
@@ -233,7 +235,7 @@ module _ (image : List ℕ) (bank : Bank) (n tries : ℕ) (s : Startable image n
       by (GaveUp name why) q m size h = no_way cc
 
   -- 06, or 15 after a repeat, and it is finished
-  mode_end_done : (gone : ℕ) (event : Event) (last : Next) (datagram : List ℕ) (gs : List Given) → Right count tries (At ModeEnd gone)
+  mode_end_done : (gone : ℕ) (event : Event) (last : Result Next Refusal) (datagram : List ℕ) (gs : List Given) → Right count tries (At ModeEnd gone)
       → Twice (At ModeEnd gone) last → event ≡ Heard datagram → Settles image bank n ModeEnd last (response_of datagram)
       → final (moves image bank n tries (At ModeEnd gone) event) gs ≡ Finished
   mode_end_done gone event last datagram gs r twice e x =
@@ -249,32 +251,32 @@ module _ (image : List ℕ) (bank : Bank) (n tries : ℕ) (s : Startable image n
       by (inl a) = inl a
       by (inr d) = inr (d.0, le-leb 2 gone (twice gone refl d.1))
 
-  hit_done : (stand : Stand) (event : Event) (last : Next) (gs : List Given) → Right count tries stand → Twice stand last
-      → Hits image bank n ModeEnd last (turn (next_of image bank n stand) event) → final (moves image bank n tries stand event) gs ≡ Finished
+  hit_done : (stand : Stand) (event : Event) (last : Result Next Refusal) (gs : List Given) → Right count tries stand → Twice stand last
+      → Hits image bank n ModeEnd last (turn (Ok (next_of image bank n stand)) event) → final (moves image bank n tries stand event) gs ≡ Finished
   hit_done NotBegun event last gs r twice h = absurd r
   hit_done (At name gone) event last gs r twice h =
-      let at : next.Send name _ ≡ next.Send ModeEnd h.size = h.hand-is in
+      let at : (Ok (next.Send name _)) ≡ (Ok (next.Send ModeEnd h.size)) = h.hand-is in
       let same : name ≡ ModeEnd = cc in
       subst (λ (x : Name). final (moves image bank n tries (At x gone) event) gs ≡ Finished) (sym same)
       (mode_end_done gone event last h.datagram gs (subst (λ (x : Name). Right count tries (At x gone)) same r)
       (subst (λ (x : Name). Twice (At x gone) last) same twice)
       h.event-is h.settles)
   hit_done Finished event last gs r twice h = stays_finished image bank n tries s gs
-  hit_done (GaveUp name why) event last gs r twice h = let at : next.GaveUp name why ≡ next.Send ModeEnd h.size = h.hand-is in no_way cc
+  hit_done (GaveUp name why) event last gs r twice h = let at : (Ok (next.GaveUp name why)) ≡ (Ok (next.Send ModeEnd h.size)) = h.hand-is in no_way cc
 
-  always_from : (gs : List Given) (stand : Stand) (last : Next) → Right count tries stand → Twice stand last
+  always_from : (gs : List Given) (stand : Stand) (last : Result Next Refusal) → Right count tries stand → Twice stand last
       → SettledIn image bank n ModeEnd last (turns stand gs) → final stand gs ≡ Finished
   always_from [] stand last r twice x = absurd (nothing_settled image bank n ModeEnd refl x)
   always_from (g ∷ gs) stand last r twice x =
-      by (now_or_later image bank n ModeEnd (turn (next_of image bank n stand) g.event) (turns (moves image bank n tries stand g.event) gs) x refl)
-      (always_from gs (moves image bank n tries stand g.event) (next_of image bank n stand) (stays-right image bank n tries s stand g.event r)
+      by (now_or_later image bank n ModeEnd (turn (Ok (next_of image bank n stand)) g.event) (turns (moves image bank n tries stand g.event) gs) x refl)
+      (always_from gs (moves image bank n tries stand g.event) (Ok (next_of image bank n stand)) (stays-right image bank n tries s stand g.event r)
       (twice_kept stand g.event r))
     where
       rest : List Turn
       rest = turns (moves image bank n tries stand g.event) gs
 
-      by : Hits image bank n ModeEnd last (turn (next_of image bank n stand) g.event) ⊎ SettledIn image bank n ModeEnd (next_of image bank n stand) rest
-          → (SettledIn image bank n ModeEnd (next_of image bank n stand) rest → final (moves image bank n tries stand g.event) gs ≡ Finished)
+      by : Hits image bank n ModeEnd last (turn (Ok (next_of image bank n stand)) g.event) ⊎ SettledIn image bank n ModeEnd (Ok (next_of image bank n stand)) rest
+          → (SettledIn image bank n ModeEnd (Ok (next_of image bank n stand)) rest → final (moves image bank n tries stand g.event) gs ≡ Finished)
           → final (moves image bank n tries stand g.event) gs ≡ Finished
       by (inl h) ih = hit_done stand g.event last gs r twice h
       by (inr y) ih = ih y
@@ -283,14 +285,14 @@ pub settled_met : MeetsSettled night_sender
 settled_met =
     record {
       only = λ image bank n tries before gs s h hs e.
-          subst (EachSettled image bank n (names_of (packet_count image n)) next.NotBegun) (sym (run-turns image bank n tries s before gs h hs))
-          (only_from image bank n tries s gs ModeStart 1 next.NotBegun (begins-right image bank n tries s) (λ l. absurd (omega arith))
+          subst (EachSettled image bank n (names_of (packet_count image n)) (Ok next.NotBegun)) (sym (run-turns image bank n tries s before gs h hs))
+          (only_from image bank n tries s gs ModeStart 1 (Ok next.NotBegun) (begins-right image bank n tries s) (λ l. absurd (omega arith))
           (finished_told image bank n tries s (lastStand image bank n tries (At ModeStart 1) gs)
           (sym (run_ends image bank n tries s before gs h hs) ∙ e)));
       always = λ image bank n tries before gs s h hs e.
           run_ends image bank n tries s before gs h hs
-          ∙ ap (next_of image bank n)
-          (always_from image bank n tries s gs (At ModeStart 1) next.NotBegun (begins-right image bank n tries s) (λ gone q rep. no_way cc)
+          ∙ ap (λ (x : Stand). Ok (next_of image bank n x))
+          (always_from image bank n tries s gs (At ModeStart 1) (Ok next.NotBegun) (begins-right image bank n tries s) (λ gone q rep. no_way cc)
           (mode_end_in image bank n (ModeStart ∷ VersionInfo ∷ BankInfo ∷ WriteStart ∷ packets_from 0 (packet_count image n))
-          (subst (EachSettled image bank n (names_of (packet_count image n)) next.NotBegun) (run-turns image bank n tries s before gs h hs) e)));
+          (subst (EachSettled image bank n (names_of (packet_count image n)) (Ok next.NotBegun)) (run-turns image bank n tries s before gs h hs) e)));
     }

@@ -10,6 +10,7 @@ use native.Mathlib.Omega.{arith}
 use lib.Dec.{eqb}
 use lib.ListN.{length, replicate, length-replicate}
 use borrow.Author.Tests.{eqb-true, eqb-false}
+use Rattle.std.specs.Prelude.{Result, Ok}
 use Rattle.buffer.proofs.Bools.{split, no_way}
 use Rattle.crc.specs.Crc.{crc_of}
 use Rattle.layout.specs.declared.Bank.{Bank}
@@ -25,6 +26,7 @@ use Rattle.night.specs.declared.name.Name.{Name}
 use Rattle.night.specs.declared.name.Name.TheVariants.{ModeStart, Packet}
 use Rattle.night.specs.declared.record.Next.{Next}
 use Rattle.night.specs.declared.record.Next.TheVariants.{NotBegun, Send, Finished, GaveUp}
+use Rattle.night.specs.declared.record.Refusal.{Refusal}
 use Rattle.night.specs.declared.record.Why.TheVariants.{Tries}
 use Rattle.night.specs.Call.{Heard, Silence}
 use Rattle.demands.specs.Night.{
@@ -104,7 +106,7 @@ pub no_hasty : {S : Type 0} (m : NightSender S) → FinishedAtOnce m → MeetsSe
 no_hasty m f meets =
     let b = f.begin in by (meets.only b.image b.bank b.n b.tries b.before [] b.starts b.roomy none f.tells)
   where
-    by : EachSettled f.begin.image f.begin.bank f.begin.n (names_of (packet_count f.begin.image f.begin.n)) NotBegun [] → ⊥
+    by : EachSettled f.begin.image f.begin.bank f.begin.n (names_of (packet_count f.begin.image f.begin.n)) (Ok NotBegun) [] → ⊥
     by (one x xs) = nothing_settled f.begin.image f.begin.bank f.begin.n ModeStart refl x
 
 pub one_hasty : FinishedAtOnce finished_at_once
@@ -124,7 +126,7 @@ no_endless m e meets =
     (omega (arith, length-replicate k quiet)))
 
 endless_told : (image before : List ℕ) (gs : List Given)
-    → is_over (last_told (tells (Send ModeStart 5) before) (tolds never_ending image tt gs)).next ≡ false
+    → is_over (last_told (tells (Ok (Send ModeStart 5)) before) (tolds never_ending image tt gs)).next ≡ false
 endless_told image before [] = refl
 endless_told image before (g ∷ gs) = endless_told image g.buffer gs
 
@@ -135,7 +137,7 @@ one_endless = record { begin = some_begin; never = λ gs _. endless_told some_be
 
 module _ (image : List ℕ) (bank : Bank) (n p : ℕ) where
   -- a wrong CRC settles nothing
-  wrong_hit : (t : Turn) (datagram : List ℕ) {last : Next} → t.event ≡ Heard datagram → WrongCrc image (packet_sector image n p) (response_of datagram)
+  wrong_hit : (t : Turn) (datagram : List ℕ) {last : Result Next Refusal} → t.event ≡ Heard datagram → WrongCrc image (packet_sector image n p) (response_of datagram)
       → Hits image bank n (Packet p) last t → ⊥
   wrong_hit t datagram {last} e w h = by h.settles
     where
@@ -149,31 +151,31 @@ module _ (image : List ℕ) (bank : Bank) (n p : ℕ) where
           w.other cc
       by (inr d) = absurd d.0
 
-  never_right : {ts : List Turn} {last : Next} → OnlyWrong image n p ts → SettledIn image bank n (Packet p) last ts → ⊥
+  never_right : {ts : List Turn} {last : Result Next Refusal} → OnlyWrong image n p ts → SettledIn image bank n (Packet p) last ts → ⊥
   never_right no_turn x = nothing_settled image bank n (Packet p) refl x
   never_right (elsewhere {t = t} {ts = ts} h os) x = by (now_or_later image bank n (Packet p) t ts x refl) (λ y. never_right os y)
     where
-      by : {last : Next} → Hits image bank n (Packet p) last t ⊎ SettledIn image bank n (Packet p) t.hand ts
+      by : {last : Result Next Refusal} → Hits image bank n (Packet p) last t ⊎ SettledIn image bank n (Packet p) t.hand ts
           → (SettledIn image bank n (Packet p) t.hand ts → ⊥) → ⊥
       by (inl k) ih = h k.size k.hand-is
       by (inr y) ih = ih y
   never_right (silence {hand = hand} {ts = ts} os) x = by (now_or_later image bank n (Packet p) (turn hand Silence) ts x refl) (λ y. never_right os y)
     where
-      by : {last : Next} → Hits image bank n (Packet p) last (turn hand Silence) ⊎ SettledIn image bank n (Packet p) hand ts
+      by : {last : Result Next Refusal} → Hits image bank n (Packet p) last (turn hand Silence) ⊎ SettledIn image bank n (Packet p) hand ts
           → (SettledIn image bank n (Packet p) hand ts → ⊥) → ⊥
       by (inl k) ih = let e : Silence ≡ Heard k.datagram = k.event-is in no_way cc
       by (inr y) ih = ih y
   never_right (wrong {hand = hand} {datagram = datagram} {ts = ts} w os) x =
       by (now_or_later image bank n (Packet p) (turn hand (Heard datagram)) ts x refl) (λ y. never_right os y)
     where
-      by : {last : Next} → Hits image bank n (Packet p) last (turn hand (Heard datagram)) ⊎ SettledIn image bank n (Packet p) hand ts
+      by : {last : Result Next Refusal} → Hits image bank n (Packet p) last (turn hand (Heard datagram)) ⊎ SettledIn image bank n (Packet p) hand ts
           → (SettledIn image bank n (Packet p) hand ts → ⊥) → ⊥
       by (inl k) ih = wrong_hit (turn hand (Heard datagram)) datagram refl w k
       by (inr y) ih = ih y
 
 -- packet p among the names, behind the four first
 packet_in : (image : List ℕ) (bank : Bank) (n p : ℕ) {ts : List Turn} → p < packet_count image n
-    → EachSettled image bank n (names_of (packet_count image n)) NotBegun ts → SettledIn image bank n (Packet p) NotBegun ts
+    → EachSettled image bank n (names_of (packet_count image n)) (Ok NotBegun) ts → SettledIn image bank n (Packet p) (Ok NotBegun) ts
 packet_in image bank n p h (one a (one b (one c (one d es)))) =
     packet_among image bank n 0 (packet_count image n) p (omega arith) (omega arith) es
 
@@ -216,7 +218,7 @@ all_wrong m image n p datagram buffer w (suc k) o =
 
 heedless_ends : (image : List ℕ) (bank : Bank) (n : ℕ) (g : Given) (before : List ℕ) (names : List Name)
     → (let o : Told Going = going_on bank n image before names in
-    (last_told o (tolds heedless image o.record_then (replicate (length names) g))).next ≡ Finished)
+    (last_told o (tolds heedless image o.record_then (replicate (length names) g))).next ≡ Ok Finished)
 heedless_ends image bank n g before [] = refl
 heedless_ends image bank n g before (name ∷ names) = heedless_ends image bank n g g.buffer names
 
@@ -232,7 +234,7 @@ one_skipper =
       events = wrong_answers b.image b.n;
       roomy = roomy_all (count + 6) g (omega (arith, length-replicate {A = ℕ} room 0));
       finishes =
-          subst (λ (k : ℕ). ends_from heedless b (replicate k g) ≡ Finished) many
+          subst (λ (k : ℕ). ends_from heedless b (replicate k g) ≡ Ok Finished) many
           (heedless_ends b.image b.bank b.n g b.before (names_of count));
       packet = 0;
       there = b.starts.some;
@@ -248,16 +250,16 @@ module _ (image : List ℕ) (bank : Bank) (n : ℕ) (Rest : List Turn → Type 0
   -- the turns of a request that was at hand so often, and how often it went out
   record Vain·Head (left : ℕ) (t : Turn) (rest : List Turn) : Type 0 where
     size : ℕ
-    hand-is : t.hand ≡ Send name size
+    hand-is : t.hand ≡ Ok (Send name size)
     fewer : ℕ
     left_is : left ≡ suc fewer
     vain : InVain image bank n Rest name fewer t.hand rest
 
-  vain_head : {left : ℕ} {last : Next} {ts : List Turn} (t : Turn) (rest : List Turn) → InVain image bank n Rest name left last ts → ts ≡ t ∷ rest
+  vain_head : {left : ℕ} {last : Result Next Refusal} {ts : List Turn} (t : Turn) (rest : List Turn) → InVain image bank n Rest name left last ts → ts ≡ t ∷ rest
       → (left ≡ 0) ⊎ Vain·Head left t rest
   vain_head t rest (enough _) e = inl refl
   vain_head t rest (in-vain {k = k} {size = size} {event = event} {rest = us} spent v) e =
-      let same : turn (Send name size) event ≡ t = cc in
+      let same : turn (Ok (Send name size)) event ≡ t = cc in
       let rests : us ≡ rest = cc in
       inr
       (record {
@@ -268,7 +270,7 @@ module _ (image : List ℕ) (bank : Bank) (n : ℕ) (Rest : List Turn → Type 0
         vain = subst (InVain image bank n Rest name k t.hand) rests (subst (λ (u : Turn). InVain image bank n Rest name k u.hand us) same v);
       })
 
-  vain_none : {left : ℕ} {last : Next} {ts : List Turn} → InVain image bank n Rest name left last ts → ts ≡ [] → left ≡ 0
+  vain_none : {left : ℕ} {last : Result Next Refusal} {ts : List Turn} → InVain image bank n Rest name left last ts → ts ≡ [] → left ≡ 0
   vain_none (enough _) e = refl
   vain_none (in-vain spent v) e = no_way cc
 
@@ -276,7 +278,7 @@ module _ (image : List ℕ) (bank : Bank) (n : ℕ) (Rest : List Turn → Type 0
     rest : ℕ
     times-rest : Times name rest os
     no_more : rest ≤ times
-    counts : (size : ℕ) → o.next ≡ Send name size → times ≡ suc rest
+    counts : (size : ℕ) → o.next ≡ Ok (Send name size) → times ≡ suc rest
 
   times_head : {S : Type 0} {times : ℕ} {l : List (Told S)} (o : Told S) (os : List (Told S)) → Times name times l → l ≡ o ∷ os
       → Times·Head times o os
@@ -295,7 +297,7 @@ module _ (image : List ℕ) (bank : Bank) (n : ℕ) (Rest : List Turn → Type 0
       record { rest = k; times-rest = subst (Times name k) rests t; no_more = omega arith; counts = λ size _. refl }
 
   module _ {S : Type 0} (m : NightSender S) where
-    vain-counted : (gs : List Given) (o : Told S) (left times : ℕ) {last : Next} → InVain image bank n Rest name left last (turns_of m image o gs)
+    vain-counted : (gs : List Given) (o : Told S) (left times : ℕ) {last : Result Next Refusal} → InVain image bank n Rest name left last (turns_of m image o gs)
         → Times name times (o ∷ tolds m image o.record_then gs) → left ≤ times
     vain-counted [] o left times v t = let none_left = vain_none v refl in omega arith
     vain-counted (g ∷ gs) o left times v t =
@@ -306,7 +308,7 @@ module _ (image : List ℕ) (bank : Bank) (n : ℕ) (Rest : List Turn → Type 0
         by h.rest h.counts (λ fewer x. vain-counted gs next-told fewer h.rest x h.times-rest)
         (vain_head (turn o.next g.event) ts v refl)
       where
-        by : (rest : ℕ) → ((size : ℕ) → o.next ≡ Send name size → times ≡ suc rest)
+        by : (rest : ℕ) → ((size : ℕ) → o.next ≡ Ok (Send name size) → times ≡ suc rest)
             → ((fewer : ℕ) → InVain image bank n Rest name fewer o.next (turns_of m image (m.event o.record_then g.event image g.buffer) gs) → fewer ≤ rest)
             → (left ≡ 0) ⊎ Vain·Head left (turn o.next g.event) (turns_of m image (m.event o.record_then g.event image g.buffer) gs)
             → left ≤ times
@@ -315,7 +317,7 @@ module _ (image : List ℕ) (bank : Bank) (n : ℕ) (Rest : List Turn → Type 0
             let less : k.fewer ≤ rest = ih k.fewer k.vain in
             omega (arith, k.left_is, counts k.size k.hand-is)
 
-    tried-counted : (tries : ℕ) (gs : List Given) (o : Told S) (times : ℕ) {last : Next} {ts : List Turn} → TriedInVain image bank n Rest name tries last ts
+    tried-counted : (tries : ℕ) (gs : List Given) (o : Told S) (times : ℕ) {last : Result Next Refusal} {ts : List Turn} → TriedInVain image bank n Rest name tries last ts
         → ts ≡ turns_of m image o gs → Times name times (o ∷ tolds m image o.record_then gs) → tries ≤ times
     tried-counted tries gs o times {last} (from-here new v) e t = vain-counted gs o tries times (subst (InVain image bank n Rest name tries last) e v) t
     tried-counted tries [] o times (from-later x) e t = no_way cc
@@ -331,7 +333,7 @@ no_early m k meets =
     let b = k.begin in
     let few = k.fewer in
     let many : b.tries ≤ k.times =
-    tried-counted b.image b.bank b.n (AllTold (GaveUp k.name Tries)) k.name m b.tries k.events (m.start b.image b.bank b.n b.tries b.before) k.times
+    tried-counted b.image b.bank b.n (AllTold (Ok (GaveUp k.name Tries))) k.name m b.tries k.events (m.start b.image b.bank b.n b.tries b.before) k.times
     (meets.why-tries b.image b.bank b.n b.tries b.before k.events k.name b.starts b.roomy k.roomy k.gives_up)
     refl k.counted in
     absurd (omega arith)
@@ -345,6 +347,6 @@ one_early =
       name = ModeStart;
       gives_up = refl;
       times = 0;
-      counted = another (λ size e. let q : GaveUp ModeStart Tries ≡ Send ModeStart size = e in no_way cc) no_time;
+      counted = another (λ size e. let q : (Ok (GaveUp ModeStart Tries)) ≡ (Ok (Send ModeStart size)) = e in no_way cc) no_time;
       fewer = omega (arith, some_begin.starts.low);
     }

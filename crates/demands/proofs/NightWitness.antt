@@ -6,6 +6,7 @@ use mathlib.Core.List.{List, [], ◌∷◌}
 use Prim.Native.Nat.{ℕ, suc, ◌-◌, ◌^◌, ◌≤◌, ◌<◌}
 use native.Mathlib.Omega.{arith}
 use lib.ListN.{length, replicate, length-replicate}
+use Rattle.std.specs.Prelude.{Ok}
 use Rattle.buffer.proofs.Bools.{split}
 use Rattle.layout.specs.declared.Bank.{Bank}
 use Rattle.layout.specs.declared.Bank.TheVariants.{Zero, One}
@@ -139,7 +140,7 @@ losing_night =
     let rs : List Round = losing a buffer names 0 in
     let roomies : RoomyRounds rs = losing_roomy a buffer buffer_room names 0 in
     let going : Goes address 2 2 names (2 - 1) 0 rs = losing_goes a buffer buffer_room address 2 comes_right names 0 in
-    let end : (rounds night_sender step_machine image (begins night_sender step_machine image One 2 2 buffer idle) rs).told.next ≡ Finished =
+    let end : (rounds night_sender step_machine image (begins night_sender step_machine image One 2 2 buffer idle) rs).told.next ≡ (Ok Finished) =
     arrival_met image One 2 2 buffer address idle rs starts buffer_room idle_waits (image_fit idle.client.fixed) (idle_small 2) going in
     record {
       image = image;

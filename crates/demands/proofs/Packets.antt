@@ -9,6 +9,7 @@ use native.Mathlib.Omega.{arith}
 use lib.Dec.{leb}
 use lib.ListN.{length, take, drop, replicate, length-replicate}
 use borrow.Author.Tests.{leb-true, eqb-true, lt-ltb, le-ltb, eq-eqb, le-leb}
+use Rattle.std.specs.Prelude.{Result, Ok}
 use Rattle.buffer.specs.Place.{front_of}
 use Rattle.buffer.proofs.Bools.{and_left, and_right, and_both}
 use Rattle.buffer.proofs.Places.{front_take, front_drop}
@@ -18,8 +19,7 @@ use Rattle.frame.specs.declared.read.Frame.TheVariants.{Control, Write}
 use Rattle.frame.proofs.Writing.{length_write}
 use Rattle.layout.specs.Layout.{good_n, sector_of}
 use Rattle.layout.specs.Said.{Said, value}
-use Rattle.sender.specs.declared.made.Made.{Made}
-use Rattle.sender.specs.declared.made.Made.TheVariants.{Frame}
+use Rattle.sender.specs.declared.made.Refusal.{Refusal}
 use Rattle.sender.specs.Made.{room, made_said, buffer_after}
 use Rattle.sender.specs.Packet.{packet_count, packet_sector, footer_of, packet_frame, image_good, packet_made}
 use Rattle.sender.proofs.Image.{packet_read, packet_data}
@@ -42,7 +42,7 @@ module _ (img : List ℕ) (n p : ℕ) (before : List ℕ) (g : good_n n ≡ true
   sized = eqb-true (length img) (512 * n) (and_left (image_good img n) (leb room (length before)) l)
 
   module _ (h : p < packet_count img n) where
-    made_is : packet_made img n p (length before) ≡ Frame (length (packet_frame img n p))
+    made_is : packet_made img n p (length before) ≡ Ok (length (packet_frame img n p))
     unfolding packet_made
     made_is = rw (g, l, lt-ltb p (packet_count img n) h)
 
@@ -50,7 +50,7 @@ module _ (img : List ℕ) (n p : ℕ) (before : List ℕ) (g : good_n n ≡ true
     frame-long = packet_long img n p sized h
 
     buffer_is : (packet_maker img n p before).buffer ≡ front_of before (packet_frame img n p)
-    buffer_is = ap (λ (m : Made). buffer_after m before (packet_frame img n p)) made_is
+    buffer_is = ap (λ (m : Result ℕ Refusal). buffer_after m before (packet_frame img n p)) made_is
 
     front_is : take (length (packet_frame img n p)) (packet_maker img n p before).buffer ≡ packet_frame img n p
     front_is =

@@ -7,6 +7,7 @@ use Prim.Native.Nat.{ℕ, ◌≤◌}
 use native.Mathlib.Omega.{arith}
 use lib.ListN.{length, take, drop, length-append}
 use borrow.Author.Tests.{le-leb, lt-leb}
+use Rattle.std.specs.Prelude.{Result, Ok}
 use Rattle.buffer.specs.Number.{bytes_of}
 use Rattle.buffer.specs.Place.{front_of}
 use Rattle.buffer.proofs.Numbers.{length_bytes}
@@ -14,8 +15,7 @@ use Rattle.buffer.proofs.Places.{front_take, front_drop}
 use Rattle.commands.specs.Command.{request_code}
 use Rattle.frame.proofs.Writing.{length_control}
 use Rattle.layout.specs.Layout.{start_of, end_of}
-use Rattle.sender.specs.declared.made.Made.{Made}
-use Rattle.sender.specs.declared.made.Made.TheVariants.{Frame}
+use Rattle.sender.specs.declared.made.Refusal.{Refusal}
 use Rattle.sender.specs.declared.request.Request.{Request}
 use Rattle.sender.specs.declared.request.Request.TheVariants.{ModeStart, BankInfo, VersionInfo, WriteStart, WriteEnd, ModeEnd}
 use Rattle.sender.specs.Made.{room, made_said, room_for, buffer_after}
@@ -36,12 +36,12 @@ pub short : (request : Request) → length (request_frame request) ≤ room
 short request = omega (arith, length_control (request_code (command_of request)) (asks_for request), few request)
 
 module _ (request : Request) (before : List ℕ) (g : given_good request ≡ true) (h : room ≤ length before) where
-  made_is : request_made request (length before) ≡ Frame (length (request_frame request))
+  made_is : request_made request (length before) ≡ Ok (length (request_frame request))
   unfolding request_made room_for
   made_is = rw (g, le-leb room (length before) h)
 
   buffer_is : (request_maker request before).buffer ≡ front_of before (request_frame request)
-  buffer_is = ap (λ (m : Made). buffer_after m before (request_frame request)) made_is
+  buffer_is = ap (λ (m : Result ℕ Refusal). buffer_after m before (request_frame request)) made_is
 
   is_asked : RequestRight request before (request_maker request before)
   is_asked =

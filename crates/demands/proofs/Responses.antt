@@ -1,6 +1,6 @@
 -- The sender's reader of responses is as asked.
 -- Assumes nothing.
-use Rattle.std.specs.Prelude.{Option, Some, None, option_map}
+use Rattle.std.proofs.Common.{Option, Some, None, option_map}
 use mathlib.Core.Path.{◌≡◌, refl, sym, ap, ap₂, subst, ◌∙◌}
 use mathlib.Core.Bool.{Bool, true, false, ◌&&◌, cond}
 use mathlib.Core.List.{List, [], ◌∷◌, ◌++◌}
@@ -25,8 +25,6 @@ use Rattle.frame.proofs.RoundTrip.{control_only, write_only}
 use Rattle.frame.proofs.Told.{Told, told}
 use Rattle.layout.specs.declared.Bank.{Bank}
 use Rattle.layout.specs.Said.{number, result, paper_number}
-use Rattle.commands.specs.declared.Coded.{Coded}
-use Rattle.commands.specs.declared.Coded.TheVariants.{Unknown, Is}
 use Rattle.commands.specs.declared.Command.{Command}
 use Rattle.commands.specs.declared.Command.TheVariants.{ModeStart, BankInfo, VersionInfo, WriteStart, WriteEnd, ModeEnd}
 use Rattle.commands.specs.Command.{response_code, added_bytes, answered_by}
@@ -150,10 +148,10 @@ module _ (code : ℕ) (ps : List ℕ) (small : Bytes ps) where
   abbrev P : Option Response → Type 0
   P = Gives (control_frame code ps)
 
-  coded : (coding : Coded) → ((command : Command) → coding ≡ Is command → answer_code command ≡ code) → P (answer_of coding ps)
+  coded : (coding : Option Command) → ((command : Command) → coding ≡ Some command → answer_code command ≡ code) → P (answer_of coding ps)
   unfolding own_of
-  coded Unknown c = gives_six (control_frame code ps)
-  coded (Is command) c =
+  coded None c = gives_six (control_frame code ps)
+  coded (Some command) c =
       let r : ℕ = byte_at ps 0 in
       split P (may_carry false r)
       (λ _. split P (eqb (length ps) (added_of command r + 1))

@@ -10,6 +10,7 @@ use lib.Dec.{eqb}
 use lib.ListN.{length, take, drop, length-append, replicate-append-replicate}
 use lib.Seq.{sets, sets-eq, length-take-le, take-add, take_at, drop_at, take_all, get_or-drop}
 use borrow.Author.Tests.{eqb-true, eqb-false}
+use Rattle.std.specs.Prelude.{Ok}
 use Rattle.buffer.specs.Compare.{blank_of}
 use Rattle.buffer.specs.Number.{bytes_of}
 use Rattle.buffer.proofs.Comparing.{blank_true}
@@ -21,8 +22,9 @@ use Rattle.layout.proofs.Layouts.{start_small}
 use Rattle.lines.specs.Line.{lines}
 use Rattle.hex_text.specs.declared.record.State.{State}
 use Rattle.hex_text.specs.declared.record.Found.TheVariants.{Data, Upper}
-use Rattle.hex_text.specs.declared.read.Outcome.TheVariants.{Through}
-use Rattle.hex_text.specs.Read.{state_after, read_lines, at_start}
+use Rattle.hex_text.specs.Spell.{line_bytes}
+use Rattle.hex_text.specs.Record.{record_data}
+use Rattle.hex_text.specs.Read.{state_after, image_after, read_lines, at_start}
 use Rattle.rows.specs.Text.{row_size, row_of, row_address, row_upper, data_line, upper_line, end_line, told_before, upper_text, row_text, rows_text, text_of}
 use Rattle.rows.proofs.Rows.{upper_same, upper_other, text_blank, text_told, told_next, row_length, told_stays}
 use Rattle.demands.specs.Written.{AreBytes}
@@ -94,7 +96,7 @@ module _ (image : List ℕ) (bank : Bank) (n : ℕ) (long : length image ≡ sec
     unfolding read_lines
     take-upper upper h = rw (line_first 0 4 (bytes_of 2 upper) text, found_upper base size s goes upper h)
 
-    take-end : read_lines base size s m held (lines end_line) ≡ record { outcome = Through; image = held }
+    take-end : read_lines base size s m held (lines end_line) ≡ record { outcome = Ok tt; image = held }
     unfolding read_lines lines
     take-end =
         let e : lines end_line ≡ line_in 0 1 [] ∷ [] = ap lines (sym (append-nil end_line)) ∙ line_first 0 1 [] [] in
@@ -111,7 +113,13 @@ module _ (image : List ℕ) (bank : Bank) (n : ℕ) (long : length image ≡ sec
         let l : length row ≡ row_size = row_length image base k inside in
         let found = found_data base size s goes address row (row_bytes k) (omega arith) (omega arith) u (omega arith) (omega arith) after in
         let e : address - base ≡ k * row_size = omega arith in
-        rw (line_first address 0 row text, found, data_is address 0 row (omega arith) (omega arith) (row_bytes k), e, l)
+        let stored : record_data (length row) (line_bytes (line_in address 0 row)) ≡ row = data_is address 0 row (omega arith) (omega arith) (row_bytes k) in
+        let put : image_after base (line_in address 0 row) (Data address (length row)) held ≡ sets held (k * row_size) row = rw (stored, e) in
+        let go :
+        read_lines base size s m held (line_in address 0 row ∷ lines text)
+        ≡ read_lines base size (state_after (Data address (length row)) s) (m + 1)
+        (image_after base (line_in address 0 row) (Data address (length row)) held) (lines text) = rw found in
+        rw (line_first address 0 row text) (go ∙ rw (put, l))
 
   -- and an upper half told before, or not if it was told last
   record Told (upper : ℕ) (s : State) (m : ℕ) (held text more : List ℕ) : Type 0 where
@@ -219,10 +227,10 @@ module _ (image : List ℕ) (bank : Bank) (n : ℕ) (long : length image ≡ sec
       let none : size - k * row_size ≡ 0 = omega arith in
       rw (none, take_all (k * row_size) image (omega arith)) (append-nil image)
 
-  pub text_back : read_lines base size at_start 1 (blanks size) (lines (text_of image bank)) ≡ record { outcome = Through; image = image }
+  pub text_back : read_lines base size at_start 1 (blanks size) (lines (text_of image bank)) ≡ record { outcome = Ok tt; image = image }
   unfolding text_of
   text_back =
       let k : ℕ = length image / row_size in
       let e : k * row_size ≡ length image = omega arith in
       let r = reach k (omega arith) end_line in
-      r.reads ∙ take-end r.state r.goes r.number (filled k) [] ∙ ap (λ (l : List ℕ). record { outcome = Through; image = l }) (all_filled k e)
+      r.reads ∙ take-end r.state r.goes r.number (filled k) [] ∙ ap (λ (l : List ℕ). record { outcome = Ok tt; image = l }) (all_filled k e)

@@ -8,6 +8,7 @@ use Prim.Native.Nat.{ℕ, ◌-◌}
 use lib.Dec.{eqb}
 use lib.ListN.{length, get_or}
 use borrow.Author.Tests.{not-false}
+use Rattle.std.specs.Prelude.{None, Some}
 use Rattle.buffer.proofs.Bools.{and_false}
 use Rattle.buffer.specs.Compare.{same_of}
 use Rattle.buffer.proofs.Comparing.{same_self, same_true}
@@ -18,14 +19,14 @@ use Rattle.frame.specs.declared.read.Footer.{Footer}
 use Rattle.frame.specs.declared.read.Frame.TheVariants.{Control, Write}
 use Rattle.layout.specs.Layout.{good_n, bank_size, bank_number, other_of}
 use Rattle.layout.specs.Pair.{bank_in}
-use Rattle.client.specs.declared.notice.Kind.TheVariants.{Started, Ended}
+use Rattle.client.specs.declared.notice.Notice.TheVariants.{Started, Ended}
 use Rattle.client.specs.declared.record.Client.{Client}
 use Rattle.client.specs.declared.record.Latest.TheVariants.{Good, Otherwise}
 use Rattle.exchange.specs.declared.state.State.{State}
 use Rattle.exchange.specs.declared.state.State.TheVariants as state
 use Rattle.exchange.specs.Answer.{version_bytes}
 use Rattle.exchange.specs.State.{is_closed, is_open}
-use Rattle.client.specs.Notice.{no_notice, notice_with, latest_number}
+use Rattle.client.specs.Notice.{latest_number}
 use Rattle.client.specs.Perform.{fit_of}
 use Rattle.decision.specs.Plan.{lent_good, is_worn, any_worn, values_good, addresses_good}
 use Rattle.client.specs.Record.{starting, initiated, opened, mode_ended, begun, ended}
@@ -63,7 +64,7 @@ module _ (b : Board) (call : LentCall) (h : Heard b call) where
   Own = from_stranger b.client call.address ≡ false
 
   pub write_start : Own → b.client.state ≡ state.Control → read_of call.datagram ≡ Some (Control 0x40 8) → addresses_good b.client.fixed.n b.client.fixed.running (number_at 4 (parameters_in call.datagram) 0) (number_at 4 (parameters_in call.datagram) 4) ≡ true
-      → step_machine b (Datagram call) ≡ changed b call (begun (starting b.client.fixed.running b.client)) no_notice (control_frame 0x70 (0x06 ∷ []))
+      → step_machine b (Datagram call) ≡ changed b call (begun (starting b.client.fixed.running b.client)) None (control_frame 0x70 (0x06 ∷ []))
   write_start o s r a =
       let t : accepted_in b.client.state 0x40 ≡ true = ap (λ (x : State). accepted_in x 0x40) s in
       comes b (Datagram call) _ (rw (h.good, h.runs, h.lengths, h.live, r, o, t, a))
@@ -88,13 +89,13 @@ module _ (b : Board) (call : LentCall) (h : Heard b call) where
       comes b (Datagram call) _ (rw (h.good, h.runs, h.lengths, h.live, r, o, t, w, f))
 
   pub mode_start : b.client.state ≡ state.Idle → read_of call.datagram ≡ Some (Control 0x61 0)
-      → step_machine b (Datagram call) ≡ changed b call (opened call.address b.client) (notice_with Started 0 call.address) (control_frame 0x71 (0x06 ∷ []))
+      → step_machine b (Datagram call) ≡ changed b call (opened call.address b.client) (Some (Started call.address)) (control_frame 0x71 (0x06 ∷ []))
   mode_start s r =
       let t : accepted_in b.client.state 0x61 ≡ true = ap (λ (x : State). accepted_in x 0x61) s in
       comes b (Datagram call) _ (rw (h.good, h.runs, h.lengths, h.live, r, ap is_open s, t))
 
   pub mode_end : Own → b.client.state ≡ state.Control → read_of call.datagram ≡ Some (Control 0x64 0)
-      → step_machine b (Datagram call) ≡ changed b call (mode_ended b.client) (notice_with Ended (latest_number b.client.latest) call.address) (control_frame 0x74 (0x06 ∷ []))
+      → step_machine b (Datagram call) ≡ changed b call (mode_ended b.client) (Some (Ended (latest_number b.client.latest) call.address)) (control_frame 0x74 (0x06 ∷ []))
   mode_end o s r =
       let t : accepted_in b.client.state 0x64 ≡ true = ap (λ (x : State). accepted_in x 0x64) s in
       comes b (Datagram call) _ (rw (h.good, h.runs, h.lengths, h.live, r, o, t))

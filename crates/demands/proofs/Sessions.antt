@@ -22,9 +22,8 @@ use Rattle.layout.specs.Layout.{most_sectors, good_n, bank_size, other_of}
 use Rattle.layout.specs.Pair.{bank_in}
 use Rattle.layout.proofs.Layouts.{good_high}
 use Rattle.layout.proofs.Pairs.{bank_there}
-use Rattle.exchange.specs.declared.answer.Answer.{Answer}
 use Rattle.exchange.specs.declared.state.State.TheVariants as state
-use Rattle.exchange.specs.Answer.{answer_bytes}
+use Rattle.exchange.specs.Answer.{Reply, reply_bytes}
 use Rattle.exchange.specs.State.{is_closed}
 use Rattle.exchange.proofs.Saying.{told_whole}
 use Rattle.decision.specs.declared.plan.Fixed.{Fixed}
@@ -104,13 +103,13 @@ module _ (b : Board) (call : LentCall) where
   abbrev next : Board
   next = (call_outcome b call (called b call)).board
 
-  pub said_is : said (call_outcome b call (called b call)) ≡ answer_bytes (called b call).answer
+  pub said_is : said (call_outcome b call (called b call)) ≡ reply_bytes (called b call).answer
   said_is =
       let fits = step_fits b.client _ (lent_target b call) call.marks call.address call.buffer call.datagram in
       ap₂ (λ (k : ℕ) (l : List ℕ). take k l)
       (step_told b.client _ (lent_target b call) call.marks call.address call.buffer call.datagram ∙ told_whole (called b call).answer _ fits)
       (step_said b.client _ (lent_target b call) call.marks call.address call.buffer call.datagram)
-      ∙ front_take call.buffer (answer_bytes (called b call).answer) fits
+      ∙ front_take call.buffer (reply_bytes (called b call).answer) fits
 
   stays : next.client.fixed ≡ b.client.fixed
   stays = step_stays b.client _ (lent_target b call) call.marks call.address call.buffer call.datagram
@@ -143,10 +142,10 @@ module _ (b : Board) (call : LentCall) where
 
   module _ (image : List ℕ) (shows : Shows b image) where
     abbrev now : List ℕ
-    now = exchanged n image call.datagram (answer_bytes r.answer)
+    now = exchanged n image call.datagram (reply_bytes r.answer)
 
     -- the bank as it was, the record's marks as they were
-    quietly : exchanged n image call.datagram (answer_bytes r.answer) ≡ image → r.target ≡ (lent_target b call)
+    quietly : exchanged n image call.datagram (reply_bytes r.answer) ≡ image → r.target ≡ (lent_target b call)
         → (r.client.state ≡ state.Write → (b.client.state ≡ state.Write) × (r.client.received ≡ b.client.received))
         → Shows next now
     quietly e t w s =
@@ -193,11 +192,11 @@ module _ (b : Board) (call : LentCall) where
     keeps (ends result u a t x h) s = absurd (not_write state.Control refl (sym x ∙ s))
 
     -- the end leaves what the session showed
-    closes : Course b.client (lent_target b call) call.datagram r → ends_session (answer_bytes r.answer) ≡ true → sectors_in n next ≡ image
+    closes : Course b.client (lent_target b call) call.datagram r → ends_session (reply_bytes r.answer) ≡ true → sectors_in n next ≡ image
     closes (still q t w) e = absurd (false≢true (sym (quiet_end r.answer q) ∙ e))
-    closes (begins a t m h) e = absurd (false≢true (sym (ap (λ (x : Answer). ends_session (answer_bytes x)) a ∙ response_start_end) ∙ e))
+    closes (begins a t m h) e = absurd (false≢true (sym (ap (λ (x : Reply). ends_session (reply_bytes x)) a ∙ response_start_end) ∙ e))
     closes (stores sector write h v a t k) e =
-        absurd (false≢true (sym (ap (λ (x : Answer). ends_session (answer_bytes x)) a ∙ written_end sector 0x06 write (crc_of (padded_of (data_in call.datagram)))) ∙ e))
+        absurd (false≢true (sym (ap (λ (x : Reply). ends_session (reply_bytes x)) a ∙ written_end sector 0x06 write (crc_of (padded_of (data_in call.datagram)))) ∙ e))
     closes (ends result u a t x h) e =
         let p : r.target ≡ image = t ∙ lent_shows image shows h in
         let l : length r.target ≡ bank_size n = ap length t ∙ length_sweep (lent_target b call) n b.client.received ∙ h.whole in

@@ -8,6 +8,7 @@ use Prim.Native.Nat.{ℕ, zero, suc, ◌≤◌}
 use native.Mathlib.Omega.{arith}
 use lib.ListN.{get_or, replicate}
 use borrow.Author.Tests.{not-true}
+use Rattle.std.specs.Prelude.{Result, Ok}
 use Rattle.layout.specs.Layout.{good_n, whole_length, sector_of, end_of}
 use Rattle.buffer.specs.Compare.{same_of, blank_of}
 use Rattle.buffer.specs.Number.{number_of, bytes_of, number_at}
@@ -49,6 +50,7 @@ use Rattle.night.specs.declared.name.Name.TheVariants.{ModeEnd}
 use Rattle.night.specs.declared.record.Next.{Next}
 use Rattle.night.specs.declared.record.Next.TheVariants.{Finished, GaveUp}
 use Rattle.night.specs.declared.record.Night.{Night}
+use Rattle.night.specs.declared.record.Refusal.{Refusal}
 use Rattle.night.specs.declared.record.Why.TheVariants.{Tries}
 use Rattle.demands.specs.Board.{LentCall, Input, Initiate, Terminate, Datagram, said, Machine, after, step_machine}
 use Rattle.demands.specs.Night.{NightSender, night_sender, Startable}
@@ -238,11 +240,11 @@ module _ (machine : Machine) where
 -- ---- where they lead
 
 -- what the night sender was told, and the bank that starts next
-abbrev seen : Loop Night → Next × Bank
+abbrev seen : Loop Night → Result Next Refusal × Bank
 seen l = (l.told.next, l.board.client.next)
 
-both_end : (seen (last_of night_sender step_machine taken_night) ≡ (Finished, Zero))
-    × (seen (last_of night_sender takes_all undone_night) ≡ (GaveUp ModeEnd Tries, Zero))
+both_end : (seen (last_of night_sender step_machine taken_night) ≡ ((Ok Finished), Zero))
+    × (seen (last_of night_sender takes_all undone_night) ≡ ((Ok (GaveUp ModeEnd Tries)), Zero))
     × (unanswered takes_all (idle_board 1) (last_of night_sender takes_all undone_night).inputs ≡ true)
 unfolding image idle_board coming good_n whole_length sector_of end_of same_of blank_of number_of bytes_of number_at front_of feed crc_bit crc_bits crc_byte
     crc_more crc_of taken_away checksum_of checked_at read_control read_write read_of part_from parameters_in data_in footer_byte footer_in framed
@@ -261,17 +263,17 @@ pub taken_over : TakenOver night_sender step_machine
 taken_over =
     record {
       night = taken_night;
-      finished = ap (λ (s : Next × Bank). s.0) both_end.0;
-      not_next = λ e. not_one (sym (ap (λ (s : Next × Bank). s.1) both_end.0) ∙ e);
+      finished = ap (λ (s : Result Next Refusal × Bank). s.0) both_end.0;
+      not_next = λ e. not_one (sym (ap (λ (s : Result Next Refusal × Bank). s.1) both_end.0) ∙ e);
     }
 
 pub takes_all_undone : Undone night_sender takes_all
 takes_all_undone =
     record {
       night = undone_night;
-      it_is_in = ap (λ (s : Next × Bank). is_in s.0) both_end.1;
+      it_is_in = ap (λ (s : Result Next Refusal × Bank). is_in s.0) both_end.1;
       in_mode_lem = stays takes_all undone_night (idle_board 1) _ both_end.2;
-      not_next = λ e. not_one (sym (ap (λ (s : Next × Bank). s.1) both_end.1) ∙ e);
+      not_next = λ e. not_one (sym (ap (λ (s : Result Next Refusal × Bank). s.1) both_end.1) ∙ e);
     }
 
 pub takes_all_fails : MeetsNightAmong night_sender takes_all → ⊥

@@ -5,13 +5,13 @@ use mathlib.Core.Bool.{true}
 use mathlib.Core.List.{List, [], ◌∷◌, ◌++◌}
 use Prim.Native.Nat.{ℕ, ◌*◌}
 use lib.ListN.{length, replicate}
+use Rattle.std.specs.Prelude.{Ok}
 use Rattle.buffer.specs.Total.{total}
 use Rattle.layout.specs.declared.Bank.TheVariants.{Zero, One}
 use Rattle.layout.specs.Layout.{sector_size, good_n, start_of}
 use Rattle.layout.specs.Pair.{bank_in}
 use Rattle.lines.specs.Line.{lines}
 use Rattle.digits.specs.Digit.{value_of, is_digit}
-use Rattle.hex_text.specs.declared.read.Answer.TheVariants.{Accepted}
 use Rattle.hex_text.specs.Meaning.{Leaves}
 use Rattle.hex_text.specs.Spell.{byte_of, digit_bytes}
 use Rattle.hex_text.specs.Record.{digits_in, digits_whole, record_of, in_bank, data_at, typed, found_of}
@@ -52,7 +52,7 @@ end_line =
 unfoldable pub text : List ℕ
 text = upper_line ++ table_line ++ body_line ++ end_line
 
-text_read_lem : text_read text One 2 (replicate 1024 0) ≡ record { answer = Accepted; image = image }
+text_read_lem : text_read text One 2 (replicate 1024 0) ≡ record { answer = Ok tt; image = image }
 unfolding text upper_line table_line body_line end_line image text_read good_n read_lines lines found_of record_of digits_whole digits_in typed data_at
     in_bank digit_bytes byte_of is_digit value_of total
 text_read_lem = refl
@@ -65,7 +65,7 @@ pub text_witness : Leaves (start_of One) (sector_size * 2) (lines text) (length 
     (Datagram (calling (request_frame WriteEnd)))).board.pair)
 unfolding witness_board
 text_witness =
-    let read : text_read text One 2 (replicate 1024 0) ≡ record { answer = Accepted; image = image } = text_read_lem in
+    let read : text_read text One 2 (replicate 1024 0) ≡ record { answer = Ok tt; image = image } = text_read_lem in
     let fit : fit_of (fixed_of 2 Zero 1 0 0) (text_read text One 2 (replicate 1024 0)).image ≡ true =
     ap (λ (r : Reading). fit_of (fixed_of 2 Zero 1 0 0) r.image) read ∙ image_fit (fixed_of 2 Zero 1 0 0) in
     let two : packet_count (text_read text One 2 (replicate 1024 0)).image 2 ≡ 2 =

@@ -6,6 +6,7 @@ use mathlib.Core.List.{List, [], ◌∷◌}
 use Prim.Native.Nat.{ℕ, ◌*◌}
 use native.Mathlib.Omega.{arith}
 use lib.ListN.{length, replicate, length-replicate}
+use Rattle.std.specs.Prelude.{Result, Ok, Err}
 use Rattle.buffer.specs.Total.{total}
 use Rattle.buffer.proofs.Bools.{no_way}
 use Rattle.layout.specs.declared.Bank.{Bank}
@@ -14,8 +15,8 @@ use Rattle.layout.specs.Layout.{sector_size, good_n, start_of}
 use Rattle.layout.specs.Said.{fault}
 use Rattle.lines.specs.Line.{lines}
 use Rattle.hex_text.specs.declared.fault.Refusal.{Refusal}
-use Rattle.hex_text.specs.declared.read.Answer.{Answer}
-use Rattle.hex_text.specs.declared.read.Answer.TheVariants.{BadN, BadLength, Refused, Accepted}
+use Rattle.hex_text.specs.declared.read.ReadError.{ReadError}
+use Rattle.hex_text.specs.declared.read.ReadError.TheVariants.{BadN, BadLength, Line}
 use Rattle.digits.specs.Digit.{value_of, is_digit}
 use Rattle.hex_text.specs.Spell.{byte_of, digit_bytes}
 use Rattle.hex_text.specs.Meaning.{FirstBroken}
@@ -81,11 +82,11 @@ record Told (tells : Refusal → Refusal) (k l b : ℕ) : Type 0 where
   line_is : (tells why).line ≡ l
   byte_is : (tells why).byte ≡ b
 
-told : (tells : Refusal → Refusal) (answer : Answer) {k l b : ℕ} → answer_said (retold tells answer) ≡ fault k l b → Told tells k l b
-told tells BadN e = no_way (cc)
-told tells BadLength e = no_way (cc)
-told tells (Refused r) e = record { why = r; kind_is = cc; line_is = cc; byte_is = cc }
-told tells Accepted e = no_way (cc)
+told : (tells : Refusal → Refusal) (answer : Result (Unit {0}) ReadError) {k l b : ℕ} → answer_said (retold tells answer) ≡ fault k l b → Told tells k l b
+told tells (Err BadN) e = no_way (cc)
+told tells (Err BadLength) e = no_way (cc)
+told tells (Err (Line r)) e = record { why = r; kind_is = cc; line_is = cc; byte_is = cc }
+told tells (Ok done) e = no_way (cc)
 
 -- one of that kind
 pub invents_line : (names : Bank → ℕ → List ℕ → ℕ) → InventsLine (line_inventor names)

@@ -7,6 +7,7 @@ use Prim.Native.Nat.{ℕ, ◌≤◌}
 use native.Mathlib.Omega.{arith}
 use lib.ListN.{length, get_or, take, replicate, length-replicate, get_or-replicate}
 use lib.Seq.{get_or-take}
+use Rattle.std.specs.Prelude.{None}
 use Rattle.frame.specs.Frame.{framed, control_frame}
 use Rattle.layout.specs.declared.Bank.{Bank}
 use Rattle.layout.specs.declared.Bank.TheVariants.{Zero, One}
@@ -16,7 +17,6 @@ use Rattle.sender.specs.declared.request.Request.TheVariants.{WriteStart, WriteE
 use Rattle.sender.specs.Request.{request_frame}
 use Rattle.exchange.specs.declared.state.State.TheVariants as state
 use Rattle.decision.specs.declared.plan.Fixed.{Fixed}
-use Rattle.client.specs.Notice.{no_notice}
 use Rattle.client.specs.Perform.{fit_of}
 use Rattle.client.specs.Host.{fixed_of}
 use Rattle.client.specs.Record.{nobody, closed_client, in_state, starting, begun}
@@ -71,7 +71,7 @@ abbrev in_session : Board
 in_session = board (begun (starting Zero zeros.client)) zeros.pair
 
 session_begun : step_machine zeros (Datagram begins_small)
-    ≡ changed zeros begins_small (begun (starting Zero zeros.client)) no_notice (control_frame 0x70 (0x06 ∷ []))
+    ≡ changed zeros begins_small (begun (starting Zero zeros.client)) None (control_frame 0x70 (0x06 ∷ []))
 unfolding zeros begins_small small_call
 session_begun = begun_is zeros zeros_ready (small_call (request_frame (WriteStart One 1))) refl (small_comes (request_frame (WriteStart One 1)))
 

@@ -9,6 +9,7 @@ use lib.Dec.{eqb, leb}
 use lib.ListN.{length, get_or}
 use lib.Seq.{ext_get_or}
 use borrow.Author.Tests.{le-leb, leb-true, eq-eqb, eqb-true, eqb-false}
+use Rattle.std.specs.Prelude.{Ok, Option, Some, None}
 use Rattle.buffer.proofs.Bools.{no_way}
 use Rattle.buffer.proofs.Places.{front_take, front_drop}
 use Rattle.layout.specs.declared.Bank.{Bank}
@@ -16,12 +17,9 @@ use Rattle.layout.specs.Layout.{sector_size, good_n, whole_length, start_of}
 use Rattle.layout.specs.Said.{value, accepted}
 use Rattle.layout.proofs.Layouts.{whole_good}
 use Rattle.lines.specs.Line.{lines}
-use Rattle.hex_text.specs.declared.read.Outcome.TheVariants.{Through}
 use Rattle.hex_text.specs.Meaning.{HasByte, start_at, Leaves}
 use Rattle.hex_text.specs.Read.{LinesRead, lines_read, read_says, text_read}
 use Rattle.hex_text.proofs.Meaning.{accepted_kept}
-use Rattle.rows.specs.declared.text.Written.{Written}
-use Rattle.rows.specs.declared.text.Written.TheVariants.{BadLength, Text}
 use Rattle.rows.specs.Text.{text_of, length_of, written_of, buffer_after, written_said}
 use Rattle.rows.proofs.Texts.{whole_most}
 use Rattle.rows.proofs.Longest.{text_longest}
@@ -37,10 +35,10 @@ module _ (image : List ℕ) (bank : Bank) (before : List ℕ) where
 
   data Way : Type 0 where
     refused :
-        text_writer image bank before ≡ record { answer = BadLength; buffer = before }
+        text_writer image bank before ≡ record { answer = None; buffer = before }
         → (whole_length (length image) ≡ true → length text ≤ length before → ⊥) → Way
     written :
-        text_writer image bank before ≡ record { answer = Text (length text); buffer = buffer_after (Text (length text)) before text }
+        text_writer image bank before ≡ record { answer = Some (length text); buffer = buffer_after (Some (length text)) before text }
         → whole_length (length image) ≡ true → length text ≤ length before → Way
 
   way : Way
@@ -84,7 +82,7 @@ pub length_meets : MeetsLength length_of
 unfolding length_of
 length_meets image bank = by (whole_length (length image)) refl
   where
-    by : (w : Bool) → whole_length (length image) ≡ w → LengthRight image bank (cond w (Text (length (text_of image bank))) BadLength)
+    by : (w : Bool) → whole_length (length image) ≡ w → LengthRight image bank (cond w (Some (length (text_of image bank))) None)
     by true w =
         record {
           bad_length = λ f. let z = sym f ∙ w in no_way (cc);
@@ -93,7 +91,7 @@ length_meets image bank = by (whole_length (length image)) refl
         }
     by false w = record { bad_length = λ _. refl; told = λ f. let z = sym w ∙ f in no_way (cc); most = λ size q. no_way (cc) }
 
-pub enough : (tell : List ℕ → Bank → Written) (write : TextWriter) → MeetsLength tell → MeetsWriter write → Enough tell write
+pub enough : (tell : List ℕ → Bank → Option ℕ) (write : TextWriter) → MeetsLength tell → MeetsWriter write → Enough tell write
 enough tell write tells writes image bank before size said h = by (whole_length (length image)) refl
   where
     by : (w : Bool) → whole_length (length image) ≡ w → written_said (write image bank before).answer ≡ value size
@@ -138,7 +136,7 @@ module _ (image : List ℕ) (bank : Bank) (are : AreBytes image) (w : whole_leng
   long : length image ≡ sector_size * n
   long = let m = whole_most (length image) w in omega (arith, m.0)
 
-  back : lines_read (text_of image bank) bank n ≡ record { outcome = Through; image = image }
+  back : lines_read (text_of image bank) bank n ≡ record { outcome = Ok tt; image = image }
   back = let m = whole_most (length image) w in text_back image bank n long (omega (arith, m.1)) are
 
   good : good_n n ≡ true

@@ -20,6 +20,7 @@ use Rattle.digits.specs.Spelt.{digits_spelt}
 use Rattle.digits.proofs.Digits.{value_of_digit}
 use Rattle.digits.proofs.Spelt.{length_digits}
 use Rattle.lines.specs.Line.{front, lines}
+use Rattle.std.specs.Prelude.{Ok}
 use Rattle.hex_text.specs.declared.record.State.{State}
 use Rattle.hex_text.specs.declared.record.Found.TheVariants.{Data, Upper, End}
 use Rattle.hex_text.specs.Spell.{byte_of, digit_bytes, line_bytes}
@@ -159,21 +160,21 @@ module _ (address type : ℕ) (bytes : List ℕ) where
 
 -- WHAT IT SAYS, before the end record was seen
 module _ (base size : ℕ) (s : State) (goes : s.over ≡ false) where
-  pub found_end : found_of base size s (line_in 0 1 []) ≡ End
+  pub found_end : found_of base size s (line_in 0 1 []) ≡ Ok End
   unfolding typed
   found_end = says_is 0 1 [] (omega arith) (omega arith) bytes_none base size s goes
 
-  pub found_upper : (upper : ℕ) → upper < 65536 → found_of base size s (line_in 0 4 (bytes_of 2 upper)) ≡ Upper upper
+  pub found_upper : (upper : ℕ) → upper < 65536 → found_of base size s (line_in 0 4 (bytes_of 2 upper)) ≡ Ok (Upper upper)
   unfolding typed
   found_upper upper h =
       let e : upper / 256 % 256 * 256 + upper % 256 ≡ upper = omega arith in
       let b : AreBytes (upper / 256 % 256 ∷ upper % 256 ∷ []) =
       bytes_cons (upper / 256 % 256) (upper % 256 ∷ []) (omega arith) (bytes_cons (upper % 256) [] (omega arith) bytes_none) in
-      rw (bytes_two upper) (says_is 0 4 (upper / 256 % 256 ∷ upper % 256 ∷ []) (omega arith) (omega arith) b base size s goes ∙ ap Upper e)
+      rw (bytes_two upper) (says_is 0 4 (upper / 256 % 256 ∷ upper % 256 ∷ []) (omega arith) (omega arith) b base size s goes ∙ ap (λ (u : ℕ). Ok (Upper u)) e)
 
   pub found_data :
       (address : ℕ) (bytes : List ℕ) → AreBytes bytes → 0 < length bytes → length bytes < 256 → s.upper ≡ address / 65536 → base ≤ address
-      → address + length bytes ≤ base + size → s.last ≤ address → found_of base size s (line_in address 0 bytes) ≡ Data address (length bytes)
+      → address + length bytes ≤ base + size → s.last ≤ address → found_of base size s (line_in address 0 bytes) ≡ Ok (Data address (length bytes))
   unfolding typed data_at in_bank
   found_data address bytes b some few u low high after =
       let start : s.upper * 65536 + (address / 256 % 256 * 256 + address % 256) ≡ address = omega arith in

@@ -10,6 +10,7 @@ use lib.Dec.{eqb}
 use lib.ListN.{length, get_or, take, drop, set, replicate, length-replicate, get_or-replicate, length-set, length-take, length-drop}
 use lib.Seq.{ext_get_or, get_or-set_same, get_or-set_other, get_or-take, get_or-drop}
 use borrow.Author.Tests.{eqb-true, eqb-false}
+use Rattle.std.specs.Prelude.{Some}
 use Rattle.buffer.specs.Compare.{blank_of}
 use Rattle.buffer.specs.Number.{byte_at, bytes_of}
 use Rattle.buffer.specs.Total.{total}
@@ -24,7 +25,6 @@ use Rattle.flash.proofs.Blanks.{length_blanks}
 use Rattle.layout.specs.declared.Bank.TheVariants.{Zero, One}
 use Rattle.layout.specs.Layout.{sector_size, most_sectors, good_n, whole_length, start_of}
 use Rattle.layout.specs.Said.{value}
-use Rattle.rows.specs.declared.text.Written.TheVariants.{Text}
 use Rattle.rows.specs.Record.{record_body, record_checksum, record_line}
 use Rattle.rows.specs.Text.{row_size, row_of, row_address, row_upper, data_line, upper_line, end_line, told_before, upper_text, row_text, rows_text, text_of, longest_text, written_said}
 use Rattle.rows.proofs.Longest.{text_longest}
@@ -286,7 +286,7 @@ no_half_forgetter write tells writes =
 pub tells_once : TellsOnce half_forgetter
 tells_once image other bank before l a b e =
     let half : List ℕ = upper_line (row_upper (start_of bank) 0) in
-    ap (λ (l : List ℕ). wrote (Text (length (half ++ l ++ end_line))) (front_of before (half ++ l ++ end_line))) e
+    ap (λ (l : List ℕ). wrote (Some (length (half ++ l ++ end_line))) (front_of before (half ++ l ++ end_line))) e
 
 -- ONE THAT FORGETS WHERE THE BANK STARTS. An image of one sector with one byte other than 0xFF
 unfoldable small : List ℕ

@@ -1,25 +1,21 @@
 -- From the contracts to the demands: what a public function's contract allows of its result and of lent memory is the very outcome of the machine,
 -- the maker or the reader of which a demand is proved. One line for each such function.
 -- Assumes nothing.
-use Rattle.std.specs.Prelude.{◌≡◌, List, ℕ, length, Option}
+use Rattle.std.specs.Prelude.{◌≡◌, List, ℕ, length, Result, Option}
 use Rattle.layout.specs.declared.Bank.{Bank}
 use Rattle.layout.specs.Layout.{bank_size}
 use Rattle.layout.specs.Pair.{Banks, banks, bank_in}
-use Rattle.bank.specs.declared.check.Verdict.{Verdict}
 use Rattle.bank.specs.Said.{IsCheck}
-use Rattle.bank.specs.Sound.{verdict_of}
-use Rattle.clean.specs.declared.Cleaned.{Cleaned}
-use Rattle.clean.specs.Clean.{IsClean}
+use Rattle.bank.specs.Sound.{Verdict, verdict_of}
+use Rattle.clean.specs.Clean.{Cleaned, IsClean}
 use Rattle.clean.specs.Meaning.{cleaned, cleaner}
-use Rattle.hex_text.specs.declared.read.Answer.{Answer}
+use Rattle.hex_text.specs.declared.read.ReadError.{ReadError}
 use Rattle.hex_text.specs.Read.{text_read}
 use Rattle.hex_text.specs.Read.{IsRead as IsReadText}
-use Rattle.rows.specs.declared.text.Written.{Written}
 use Rattle.rows.specs.Text.{length_of, IsLength, IsWrite}
-use Rattle.sender.specs.declared.made.Made.{Made}
-use Rattle.sender.specs.declared.packet.Tally.{Tally}
+use Rattle.sender.specs.declared.made.Place.{Place}
+use Rattle.sender.specs.declared.made.Refusal.{Refusal as Unmade}
 use Rattle.sender.specs.declared.request.Request.{Request}
-use Rattle.sender.specs.declared.packet.Placed.{Placed}
 use Rattle.sender.specs.Packet.{tally_of, placed_of, IsCount, IsPlace, IsPacket}
 use Rattle.sender.specs.Request.{IsRequest}
 use Rattle.response.specs.declared.read.Response.{Response}
@@ -96,18 +92,18 @@ pub record Contracts : Type 0 where
       → IsClean bank runs sectors r bank' runs' sectors' → cleaner bank runs sectors ≡ cleaned r bank' runs' sectors'
   pub next_body_is : (c : Client) (bank0 bank1 : List ℕ) (i : ℕ) {r : List ℕ} → IsNextBody c bank0 bank1 i r → next_body c bank0 bank1 i ≡ r
   -- hex text
-  pub read_text : {text : List ℕ} {bank : Bank} {n : ℕ} {before after : List ℕ} {r : Answer}
+  pub read_text : {text : List ℕ} {bank : Bank} {n : ℕ} {before after : List ℕ} {r : Result (Unit {0}) ReadError}
       → IsReadText text bank n before after r → text_read text bank n before ≡ record { answer = r; image = after }
-  pub text_length : {image : List ℕ} {bank : Bank} {r : Written} → IsLength image bank r → length_of image bank ≡ r
-  pub write_text : {image : List ℕ} {bank : Bank} {before : List ℕ} {r : Written} {after : List ℕ}
+  pub text_length : {image : List ℕ} {bank : Bank} {r : Option ℕ} → IsLength image bank r → length_of image bank ≡ r
+  pub write_text : {image : List ℕ} {bank : Bank} {before : List ℕ} {r : Option ℕ} {after : List ℕ}
       → IsWrite image bank before r after → text_writer image bank before ≡ wrote r after
   -- the sender
-  pub count : {image : List ℕ} {n : ℕ} {r : Tally} → IsCount image n r → tally_of image n ≡ r
-  pub packet : {image : List ℕ} {n p : ℕ} {before : List ℕ} {r : Made} {after : List ℕ}
+  pub count : {image : List ℕ} {n : ℕ} {r : Result ℕ Unmade} → IsCount image n r → tally_of image n ≡ r
+  pub packet : {image : List ℕ} {n p : ℕ} {before : List ℕ} {r : Result ℕ Unmade} {after : List ℕ}
       → IsPacket image n p before r after → packet_maker image n p before ≡ out r after
-  pub request : {request : Request} {before : List ℕ} {r : Made} {after : List ℕ}
+  pub request : {request : Request} {before : List ℕ} {r : Result ℕ Unmade} {after : List ℕ}
       → IsRequest request before r after → request_maker request before ≡ out r after
-  pub place : {image : List ℕ} {n p : ℕ} {r : Placed} → IsPlace image n p r → placed_of image n p ≡ r
+  pub place : {image : List ℕ} {n p : ℕ} {r : Result Place Unmade} → IsPlace image n p r → placed_of image n p ≡ r
   -- the night sender
   pub night_start : {image : List ℕ} {bank : Bank} {n tries : ℕ} {before : List ℕ} {r : Called} {after : List ℕ}
       → IsNightStart image bank n tries before r after → night_sender.start image bank n tries before ≡ told_back r after

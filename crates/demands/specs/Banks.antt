@@ -1,12 +1,11 @@
 -- What is asked of any check of a bank, and of any view of a body (01, 'The bank check: contents first, then bodies').
 -- Assumes nothing.
 use Rattle.std.specs.Prelude.{◌≡◌, true, false, List, [], ℕ, ◌≤◌, ◌<◌, length}
-use Rattle.bank.specs.declared.check.Verdict.{Verdict}
 use Rattle.layout.specs.Layout.{whole_length}
 use Rattle.layout.specs.Said.{number, result}
 use Rattle.bank.specs.Meaning.{Kept}
 use Rattle.bank.specs.Said.{verdict_said}
-use Rattle.bank.specs.Sound.{stretch_bytes}
+use Rattle.bank.specs.Sound.{Verdict, stretch_bytes}
 use Rattle.bank.specs.Table.{count_of, entry_at}
 use Rattle.client.specs.declared.record.Client.{Client}
 use Rattle.layout.specs.Pair.{banks, bank_in}

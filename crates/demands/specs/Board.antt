@@ -2,16 +2,15 @@
 -- A machine is any function from board and input to outcome. Each demand is said of a machine, whatever it does; the one that is made here
 -- consists of the very definitions that the contracts of the client cite, so what holds of it holds of the code.
 -- Assumes nothing.
-use Rattle.std.specs.Prelude.{List, [], ◌∷◌, ◌++◌, ℕ, take, drop}
+use Rattle.std.specs.Prelude.{None, List, [], ◌∷◌, ◌++◌, ℕ, take, drop}
 use Rattle.layout.specs.declared.Bank.{Bank}
 use Rattle.layout.specs.declared.Bank.TheVariants.{Zero, One}
 use Rattle.layout.specs.Layout.{bank_size, other_of}
 use Rattle.layout.specs.Pair.{Banks, banks, bank_in}
 use Rattle.exchange.specs.Answer.{answer_number}
-use Rattle.client.specs.declared.notice.Notice.{Notice}
 use Rattle.client.specs.declared.host.Hosted.{Hosted}
 use Rattle.client.specs.Host.{told_number, initiate_of, terminate_of}
-use Rattle.client.specs.Notice.{no_notice}
+use Rattle.client.specs.Notice.{MaybeNotice}
 use Rattle.client.specs.Step.{Carried, step_of, banks_after}
 use Rattle.calls.specs.Call.{Board, board}
 
@@ -47,7 +46,7 @@ pub record Outcome : Type 0 where
   pub number : ℕ
   pub told : ℕ
   pub buffer : List ℕ
-  pub notice : Notice
+  pub notice : MaybeNotice
 
 -- the answer's own bytes
 abbrev pub said : Outcome → List ℕ
@@ -76,7 +75,7 @@ abbrev pub back_in : (Bank → ℕ) → Banks → Banks → Banks
 back_in lent pair back = banks (back.bank0 ++ drop (lent Zero) pair.bank0) (back.bank1 ++ drop (lent One) pair.bank1)
 
 abbrev pub host_outcome : Board → Hosted → Outcome
-host_outcome b h = record { board = board h.client b.pair; number = told_number h.told; told = 0; buffer = []; notice = no_notice }
+host_outcome b h = record { board = board h.client b.pair; number = told_number h.told; told = 0; buffer = []; notice = None }
 
 -- what is lent of the target
 abbrev pub lent_target : Board → LentCall → List ℕ

@@ -2,7 +2,7 @@
 -- what comes of it, in the paper's order, so that the first row whose test holds decides (01, 'What comes back when it is no', "Order in the
 -- client", and 'The client, step by step'; 02 §3 and §5). And whatever list of inputs comes, N, the version, which bank runs and every byte of that bank stay.
 -- Assumes nothing.
-use Rattle.std.specs.Prelude.{◌≡◌, Bool, true, false, not, ◌&&◌, ◌||◌, cond, List, [], ◌∷◌, ◌++◌, ℕ, ◌-◌, eqb, length, get_or, drop, Some, None, Option}
+use Rattle.std.specs.Prelude.{◌≡◌, None, Some, Bool, true, false, not, ◌&&◌, ◌||◌, cond, List, [], ◌∷◌, ◌++◌, ℕ, ◌-◌, eqb, length, get_or, drop, Option}
 use Rattle.buffer.specs.Compare.{same_of, blank_of}
 use Rattle.buffer.specs.Number.{number_at}
 use Rattle.buffer.specs.Place.{front_of}
@@ -17,15 +17,14 @@ use Rattle.flash.specs.Sector.{padded_of}
 use Rattle.layout.specs.declared.Bank.{Bank}
 use Rattle.layout.specs.Layout.{good_n, bank_size, bank_number, other_of, sector_of}
 use Rattle.layout.specs.Pair.{Banks, bank_in, with_bank}
-use Rattle.client.specs.declared.notice.Kind.TheVariants.{Started, Ended}
-use Rattle.client.specs.declared.notice.Notice.{Notice}
+use Rattle.client.specs.declared.notice.Notice.TheVariants.{Started, Ended}
 use Rattle.client.specs.declared.record.Client.{Client}
 use Rattle.client.specs.declared.record.Latest.TheVariants.{Good, Otherwise}
 use Rattle.exchange.specs.declared.state.State.{State}
 use Rattle.exchange.specs.declared.state.State.TheVariants as state
 use Rattle.exchange.specs.Answer.{version_bytes, written_bytes}
 use Rattle.exchange.specs.State.{is_closed, is_open}
-use Rattle.client.specs.Notice.{no_notice, notice_with, latest_number}
+use Rattle.client.specs.Notice.{MaybeNotice, latest_number}
 use Rattle.client.specs.Perform.{fit_of, store_result}
 use Rattle.decision.specs.Plan.{lent_good, is_worn, any_worn, values_good, addresses_good}
 use Rattle.client.specs.Record.{Stays, starting, initiated, terminated, opened, mode_ended, begun, marked, ended}
@@ -141,16 +140,16 @@ parameter_error = 0x01 ∷ 0x02 ∷ 0xE0 ∷ 0x05 ∷ 0x19 ∷ 0x03 ∷ []
 
 -- "nothing changes", and the number
 abbrev pub refused : Board → List ℕ → ℕ → Outcome
-refused b buffer number = record { board = b; number = number; told = 0; buffer = buffer; notice = no_notice }
+refused b buffer number = record { board = b; number = number; told = 0; buffer = buffer; notice = None }
 
 -- an answer at the front of the buffer, the record and the notice; the banks stay
-abbrev pub changed : Board → LentCall → Client → Notice → List ℕ → Outcome
+abbrev pub changed : Board → LentCall → Client → MaybeNotice → List ℕ → Outcome
 changed b call c notice answer =
     record { board = board c b.pair; number = 0; told = length answer; buffer = front_of call.buffer answer; notice = notice }
 
 -- nothing changes but the buffer
 abbrev pub answered : Board → LentCall → List ℕ → Outcome
-answered b call answer = changed b call b.client no_notice answer
+answered b call answer = changed b call b.client None answer
 
 -- the same with another target: the front that was lent, and what lies behind it
 abbrev pub stored : Board → LentCall → Client → List ℕ → List ℕ → Outcome
@@ -162,7 +161,7 @@ stored b call c target answer =
       number = 0;
       told = length answer;
       buffer = front_of call.buffer answer;
-      notice = no_notice;
+      notice = None;
     }
 
 -- the data and then 0xFF are the sector, which "counts as received", with 06 or 1D and the CRC of the sector
@@ -197,14 +196,14 @@ after_frame b call r =
     ∷ row (wrong_state c.state r) (answered b call (negative_response r))
     ∷ row (wrong_values c call.datagram r) (answered b call parameter_error)
     ∷ row (worn_sector call.marks r) (packet_worn b call r)
-    ∷ row (is_code 0x45 r && any_worn call.marks) (changed b call (ended Otherwise c) no_notice (control_frame 0x75 (0x1C ∷ [])))
+    ∷ row (is_code 0x45 r && any_worn call.marks) (changed b call (ended Otherwise c) None (control_frame 0x75 (0x1C ∷ [])))
     -- what is left is answered 06, but for an unsound bank
     ∷ row (is_packet r) (packet_stored b call r)
-    ∷ row (is_code 0x61 r) (changed b call (opened call.address c) (notice_with Started 0 call.address) (control_frame 0x71 (0x06 ∷ [])))
+    ∷ row (is_code 0x61 r) (changed b call (opened call.address c) (Some (Started call.address)) (control_frame 0x71 (0x06 ∷ [])))
     ∷ row (is_code 0x62 r) (answered b call (control_frame 0x72 (0x06 ∷ bank_number (other_of c.fixed.running) ∷ [])))
     ∷ row (is_code 0x68 r) (answered b call (control_frame 0x78 (version_bytes c.fixed.major c.fixed.minor c.fixed.revision)))
-    ∷ row (is_code 0x40 r) (changed b call (begun (starting c.fixed.running c)) no_notice (control_frame 0x70 (0x06 ∷ [])))
-    ∷ row (is_code 0x64 r) (changed b call (mode_ended c) (notice_with Ended (latest_number c.latest) call.address) (control_frame 0x74 (0x06 ∷ [])))
+    ∷ row (is_code 0x40 r) (changed b call (begun (starting c.fixed.running c)) None (control_frame 0x70 (0x06 ∷ [])))
+    ∷ row (is_code 0x64 r) (changed b call (mode_ended c) (Some (Ended (latest_number c.latest) call.address)) (control_frame 0x74 (0x06 ∷ [])))
     ∷ row (is_code 0x45 r && fit_of c.fixed (swept_target b call)) (stored b call (starting (other_of c.fixed.running) (ended Good c)) (swept_target b call) (control_frame 0x75 (0x06 ∷ [])))
     ∷ row (is_code 0x45 r) (stored b call (ended Otherwise c) (swept_target b call) (control_frame 0x75 (0x1E ∷ [])))
     ∷ []
@@ -224,7 +223,7 @@ call_rows b call =
 
 -- a host command that is done has no number, no answer and no notice
 abbrev pub host_done : Board → Client → Outcome
-host_done b c = record { board = board c b.pair; number = 0; told = 0; buffer = []; notice = no_notice }
+host_done b c = record { board = board c b.pair; number = 0; told = 0; buffer = []; notice = None }
 
 -- "Host commands: 3, 4"
 abbrev pub table_of : Board → Input → List Row

@@ -9,25 +9,22 @@ use Rattle.frame.specs.declared.read.Footer.{Footer}
 use Rattle.layout.specs.declared.Bank.{Bank}
 use Rattle.lines.specs.declared.line.LineReader.{LineReader}
 use Rattle.hex_text.specs.declared.fault.Kind.{Kind}
-use Rattle.hex_text.specs.declared.read.Answer.{Answer as ReadAnswer}
-use Rattle.rows.specs.declared.text.Written.{Written}
-use Rattle.clean.specs.declared.Cleaned.{Cleaned}
-use Rattle.sender.specs.declared.made.Made.{Made}
-use Rattle.sender.specs.declared.packet.Tally.{Tally}
+use Rattle.hex_text.specs.declared.read.ReadError.{ReadError}
+use Rattle.clean.specs.declared.Refusal.{Refusal as CleanRefusal}
+use Rattle.sender.specs.declared.made.Refusal.{Refusal as Unmade}
 use Rattle.sender.specs.declared.request.Request.{Request}
-use Rattle.exchange.specs.declared.answer.Answer.{Answer}
 use Rattle.commands.specs.declared.Command.{Command}
 use Rattle.response.specs.declared.read.Response.{Response}
-use Rattle.night.specs.declared.record.Next.{Next}
 use Rattle.night.specs.declared.record.Night.{Night}
+use Rattle.night.specs.declared.record.Refusal.{Refusal as NightRefusal}
 use Rattle.exchange.specs.declared.answer.Refusal.{Refusal}
 use Rattle.exchange.specs.declared.request.Unasked.{Unasked}
 use Rattle.exchange.specs.declared.request.Request.{Request as Received}
 use Rattle.exchange.specs.declared.state.State.{State}
 use Rattle.decision.specs.declared.plan.Standing.{Standing}
 use Rattle.client.specs.declared.record.Client.{Client}
-use Rattle.client.specs.declared.host.Told.{Told}
-use Rattle.client.specs.declared.notice.Kind.{Kind as NoticeKind}
+use Rattle.client.specs.declared.host.NotDone.{NotDone}
+use Rattle.client.specs.declared.record.Latest.{Latest}
 use Rattle.script.specs.declared.line.Turn.{Turn}
 use Rattle.buffer.specs.Compare.{IsSame, IsBlank}
 use Rattle.buffer.specs.Fill.{IsFill}
@@ -41,37 +38,38 @@ use Rattle.frame.specs.Read.{IsParameters, IsData}
 use Rattle.frame.specs.Write.{IsPutControl, IsPutWrite, IsPutError}
 use Rattle.flash.specs.declared.sector.Store.{Store}
 use Rattle.flash.specs.Bank.{IsStore, IsWriteAt, IsSweep}
-use Rattle.layout.specs.Layout.{IsGoodN, IsBankSize, IsSectors, IsBankNumber, IsOther, IsStart, IsEnd, IsSectorOffset}
+use Rattle.layout.specs.Layout.{IsGoodN, IsBankSize, IsSectors, IsBankNumber, IsNumberedBank, IsOther, IsStart, IsEnd, IsSectorOffset}
 use Rattle.digits.specs.Digit.{IsValue, IsDigit}
-use Rattle.bank.specs.Gaps.{IsGaps}
+use Rattle.bank.specs.declared.gaps.Gap.{Gap}
+use Rattle.bank.specs.Gaps.{IsGapSlice, IsGaps}
 use Rattle.bank.specs.Listed.{IsBodyCount, IsStretchAt}
 use Rattle.bank.specs.Said.{IsContents, IsCheck}
 use Rattle.bank.specs.Sound.{IsBody}
-use Rattle.clean.specs.Clean.{IsCleanedNumber, IsClean}
-use Rattle.lines.specs.Places.{IsAhead, IsReader, IsNext}
+use Rattle.clean.specs.Clean.{IsCleanNumber, IsClean}
+use Rattle.lines.specs.Places.{IsReader, IsNext}
 use Rattle.hex_text.specs.Read.{IsKindNumber, IsAnswerNumber}
 use Rattle.hex_text.specs.Read.{IsRead as IsReadText}
 use Rattle.rows.specs.Text.{IsWrittenNumber, IsLength, IsWrite}
-use Rattle.sender.specs.Made.{IsMadeNumber}
-use Rattle.sender.specs.Packet.{IsTallyNumber, IsCount, IsPacket}
+use Rattle.sender.specs.Made.{IsRefusalNumber as IsUnmadeNumber}
+use Rattle.sender.specs.Packet.{IsCount, IsPacket}
 use Rattle.sender.specs.Packet.{IsPlace as IsPlacePacket}
 use Rattle.sender.specs.Request.{IsCommandOf, IsRequest}
 use Rattle.response.specs.Said.{IsResponseNumber, IsResponse}
 use Rattle.night.specs.Call.{IsStart as IsNightStart}
 use Rattle.night.specs.Call.{IsHeard as IsNightHeard}
 use Rattle.night.specs.Call.{IsSilent as IsNightSilent}
-use Rattle.night.specs.Record.{IsNextNumber}
+use Rattle.night.specs.Record.{IsRefusalNumber as IsNightNumber}
 use Rattle.commands.specs.Command.{IsRequestCode, IsResponseCode, IsParameterBytes, IsAddedBytes, IsRequested, IsAnswered}
-use Rattle.exchange.specs.Answer.{IsRefusalNumber, IsSay}
+use Rattle.exchange.specs.Answer.{Reply, IsRefusalNumber, IsSay}
 use Rattle.exchange.specs.State.{IsClosed, IsOpen}
 use Rattle.exchange.specs.Request.{IsAsked, IsFitsState, IsDeclined}
 use Rattle.decision.specs.Plan.{IsPlan}
 use Rattle.client.specs.Body.{IsBody as IsNextBody}
-use Rattle.client.specs.Host.{IsTold, IsNew, IsInitiate, IsTerminate}
-use Rattle.client.specs.Notice.{IsNoticeCode}
+use Rattle.client.specs.Host.{Told, IsReasonNumber, IsTold, IsNew, IsInitiate, IsTerminate}
+use Rattle.client.specs.Notice.{MaybeNotice, IsLatestNumber, IsNoticeCode}
 use Rattle.client.specs.Step.{IsTake, IsStep}
 use Rattle.script.specs.Text.{IsFirst, IsRest, IsEndsInBlank}
-use Rattle.script.specs.Spelt.{IsHex, IsDecimal, IsBytes}
+use Rattle.script.specs.Spelt.{IsHex, IsDecimal, IsByte, IsBytes, IsBank}
 use Rattle.script.specs.Line.{IsBefore, IsHeld}
 
 pub record Determined : Type 0 where
@@ -105,6 +103,7 @@ pub record Determined : Type 0 where
   pub bank_size : (n : ℕ) → Once (IsBankSize n)
   pub sectors : (length : ℕ) → Once (IsSectors length)
   pub bank_number : (bank : Bank) → Once (IsBankNumber bank)
+  pub numbered_bank : (k : ℕ) → Once (IsNumberedBank k)
   pub other : (bank : Bank) → Once (IsOther bank)
   pub start : (bank : Bank) → Once (IsStart bank)
   pub end : (bank : Bank) (n : ℕ) → Once (IsEnd bank n)
@@ -112,24 +111,23 @@ pub record Determined : Type 0 where
   pub body_count : (bank : List ℕ) → Once (IsBodyCount bank)
   pub stretch_at : (bank : List ℕ) (i : ℕ) → Once (IsStretchAt bank i)
   pub gaps : (bank : List ℕ) → Once (IsGaps bank)
+  pub gap_slice : (gaps : List Gap) → Once (IsGapSlice gaps)
   pub contents : (bank : List ℕ) → Once (IsContents bank)
   pub check : (bank : List ℕ) → Once (IsCheck bank)
   pub body : (bank : List ℕ) (i : ℕ) → Once (IsBody bank i)
-  pub cleaned_number : (cleaned : Cleaned) → Once (IsCleanedNumber cleaned)
+  pub clean_number : (refusal : CleanRefusal) → Once (IsCleanNumber refusal)
   pub clean : (bank runs sectors : List ℕ) → Fourfold (IsClean bank runs sectors)
   -- hex text
   pub value : (byte : ℕ) → Once (IsValue byte)
   pub digit : (value : ℕ) → Once (IsDigit value)
-  pub ahead : (text : List ℕ) (at : ℕ) → Once (IsAhead text at)
   pub reader_at : (text : Bor (List ℕ)) (at : ℕ) → Once (IsReader text at)
   pub next_line : (reader : LineReader) → Once (IsNext reader)
   pub kind_number : (kind : Kind) → Once (IsKindNumber kind)
-  pub answer_number : (answer : ReadAnswer) → Once (IsAnswerNumber answer)
-  pub made_number : (made : Made) → Once (IsMadeNumber made)
-  pub tally_number : (tally : Tally) → Once (IsTallyNumber tally)
+  pub answer_number : (answer : Result (Unit {0}) ReadError) → Once (IsAnswerNumber answer)
+  pub unmade_number : (why : Unmade) → Once (IsUnmadeNumber why)
   pub response_number : (response : Option Response) → Once (IsResponseNumber response)
   pub read_text : (text : List ℕ) (bank : Bank) (n : ℕ) (before : List ℕ) → Twice (IsReadText text bank n before)
-  pub written_number : (written : Written) → Once (IsWrittenNumber written)
+  pub written_number : (written : Option ℕ) → Once (IsWrittenNumber written)
   pub text_length : (image : List ℕ) (bank : Bank) → Once (IsLength image bank)
   pub write_text : (image : List ℕ) (bank : Bank) (before : List ℕ) → Twice (IsWrite image bank before)
   -- the sender
@@ -140,7 +138,7 @@ pub record Determined : Type 0 where
   pub request : (request : Request) (before : List ℕ) → Twice (IsRequest request before)
   pub read_response : (datagram : List ℕ) → Once (IsResponse datagram)
   -- the night sender
-  pub night_number : (next : Next) → Once (IsNextNumber next)
+  pub night_number : (why : NightRefusal) → Once (IsNightNumber why)
   pub night_start : (image : List ℕ) (bank : Bank) (n tries : ℕ) (before : List ℕ) → Twice (IsNightStart image bank n tries before)
   pub night_heard : (night : Night) (datagram image before : List ℕ) → Twice (IsNightHeard night datagram image before)
   pub night_silent : (night : Night) (image before : List ℕ) → Twice (IsNightSilent night image before)
@@ -158,11 +156,13 @@ pub record Determined : Type 0 where
   pub fits_state : (state : State) (request : Received) → Once (IsFitsState state request)
   pub declined : (request : Received) → Once (IsDeclined request)
   pub refusal_number : (why : Refusal) → Once (IsRefusalNumber why)
-  pub say : (answer : Answer) (before : List ℕ) → Twice (IsSay answer before)
+  pub say : (reply : Reply) (before : List ℕ) → Twice (IsSay reply before)
   -- the client
   pub plan : (standing : Standing) (target : ℕ) (marks address : List ℕ) (buffer : ℕ) (asked : Result Received Unasked) → Once (IsPlan standing target marks address buffer asked)
+  pub reason_number : (why : NotDone) → Once (IsReasonNumber why)
   pub told_number : (told : Told) → Once (IsTold told)
-  pub notice_code : (kind : NoticeKind) → Once (IsNoticeCode kind)
+  pub notice_code : (notice : MaybeNotice) → Once (IsNoticeCode notice)
+  pub latest_number : (latest : Latest) → Once (IsLatestNumber latest)
   pub new : (n : ℕ) (running : Bank) (major minor revision : ℕ) → Once (IsNew n running major minor revision)
   pub initiate : (c : Client) → Once (IsInitiate c)
   pub terminate : (c : Client) → Once (IsTerminate c)
@@ -175,6 +175,8 @@ pub record Determined : Type 0 where
   pub ends_in_blank : (text : List ℕ) → Once (IsEndsInBlank text)
   pub hex_number : (text : List ℕ) (digits : ℕ) → Once (IsHex text digits)
   pub decimal_number : (text : List ℕ) (most : ℕ) → Once (IsDecimal text most)
+  pub byte_field : (text : List ℕ) → Once (IsByte text)
+  pub bank_field : (text : List ℕ) → Once (IsBank text)
   pub spelt_bytes : (text before : List ℕ) → Twice (IsBytes text before)
   pub before_lines : Once IsBefore
   pub held_line : (line : List ℕ) (turn : Turn) → Once (IsHeld line turn)

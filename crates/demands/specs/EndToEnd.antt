@@ -2,13 +2,12 @@
 -- sender's packets; then the bank holds each data byte of the text at its address, and 0xFF elsewhere. And whatever a board answers, the sender's
 -- reader reads, never number 6, and loses nothing of it: what it read, written out again, is the answer.
 -- Assumes nothing.
-use Rattle.std.specs.Prelude.{◌≡◌, true, List, ◌∷◌, ℕ, ◌*◌, ◌^◌, ◌<◌, length}
+use Rattle.std.specs.Prelude.{◌≡◌, true, List, ◌∷◌, ℕ, ◌*◌, ◌^◌, ◌<◌, length, Ok}
 use Rattle.buffer.specs.Number.{byte_at}
 use Rattle.layout.specs.declared.Bank.{Bank}
 use Rattle.layout.specs.Layout.{sector_size, other_of, start_of}
 use Rattle.layout.specs.Pair.{bank_in}
 use Rattle.lines.specs.Line.{lines}
-use Rattle.hex_text.specs.declared.read.Answer.TheVariants.{Accepted}
 use Rattle.hex_text.specs.Meaning.{Leaves}
 use Rattle.hex_text.specs.Read.{text_read}
 use Rattle.response.specs.Response.{response_of}
@@ -26,7 +25,7 @@ MeetsText m =
     → (let target : Bank = other_of b.client.fixed.running in
     let n : ℕ = b.client.fixed.n in
     let image : List ℕ = (text_read text target n before).image in
-    (text_read text target n before).answer ≡ Accepted → fit_of b.client.fixed image ≡ true
+    (text_read text target n before).answer ≡ Ok tt → fit_of b.client.fixed image ≡ true
     → (start : LentCall) (ps : List ℕ) (is : List Input) (end : LentCall) → Delivery b.client.opener b image start ps is end
     → (let last : Board = (m (after m b (Datagram start ∷ is)) (Datagram end)).board in
     Leaves (start_of target) (sector_size * n) (lines text) (length (lines text)) (bank_in target last.pair)))

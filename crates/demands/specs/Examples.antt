@@ -1,6 +1,6 @@
 -- The paper's worked examples 1 to 11 as one table with one claim (01, 'Worked examples to hold'; 7 and 8 as 02 §3 reads them).
 -- Assumes nothing.
-use Rattle.std.specs.Prelude.{◌≡◌, Bool, true, false, not, ◌&&◌, List, [], ◌∷◌, ◌++◌, ℕ, ◌+◌, ◌*◌, ◌%◌, ◌≤◌, eqb, leb, length, replicate, Some}
+use Rattle.std.specs.Prelude.{◌≡◌, Bool, true, false, not, ◌&&◌, List, [], ◌∷◌, ◌++◌, ℕ, ◌+◌, ◌*◌, ◌%◌, ◌≤◌, eqb, leb, length, replicate, Some, Result, Ok, Err}
 use Rattle.buffer.specs.Number.{byte_at}
 use Rattle.crc.specs.Crc.{crc_of}
 use Rattle.frame.specs.Frame.{write_frame}
@@ -14,8 +14,8 @@ use Rattle.layout.specs.declared.Bank.TheVariants.{One}
 use Rattle.layout.specs.Layout.{sector_size, good_n, bank_size}
 use Rattle.layout.specs.Pair.{bank_in}
 use Rattle.hex_text.specs.declared.fault.Kind.TheVariants.{H6}
-use Rattle.hex_text.specs.declared.read.Answer.{Answer}
-use Rattle.hex_text.specs.declared.read.Answer.TheVariants.{Refused, Accepted}
+use Rattle.hex_text.specs.declared.read.ReadError.{ReadError}
+use Rattle.hex_text.specs.declared.read.ReadError.TheVariants.{Line}
 use Rattle.hex_text.specs.Read.{text_read}
 use Rattle.sender.specs.declared.request.Request.{Request}
 use Rattle.sender.specs.declared.request.Request.TheVariants.{ModeStart, WriteStart}
@@ -45,7 +45,7 @@ pub data Example : Type 0 where
   -- a packet that was accepted, sent once more at once, is answered 06 and 1D, with the CRC of the sector
   Again : Example
   -- this text has this answer
-  Reads : List ℕ → Answer → Example
+  Reads : List ℕ → Result (Unit {0}) ReadError → Example
 
 -- a call on a board: N from 1 to 491, banks of the right length, lent whole, no sector worn
 pub record Calls (b : Board) (call : LentCall) : Type 0 where
@@ -132,8 +132,8 @@ rows =
     -- 9
     ∷ Again
     -- 10
-    ∷ Reads [] (Refused (record { kind = H6; line = 1; byte = 1 }))
-    ∷ Reads (0x3A ∷ 48 ∷ 48 ∷ 48 ∷ 48 ∷ 48 ∷ 48 ∷ 48 ∷ 49 ∷ 70 ∷ 70 ∷ []) Accepted
+    ∷ Reads [] (Err (Line (record { kind = H6; line = 1; byte = 1 })))
+    ∷ Reads (0x3A ∷ 48 ∷ 48 ∷ 48 ∷ 48 ∷ 48 ∷ 48 ∷ 48 ∷ 49 ∷ 70 ∷ 70 ∷ []) (Ok tt)
     -- 11
     ∷ Sums 3 ((0x01 ∷ 0x02 ∷ 0x03 ∷ 0x04 ∷ []) ++ replicate 508 0xFF) 0xED
     ∷ []

@@ -2,7 +2,7 @@
 -- Each sentence is said of such a pair, whatever it does; the one that is made here consists of the very definitions that the contracts of
 -- `night` cite. A run is one image, and one event after another, each with a request buffer of its own.
 -- Assumes nothing.
-use Rattle.std.specs.Prelude.{◌≡◌, Bool, true, false, List, [], ◌∷◌, ◌++◌, ◌⊎◌, ℕ, zero, suc, ◌+◌, ◌*◌, ◌≤◌, ◌<◌, length, take, replicate, Option, Some}
+use Rattle.std.specs.Prelude.{◌≡◌, Bool, true, false, List, [], ◌∷◌, ◌++◌, ◌⊎◌, ℕ, zero, suc, ◌+◌, ◌*◌, ◌≤◌, ◌<◌, length, take, replicate, Result, Ok, Err, Option, Some}
 use Rattle.crc.specs.Crc.{crc_of}
 use Rattle.commands.specs.declared.Command.TheVariants as command
 use Rattle.layout.specs.declared.Bank.{Bank}
@@ -17,8 +17,9 @@ use Rattle.night.specs.declared.name.Name.{Name}
 use Rattle.night.specs.declared.name.Name.TheVariants.{ModeStart, VersionInfo, BankInfo, WriteStart, Packet, WriteEnd, ModeEnd}
 use Rattle.night.specs.declared.record.Called.{Called}
 use Rattle.night.specs.declared.record.Next.{Next}
-use Rattle.night.specs.declared.record.Next.TheVariants.{BadN, BadLength, BadTries, NoPacket, NotBegun, Send, Finished, GaveUp}
+use Rattle.night.specs.declared.record.Next.TheVariants.{NotBegun, Send, Finished, GaveUp}
 use Rattle.night.specs.declared.record.Night.{Night}
+use Rattle.night.specs.declared.record.Refusal.{Refusal}
 use Rattle.night.specs.declared.record.Stand.TheVariants.{At}
 use Rattle.night.specs.Call.{Event, Heard, Silence, heard_in, step_of, start_of, buffer_by, lent_says, step_says}
 use Rattle.night.specs.Name.{frame_of}
@@ -30,7 +31,7 @@ use Rattle.demands.specs.Written.{AreBytes}
 -- what comes of a call: the record, what is told, the request buffer
 pub record Told (S : Type 0) : Type 0 where
   pub record_then : S
-  pub next : Next
+  pub next : Result Next Refusal
   pub buffer : List ℕ
 
 pub record NightSender (S : Type 0) : Type 0 where
@@ -63,7 +64,7 @@ RefusesInVain {S} m =
 
 -- each refusal by its number, the first that applies; and a refused start begins nothing, whatever is lent afterwards
 pub record NotBegunAt (r : Night) (before : List ℕ) (o : Told Night) : Type 0 where
-  pub told : o.next ≡ NotBegun
+  pub told : o.next ≡ Ok NotBegun
   pub keeps : Keeps r before o
 
 pub record MeetsRefusals (m : NightSender Night) : Type 0 where
@@ -81,7 +82,7 @@ pub record MeetsRefusals (m : NightSender Night) : Type 0 where
 abbrev pub NotOnceMore : NightSender Night → Type 0
 NotOnceMore m =
     (r : Night) (name : Name) (gone size : ℕ) (event : Event) (image before : List ℕ) → r.stand ≡ At name gone → r.tries ≤ gone
-    → (m.event r event image before).next ≡ Send name size → ⊥
+    → (m.event r event image before).next ≡ Ok (Send name size) → ⊥
 
 -- ---- a run
 
@@ -172,7 +173,7 @@ module _ {S : Type 0} (m : NightSender S) (image : List ℕ) (bank : Bank) (n tr
   abbrev pub later : List (Told S)
   later = tolds m image first.record_then gs
 
-  abbrev pub ends_with : Next
+  abbrev pub ends_with : Result Next Refusal
   ends_with = (last_told first later).next
 
 -- ---- 1. the requests in their order, and an end
@@ -193,15 +194,12 @@ pub record Sent : Type 0 where
 abbrev pub sent : Name → List ℕ → Sent
 sent name bytes = record { name = name; bytes = bytes }
 
-abbrev pub went_out : Next → List ℕ → List Sent
-went_out BadN buffer = []
-went_out BadLength buffer = []
-went_out BadTries buffer = []
-went_out NoPacket buffer = []
-went_out NotBegun buffer = []
-went_out (Send name size) buffer = sent name (take size buffer) ∷ []
-went_out Finished buffer = []
-went_out (GaveUp name why) buffer = []
+abbrev pub went_out : Result Next Refusal → List ℕ → List Sent
+went_out (Err why) buffer = []
+went_out (Ok NotBegun) buffer = []
+went_out (Ok (Send name size)) buffer = sent name (take size buffer) ∷ []
+went_out (Ok Finished) buffer = []
+went_out (Ok (GaveUp name why)) buffer = []
 
 abbrev pub all_sent : {S : Type 0} → List (Told S) → List Sent
 all_sent [] = []
@@ -213,15 +211,12 @@ pub data InOrder (tries : ℕ) (frame : Name → List ℕ) : List Name → List 
   each : {name : Name} {names : List Name} {rest : List Sent} (times : ℕ) → 1 ≤ times → times ≤ tries → InOrder tries frame names rest
       → InOrder tries frame (name ∷ names) (replicate times (sent name (frame name)) ++ rest)
 
-abbrev pub is_over : Next → Bool
-is_over BadN = false
-is_over BadLength = false
-is_over BadTries = false
-is_over NoPacket = false
-is_over NotBegun = false
-is_over (Send name size) = false
-is_over Finished = true
-is_over (GaveUp name why) = true
+abbrev pub is_over : Result Next Refusal → Bool
+is_over (Err why) = false
+is_over (Ok NotBegun) = false
+is_over (Ok (Send name size)) = false
+is_over (Ok Finished) = true
+is_over (Ok (GaveUp name why)) = true
 
 -- "within T·(P + 6) events"
 pub record MeetsOrder {S : Type 0} (m : NightSender S) : Type 0 where
@@ -247,10 +242,10 @@ BoundReached m =
 
 -- an event, and what had been told last before it came: the request at hand
 pub record Turn : Type 0 where
-  pub hand : Next
+  pub hand : Result Next Refusal
   pub event : Event
 
-abbrev pub turn : Next → Event → Turn
+abbrev pub turn : Result Next Refusal → Event → Turn
 turn hand event = record { hand = hand; event = event }
 
 abbrev pub turns_of : {S : Type 0} → NightSender S → List ℕ → Told S → List Given → List Turn
@@ -286,39 +281,39 @@ Declined WriteEnd r = ⊥
 Declined ModeEnd r = r ≡ Some (Plain command.ModeEnd 0x15)
 
 -- the same request was at hand one event before: it has gone out at least twice
-pub data Repeated (name : Name) : Next → Type 0 where
-  again : {size : ℕ} → Repeated name (Send name size)
+pub data Repeated (name : Name) : Result Next Refusal → Type 0 where
+  again : {size : ℕ} → Repeated name (Ok (Send name size))
 
 module _ (image : List ℕ) (bank : Bank) (n : ℕ) where
-  abbrev pub Settles : Name → Next → Option Response → Type 0
+  abbrev pub Settles : Name → Result Next Refusal → Option Response → Type 0
   Settles name last r = Awaited image bank n name r ⊎ (Declined name r × Repeated name last)
 
   -- while this request was at hand there was an event that settles it; `last` is what was at hand one event before the first of the list
-  pub data SettledIn (name : Name) : Next → List Turn → Type 0 where
-    here : {last : Next} {size : ℕ} {datagram : List ℕ} {rest : List Turn} → Settles name last (response_of datagram)
-        → SettledIn name last (turn (Send name size) (Heard datagram) ∷ rest)
-    after : {last : Next} {t : Turn} {rest : List Turn} → SettledIn name t.hand rest → SettledIn name last (t ∷ rest)
+  pub data SettledIn (name : Name) : Result Next Refusal → List Turn → Type 0 where
+    here : {last : Result Next Refusal} {size : ℕ} {datagram : List ℕ} {rest : List Turn} → Settles name last (response_of datagram)
+        → SettledIn name last (turn (Ok (Send name size)) (Heard datagram) ∷ rest)
+    after : {last : Result Next Refusal} {t : Turn} {rest : List Turn} → SettledIn name t.hand rest → SettledIn name last (t ∷ rest)
 
-  pub data EachSettled : List Name → Next → List Turn → Type 0 where
-    all : {last : Next} {ts : List Turn} → EachSettled [] last ts
-    one : {name : Name} {names : List Name} {last : Next} {ts : List Turn} → SettledIn name last ts → EachSettled names last ts
+  pub data EachSettled : List Name → Result Next Refusal → List Turn → Type 0 where
+    all : {last : Result Next Refusal} {ts : List Turn} → EachSettled [] last ts
+    one : {name : Name} {names : List Name} {last : Result Next Refusal} {ts : List Turn} → SettledIn name last ts → EachSettled names last ts
         → EachSettled (name ∷ names) last ts
 
 pub record MeetsSettled {S : Type 0} (m : NightSender S) : Type 0 where
   pub only : (image : List ℕ) (bank : Bank) (n tries : ℕ) (before : List ℕ) (gs : List Given) → Startable image n tries → room ≤ length before → Roomy gs
-      → ends_with m image bank n tries before gs ≡ Finished
-      → EachSettled image bank n (names_of (packet_count image n)) NotBegun (turns_of m image (first m image bank n tries before gs) gs)
+      → ends_with m image bank n tries before gs ≡ Ok Finished
+      → EachSettled image bank n (names_of (packet_count image n)) (Ok NotBegun) (turns_of m image (first m image bank n tries before gs) gs)
   pub always : (image : List ℕ) (bank : Bank) (n tries : ℕ) (before : List ℕ) (gs : List Given) → Startable image n tries → room ≤ length before → Roomy gs
-      → EachSettled image bank n (names_of (packet_count image n)) NotBegun (turns_of m image (first m image bank n tries before gs) gs)
-      → ends_with m image bank n tries before gs ≡ Finished
+      → EachSettled image bank n (names_of (packet_count image n)) (Ok NotBegun) (turns_of m image (first m image bank n tries before gs) gs)
+      → ends_with m image bank n tries before gs ≡ Ok Finished
 
 -- "Finished means the write end was answered 06": these six bytes, heard while the write end was at hand
 pub data EndAnswered : List Turn → Type 0 where
-  answered : {size : ℕ} {rest : List Turn} → EndAnswered (turn (Send WriteEnd size) (Heard (0x01 ∷ 0x02 ∷ 0x75 ∷ 0x06 ∷ 0x83 ∷ 0x03 ∷ [])) ∷ rest)
+  answered : {size : ℕ} {rest : List Turn} → EndAnswered (turn (Ok (Send WriteEnd size)) (Heard (0x01 ∷ 0x02 ∷ 0x75 ∷ 0x06 ∷ 0x83 ∷ 0x03 ∷ [])) ∷ rest)
   later_answered : {t : Turn} {rest : List Turn} → EndAnswered rest → EndAnswered (t ∷ rest)
 
 abbrev pub FinishedMeansEnded : {S : Type 0} → NightSender S → Type 0
 FinishedMeansEnded m =
     (image : List ℕ) (bank : Bank) (n tries : ℕ) (before : List ℕ) (gs : List Given) → Startable image n tries → room ≤ length before → Roomy gs
-    → Bytewise gs → ends_with m image bank n tries before gs ≡ Finished
+    → Bytewise gs → ends_with m image bank n tries before gs ≡ Ok Finished
     → EndAnswered (turns_of m image (first m image bank n tries before gs) gs)

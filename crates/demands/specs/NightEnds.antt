@@ -1,7 +1,7 @@
 -- How a night sender gives up (02 §4): with each reason exactly when it is so. Told by turns, of any night sender, over any run from a start; what
 -- an event is comes from its response as it reads.
 -- Assumes nothing.
-use Rattle.std.specs.Prelude.{◌≡◌, true, List, [], ◌∷◌, ◌⊎◌, ℕ, zero, suc, ◌≤◌, length, Option, Some}
+use Rattle.std.specs.Prelude.{◌≡◌, true, List, [], ◌∷◌, ◌⊎◌, ℕ, zero, suc, ◌≤◌, length, Result, Ok, Option, Some}
 use Rattle.commands.specs.declared.Command.TheVariants as command
 use Rattle.layout.specs.declared.Bank.{Bank}
 use Rattle.layout.specs.Layout.{other_of}
@@ -14,6 +14,7 @@ use Rattle.night.specs.declared.name.Name.TheVariants.{BankInfo, WriteEnd}
 use Rattle.night.specs.declared.record.Next.{Next}
 use Rattle.night.specs.declared.record.Next.TheVariants.{NotBegun, Send, GaveUp}
 use Rattle.night.specs.declared.record.Night.{Night}
+use Rattle.night.specs.declared.record.Refusal.{Refusal}
 use Rattle.night.specs.declared.record.Stand.TheVariants as stand
 use Rattle.night.specs.declared.record.Why.{Why}
 use Rattle.night.specs.declared.record.Why.TheVariants.{Tries, WrongBank, Unknown}
@@ -63,24 +64,24 @@ module _ (image : List ℕ) (bank : Bank) (n : ℕ) where
   module _ (Rest : List Turn → Type 0) where
     -- so many turns in a row this request was at hand, each time in vain, and of the turns after them `Rest` holds; `last` is what was at hand one
     -- event before the first of the list
-    pub data InVain (name : Name) : ℕ → Next → List Turn → Type 0 where
-      enough : {last : Next} {ts : List Turn} → Rest ts → InVain name zero last ts
-      in-vain : {k : ℕ} {last : Next} {size : ℕ} {event : Event} {rest : List Turn} → Spends name (Repeated name last) event → InVain name k (Send name size) rest
-          → InVain name (suc k) last (turn (Send name size) event ∷ rest)
+    pub data InVain (name : Name) : ℕ → Result Next Refusal → List Turn → Type 0 where
+      enough : {last : Result Next Refusal} {ts : List Turn} → Rest ts → InVain name zero last ts
+      in-vain : {k : ℕ} {last : Result Next Refusal} {size : ℕ} {event : Event} {rest : List Turn} → Spends name (Repeated name last) event → InVain name k (Ok (Send name size)) rest
+          → InVain name (suc k) last (turn (Ok (Send name size)) event ∷ rest)
 
     -- somewhere in the run, from when it first was at hand
-    pub data TriedInVain (name : Name) (tries : ℕ) : Next → List Turn → Type 0 where
-      from-here : {last : Next} {ts : List Turn} → (Repeated name last → ⊥) → InVain name tries last ts → TriedInVain name tries last ts
-      from-later : {last : Next} {t : Turn} {rest : List Turn} → TriedInVain name tries t.hand rest → TriedInVain name tries last (t ∷ rest)
+    pub data TriedInVain (name : Name) (tries : ℕ) : Result Next Refusal → List Turn → Type 0 where
+      from-here : {last : Result Next Refusal} {ts : List Turn} → (Repeated name last → ⊥) → InVain name tries last ts → TriedInVain name tries last ts
+      from-later : {last : Result Next Refusal} {t : Turn} {rest : List Turn} → TriedInVain name tries t.hand rest → TriedInVain name tries last (t ∷ rest)
 
   -- while this request was at hand there was an event that stops the night
-  pub data Stopped (why : Why) (name : Name) : Next → List Turn → Type 0 where
-    stopped-here : {last : Next} {size : ℕ} {event : Event} {rest : List Turn} → Brings event (Stops why name (Repeated name last))
-        → Stopped why name last (turn (Send name size) event ∷ rest)
-    stopped-later : {last : Next} {t : Turn} {rest : List Turn} → Stopped why name t.hand rest → Stopped why name last (t ∷ rest)
+  pub data Stopped (why : Why) (name : Name) : Result Next Refusal → List Turn → Type 0 where
+    stopped-here : {last : Result Next Refusal} {size : ℕ} {event : Event} {rest : List Turn} → Brings event (Stops why name (Repeated name last))
+        → Stopped why name last (turn (Ok (Send name size)) event ∷ rest)
+    stopped-later : {last : Result Next Refusal} {t : Turn} {rest : List Turn} → Stopped why name t.hand rest → Stopped why name last (t ∷ rest)
 
 -- at each of these turns this was what had been told last
-pub data AllTold (end : Next) : List Turn → Type 0 where
+pub data AllTold (end : Result Next Refusal) : List Turn → Type 0 where
   told_none : AllTold end []
   told_more : {event : Event} {rest : List Turn} → AllTold end rest → AllTold end (turn end event ∷ rest)
 
@@ -88,7 +89,7 @@ abbrev pub Whatever : List Turn → Type 0
 Whatever ts = Unit {0}
 
 -- each of these tells this end, and each buffer is as it was lent
-pub data Stays {S : Type 0} (end : Next) : List Given → List (Told S) → Type 0 where
+pub data Stays {S : Type 0} (end : Result Next Refusal) : List Given → List (Told S) → Type 0 where
   stays_none : Stays end [] []
   stays_more : {g : Given} {gs : List Given} {o : Told S} {os : List (Told S)} → o.next ≡ end → o.buffer ≡ g.buffer → Stays end gs os
       → Stays end (g ∷ gs) (o ∷ os)
@@ -100,14 +101,14 @@ module _ {S : Type 0} (m : NightSender S) where
 
     -- T times in vain, and from then on it is told so
     abbrev pub TiredOut : Name → Type 0
-    TiredOut name = TriedInVain image bank n (AllTold (GaveUp name Tries)) name tries NotBegun runTurns
+    TiredOut name = TriedInVain image bank n (AllTold (Ok (GaveUp name Tries))) name tries (Ok NotBegun) runTurns
 
     -- T times in vain, whatever comes then
     abbrev pub Tired : Name → Type 0
-    Tired name = TriedInVain image bank n Whatever name tries NotBegun runTurns
+    Tired name = TriedInVain image bank n Whatever name tries (Ok NotBegun) runTurns
 
     abbrev pub StoppedBy : Why → Name → Type 0
-    StoppedBy why name = Stopped image bank n why name NotBegun runTurns
+    StoppedBy why name = Stopped image bank n why name (Ok NotBegun) runTurns
 
     -- with whatever comes afterwards
     abbrev pub EndStays : Type 0
@@ -118,21 +119,21 @@ module _ {S : Type 0} (m : NightSender S) where
 
   pub record MeetsGivingUp : Type 0 where
     pub why-tries : (image : List ℕ) (bank : Bank) (n tries : ℕ) (before : List ℕ) (gs : List Given) (name : Name) → Startable image n tries
-        → room ≤ length before → Roomy gs → ends_with m image bank n tries before gs ≡ GaveUp name Tries → TiredOut image bank n tries before gs name
+        → room ≤ length before → Roomy gs → ends_with m image bank n tries before gs ≡ Ok (GaveUp name Tries) → TiredOut image bank n tries before gs name
     pub tries-end : (image : List ℕ) (bank : Bank) (n tries : ℕ) (before : List ℕ) (gs : List Given) (name : Name) → Startable image n tries
-        → room ≤ length before → Roomy gs → Tired image bank n tries before gs name → ends_with m image bank n tries before gs ≡ GaveUp name Tries
+        → room ≤ length before → Roomy gs → Tired image bank n tries before gs name → ends_with m image bank n tries before gs ≡ Ok (GaveUp name Tries)
     pub why-bank : (image : List ℕ) (bank : Bank) (n tries : ℕ) (before : List ℕ) (gs : List Given) (name : Name) → Startable image n tries
-        → room ≤ length before → Roomy gs → ends_with m image bank n tries before gs ≡ GaveUp name WrongBank
+        → room ≤ length before → Roomy gs → ends_with m image bank n tries before gs ≡ Ok (GaveUp name WrongBank)
         → StoppedBy image bank n tries before gs WrongBank name
     pub bank-stops : (image : List ℕ) (bank : Bank) (n tries : ℕ) (before : List ℕ) (gs : List Given) (name : Name) → Startable image n tries
         → room ≤ length before → Roomy gs → StoppedBy image bank n tries before gs WrongBank name
-        → ends_with m image bank n tries before gs ≡ GaveUp name WrongBank
+        → ends_with m image bank n tries before gs ≡ Ok (GaveUp name WrongBank)
     pub why-unknown : (image : List ℕ) (bank : Bank) (n tries : ℕ) (before : List ℕ) (gs : List Given) (name : Name) → Startable image n tries
-        → room ≤ length before → Roomy gs → ends_with m image bank n tries before gs ≡ GaveUp name Unknown
+        → room ≤ length before → Roomy gs → ends_with m image bank n tries before gs ≡ Ok (GaveUp name Unknown)
         → StoppedBy image bank n tries before gs Unknown name
     pub unknown-stops : (image : List ℕ) (bank : Bank) (n tries : ℕ) (before : List ℕ) (gs : List Given) (name : Name) → Startable image n tries
         → room ≤ length before → Roomy gs → StoppedBy image bank n tries before gs Unknown name
-        → ends_with m image bank n tries before gs ≡ GaveUp name Unknown
+        → ends_with m image bank n tries before gs ≡ Ok (GaveUp name Unknown)
     -- "an event after finishing or giving up changes nothing": the same end is told, and the buffer keeps its bytes
     pub over-stays : (image : List ℕ) (bank : Bank) (n tries : ℕ) (before : List ℕ) (gs : List Given) → Startable image n tries
         → room ≤ length before → Roomy gs → is_over (ends_with m image bank n tries before gs) ≡ true → EndStays image bank n tries before gs
@@ -141,7 +142,7 @@ module _ {S : Type 0} (m : NightSender S) where
 
 -- gone out T times or more: where nothing is refused, and the event settles nothing and stops nothing, it is given up
 pub record GivenUp (r : Night) (name : Name) (before : List ℕ) (o : Told Night) : Type 0 where
-  pub told : o.next ≡ GaveUp name Tries
+  pub told : o.next ≡ Ok (GaveUp name Tries)
   pub stands : o.record_then ≡ standing (stand.GaveUp name Tries) r
   pub buffer : o.buffer ≡ before
 

@@ -4,7 +4,7 @@
 -- the board has given to a request of its own in this run, however late. So no request arrives after a later one was sent, and no answer of
 -- an earlier night, or to somebody else, is heard. `MeetsLoop` asks that nobody else sends; `NightStrangers` has what holds where others do.
 -- Assumes nothing.
-use Rattle.std.specs.Prelude.{◌≡◌, Bool, true, false, cond, List, [], ◌∷◌, ◌++◌, ℕ, suc, ◌-◌, ◌^◌, ◌≤◌, ◌<◌, length, get_or, take}
+use Rattle.std.specs.Prelude.{◌≡◌, Bool, true, false, cond, List, [], ◌∷◌, ◌++◌, ℕ, suc, ◌-◌, ◌^◌, ◌≤◌, ◌<◌, length, get_or, take, Result, Ok, Err}
 use Rattle.layout.specs.declared.Bank.{Bank}
 use Rattle.layout.specs.Layout.{bank_size, other_of}
 use Rattle.layout.specs.Pair.{bank_in}
@@ -16,7 +16,8 @@ use Rattle.calls.specs.Call.{Board}
 use Rattle.night.specs.declared.name.Name.{Name}
 use Rattle.night.specs.declared.name.Name.TheVariants.{ModeStart, VersionInfo, BankInfo, WriteStart, Packet, WriteEnd, ModeEnd}
 use Rattle.night.specs.declared.record.Next.{Next}
-use Rattle.night.specs.declared.record.Next.TheVariants.{BadN, BadLength, BadTries, NoPacket, NotBegun, Send, Finished, GaveUp}
+use Rattle.night.specs.declared.record.Next.TheVariants.{NotBegun, Send, Finished, GaveUp}
+use Rattle.night.specs.declared.record.Refusal.{Refusal}
 use Rattle.night.specs.Call.{Event, Heard, Silence}
 use Rattle.demands.specs.Board.{LentCall, Input, Initiate, Terminate, Datagram, Outcome, said, Machine, after, outcomes, sectors_in}
 use Rattle.demands.specs.Demand1.{Unchanged}
@@ -96,15 +97,12 @@ pub record Loop (S : Type 0) : Type 0 where
   pub inputs : List Input
   pub answers : List (List ℕ)
 
-abbrev pub request_after : Next → List ℕ → List ℕ → List ℕ
-request_after BadN buffer former = former
-request_after BadLength buffer former = former
-request_after BadTries buffer former = former
-request_after NoPacket buffer former = former
-request_after NotBegun buffer former = former
-request_after (Send name size) buffer former = take size buffer
-request_after Finished buffer former = former
-request_after (GaveUp name why) buffer former = former
+abbrev pub request_after : Result Next Refusal → List ℕ → List ℕ → List ℕ
+request_after (Err why) buffer former = former
+request_after (Ok NotBegun) buffer former = former
+request_after (Ok (Send name size)) buffer former = take size buffer
+request_after (Ok Finished) buffer former = former
+request_after (Ok (GaveUp name why)) buffer former = former
 
 -- what of it the night sender may hear: the answer to its own request, and to nobody else's
 abbrev pub said_on : Passage → Outcome → List (List ℕ)
@@ -149,21 +147,18 @@ module _ {S : Type 0} (m : NightSender S) (machine : Machine) (image : List ℕ)
 -- ---- 3. the closed loop
 
 -- it has finished, or given up at the mode end
-abbrev pub is_in : Next → Bool
-is_in BadN = false
-is_in BadLength = false
-is_in BadTries = false
-is_in NoPacket = false
-is_in NotBegun = false
-is_in (Send name size) = false
-is_in Finished = true
-is_in (GaveUp ModeStart why) = false
-is_in (GaveUp VersionInfo why) = false
-is_in (GaveUp BankInfo why) = false
-is_in (GaveUp WriteStart why) = false
-is_in (GaveUp (Packet p) why) = false
-is_in (GaveUp WriteEnd why) = false
-is_in (GaveUp ModeEnd why) = true
+abbrev pub is_in : Result Next Refusal → Bool
+is_in (Err why) = false
+is_in (Ok NotBegun) = false
+is_in (Ok (Send name size)) = false
+is_in (Ok Finished) = true
+is_in (Ok (GaveUp ModeStart why)) = false
+is_in (Ok (GaveUp VersionInfo why)) = false
+is_in (Ok (GaveUp BankInfo why)) = false
+is_in (Ok (GaveUp WriteStart why)) = false
+is_in (Ok (GaveUp (Packet p) why)) = false
+is_in (Ok (GaveUp WriteEnd why)) = false
+is_in (Ok (GaveUp ModeEnd why)) = true
 
 -- then the update is in
 pub record Updated (before now : Board) (image : List ℕ) (bank : Bank) (n : ℕ) : Type 0 where
@@ -238,7 +233,7 @@ MeetsArrival m machine =
     (image : List ℕ) (bank : Bank) (n tries : ℕ) (before address : List ℕ) (b : Board) (rs : List Round) → Startable image n tries → room ≤ length before
     → Waits b bank n → fit_of b.client.fixed image ≡ true → b.client.fixed.revision < 2 ^ 32
     → Goes address n tries (names_of (packet_count image n)) (tries - 1) 0 rs
-    → (rounds m machine image (begins m machine image bank n tries before b) rs).told.next ≡ Finished
+    → (rounds m machine image (begins m machine image bank n tries before b) rs).told.next ≡ Ok Finished
 
 -- ---- neither asks for what cannot be
 
@@ -269,5 +264,5 @@ pub record LosingNight {S : Type 0} (m : NightSender S) (machine : Machine) : Ty
   pub fit : fit_of board.client.fixed image ≡ true
   pub small : board.client.fixed.revision < 2 ^ 32
   pub goes : Goes address n 2 (names_of (packet_count image n)) (2 - 1) 0 rs
-  pub finished : (rounds m machine image (begins m machine image bank n 2 before board) rs).told.next ≡ Finished
+  pub finished : (rounds m machine image (begins m machine image bank n 2 before board) rs).told.next ≡ Ok Finished
   pub updated : Updated board (rounds m machine image (begins m machine image bank n 2 before board) rs).board image bank n

@@ -1,7 +1,7 @@
 -- Night senders that are shut out (02 §4; from the order and the bound, from finished exactly when every request was settled, and from giving up
 -- for its tries exactly when they were spent). Each class asks for one run on something that a start accepts.
 -- Assumes nothing.
-use Rattle.std.specs.Prelude.{◌≡◌, false, cond, List, [], ◌∷◌, ℕ, suc, ◌+◌, ◌≤◌, ◌<◌, eqb, length, replicate, Option, Some}
+use Rattle.std.specs.Prelude.{◌≡◌, false, cond, List, [], ◌∷◌, ℕ, suc, ◌+◌, ◌≤◌, ◌<◌, eqb, length, replicate, Result, Ok, Option, Some}
 use Rattle.buffer.specs.Place.{front_of}
 use Rattle.crc.specs.Crc.{crc_of}
 use Rattle.frame.specs.Frame.{write_frame}
@@ -18,6 +18,7 @@ use Rattle.night.specs.declared.name.Name.{Name}
 use Rattle.night.specs.declared.name.Name.TheVariants.{ModeStart, Packet}
 use Rattle.night.specs.declared.record.Next.{Next}
 use Rattle.night.specs.declared.record.Next.TheVariants.{Send, Finished, GaveUp}
+use Rattle.night.specs.declared.record.Refusal.{Refusal}
 use Rattle.night.specs.declared.record.Why.TheVariants.{Tries}
 use Rattle.night.specs.Call.{Heard, Silence}
 use Rattle.night.specs.Name.{frame_of}
@@ -33,21 +34,21 @@ pub record Begin : Type 0 where
   pub starts : Startable image n tries
   pub roomy : room ≤ length before
 
-abbrev pub ends_from : {S : Type 0} → NightSender S → Begin → List Given → Next
+abbrev pub ends_from : {S : Type 0} → NightSender S → Begin → List Given → Result Next Refusal
 ends_from m b gs = ends_with m b.image b.bank b.n b.tries b.before gs
 
 -- ---- one that says finished at once
 
 pub record FinishedAtOnce {S : Type 0} (m : NightSender S) : Type 0 where
   pub begin : Begin
-  pub tells : ends_from m begin [] ≡ Finished
+  pub tells : ends_from m begin [] ≡ Ok Finished
 
 -- one of them
-abbrev pub tells : Next → List ℕ → Told (Unit {0})
+abbrev pub tells : Result Next Refusal → List ℕ → Told (Unit {0})
 tells next before = record { record_then = tt; next = next; buffer = before }
 
 abbrev pub finished_at_once : NightSender (Unit {0})
-finished_at_once = record { start = λ image bank n tries before. tells Finished before; event = λ r event image before. tells Finished before }
+finished_at_once = record { start = λ image bank n tries before. tells (Ok Finished) before; event = λ r event image before. tells (Ok Finished) before }
 
 -- ---- one that never ends, whatever the events
 
@@ -59,8 +60,8 @@ pub record NeverEnds {S : Type 0} (m : NightSender S) : Type 0 where
 abbrev pub never_ending : NightSender (Unit {0})
 never_ending =
     record {
-      start = λ image bank n tries before. tells (Send ModeStart 5) before;
-      event = λ r event image before. tells (Send ModeStart 5) before;
+      start = λ image bank n tries before. tells (Ok (Send ModeStart 5)) before;
+      event = λ r event image before. tells (Ok (Send ModeStart 5)) before;
     }
 
 -- ---- one that skips a packet that was answered with a wrong CRC
@@ -76,16 +77,16 @@ pub record WrongCrc (image : List ℕ) (sector : ℕ) (r : Option Response) : Ty
 -- while packet p was at hand, nothing came but silence and such answers
 pub data OnlyWrong (image : List ℕ) (n p : ℕ) : List Turn → Type 0 where
   no_turn : OnlyWrong image n p []
-  elsewhere : {t : Turn} {ts : List Turn} → ((size : ℕ) → t.hand ≡ Send (Packet p) size → ⊥) → OnlyWrong image n p ts → OnlyWrong image n p (t ∷ ts)
-  silence : {hand : Next} {ts : List Turn} → OnlyWrong image n p ts → OnlyWrong image n p (turn hand Silence ∷ ts)
-  wrong : {hand : Next} {datagram : List ℕ} {ts : List Turn} → WrongCrc image (packet_sector image n p) (response_of datagram) → OnlyWrong image n p ts
+  elsewhere : {t : Turn} {ts : List Turn} → ((size : ℕ) → t.hand ≡ Ok (Send (Packet p) size) → ⊥) → OnlyWrong image n p ts → OnlyWrong image n p (t ∷ ts)
+  silence : {hand : Result Next Refusal} {ts : List Turn} → OnlyWrong image n p ts → OnlyWrong image n p (turn hand Silence ∷ ts)
+  wrong : {hand : Result Next Refusal} {datagram : List ℕ} {ts : List Turn} → WrongCrc image (packet_sector image n p) (response_of datagram) → OnlyWrong image n p ts
       → OnlyWrong image n p (turn hand (Heard datagram) ∷ ts)
 
 pub record SkipsPacket {S : Type 0} (m : NightSender S) : Type 0 where
   pub begin : Begin
   pub events : List Given
   pub roomy : Roomy events
-  pub finishes : ends_from m begin events ≡ Finished
+  pub finishes : ends_from m begin events ≡ Ok Finished
   pub packet : ℕ
   pub there : packet < packet_count begin.image begin.n
   pub skipped : OnlyWrong begin.image begin.n packet
@@ -98,11 +99,11 @@ pub record Going : Type 0 where
   pub names : List Name
 
 abbrev pub going_on : Bank → ℕ → List ℕ → List ℕ → List Name → Told Going
-going_on bank n image before [] = record { record_then = record { bank = bank; n = n; names = [] }; next = Finished; buffer = before }
+going_on bank n image before [] = record { record_then = record { bank = bank; n = n; names = [] }; next = Ok Finished; buffer = before }
 going_on bank n image before (name ∷ names) =
     record {
       record_then = record { bank = bank; n = n; names = names };
-      next = Send name (length (frame_of image bank n name));
+      next = Ok (Send name (length (frame_of image bank n name)));
       buffer = front_of before (frame_of image bank n name);
     }
 
@@ -129,15 +130,15 @@ wrong_answers image n =
 -- how often this request went out
 pub data Times {S : Type 0} (name : Name) : ℕ → List (Told S) → Type 0 where
   no_time : Times name 0 []
-  another : {k : ℕ} {o : Told S} {os : List (Told S)} → ((size : ℕ) → o.next ≡ Send name size → ⊥) → Times name k os → Times name k (o ∷ os)
-  once_more : {k size : ℕ} {o : Told S} {os : List (Told S)} → o.next ≡ Send name size → Times name k os → Times name (suc k) (o ∷ os)
+  another : {k : ℕ} {o : Told S} {os : List (Told S)} → ((size : ℕ) → o.next ≡ Ok (Send name size) → ⊥) → Times name k os → Times name k (o ∷ os)
+  once_more : {k size : ℕ} {o : Told S} {os : List (Told S)} → o.next ≡ Ok (Send name size) → Times name k os → Times name (suc k) (o ∷ os)
 
 pub record GivesUpEarly {S : Type 0} (m : NightSender S) : Type 0 where
   pub begin : Begin
   pub events : List Given
   pub roomy : Roomy events
   pub name : Name
-  pub gives_up : ends_from m begin events ≡ GaveUp name Tries
+  pub gives_up : ends_from m begin events ≡ Ok (GaveUp name Tries)
   pub times : ℕ
   pub counted : Times name times
       (first m begin.image begin.bank begin.n begin.tries begin.before events
@@ -148,6 +149,6 @@ pub record GivesUpEarly {S : Type 0} (m : NightSender S) : Type 0 where
 abbrev pub hopeless : NightSender (Unit {0})
 hopeless =
     record {
-      start = λ image bank n tries before. tells (GaveUp ModeStart Tries) before;
-      event = λ r event image before. tells (GaveUp ModeStart Tries) before;
+      start = λ image bank n tries before. tells (Ok (GaveUp ModeStart Tries)) before;
+      event = λ r event image before. tells (Ok (GaveUp ModeStart Tries)) before;
     }

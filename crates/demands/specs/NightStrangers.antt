@@ -4,7 +4,7 @@
 -- No more can be said of the moment of finishing (`TakenOver`). And it is not met by a board on which somebody else undoes the update while the
 -- mode is open (`Undone`), as one does that takes whoever sends for the opener.
 -- Assumes nothing.
-use Rattle.std.specs.Prelude.{◌≡◌, true, List, [], ◌∷◌, ℕ, ◌^◌, ◌≤◌, ◌<◌, length}
+use Rattle.std.specs.Prelude.{◌≡◌, true, List, [], ◌∷◌, ℕ, ◌^◌, ◌≤◌, ◌<◌, length, Ok}
 use Rattle.layout.specs.declared.Bank.{Bank}
 use Rattle.sender.specs.declared.request.Request.TheVariants.{WriteEnd}
 use Rattle.sender.specs.Made.{room}
@@ -86,7 +86,7 @@ last_of m machine k =
 -- one that finishes, and its bank is not to start next any more
 pub record TakenOver {S : Type 0} (m : NightSender S) (machine : Machine) : Type 0 where
   pub night : NightAmong
-  pub finished : (last_of m machine night).told.next ≡ Finished
+  pub finished : (last_of m machine night).told.next ≡ Ok Finished
   pub not_next : (last_of m machine night).board.client.next ≡ night.begin.bank → ⊥
 
 -- its mode is left by none of the inputs

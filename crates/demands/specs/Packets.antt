@@ -1,21 +1,21 @@
 -- What is asked of a maker of sector packets, whatever it is (01, 'Hex text', "The sender sends, lowest first"; 'What comes back when it is no',
 -- "Sender: 3, 2, 5"). A packet is judged by what its bytes say when they are read as a frame.
 -- Assumes nothing.
-use Rattle.std.specs.Prelude.{◌≡◌, true, false, ◌&&◌, cond, List, ℕ, ◌≤◌, ◌<◌, leb, ltb, length, take, drop, Some}
+use Rattle.std.specs.Prelude.{◌≡◌, true, false, ◌&&◌, cond, List, ℕ, ◌≤◌, ◌<◌, leb, ltb, length, take, drop, Some, Result}
 use Rattle.frame.specs.Read.{read_of, data_in}
 use Rattle.frame.specs.declared.read.Frame.TheVariants.{Write}
 use Rattle.layout.specs.Layout.{sector_size, good_n, sector_of}
 use Rattle.layout.specs.Said.{number, value}
-use Rattle.sender.specs.declared.made.Made.{Made}
+use Rattle.sender.specs.declared.made.Refusal.{Refusal}
 use Rattle.sender.specs.Made.{room, made_said, buffer_after}
 use Rattle.sender.specs.Packet.{packet_count, packet_sector, footer_of, packet_frame, image_good, packet_made}
 
 -- what a maker gives back, and the buffer then
 pub record MadeOut : Type 0 where
-  pub answer : Made
+  pub answer : Result ℕ Refusal
   pub buffer : List ℕ
 
-abbrev pub out : Made → List ℕ → MadeOut
+abbrev pub out : Result ℕ Refusal → List ℕ → MadeOut
 out answer buffer = record { answer = answer; buffer = buffer }
 
 -- refused by this number, and the buffer keeps its bytes

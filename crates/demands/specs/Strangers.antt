@@ -1,7 +1,7 @@
 -- One gateway at a time (02 §5). While the mode is open for an address, whatever comes from other addresses changes nothing, and is refused,
 -- answered E0 as from anyone, or answered 15. So an image that is delivered arrives among strangers as it does without.
 -- Assumes nothing.
-use Rattle.std.specs.Prelude.{◌≡◌, Bool, true, false, ◌&&◌, ◌||◌, cond, List, [], ◌∷◌, ◌⊎◌, ℕ, eqb, length, take, Option, Some}
+use Rattle.std.specs.Prelude.{◌≡◌, None, Bool, true, false, ◌&&◌, ◌||◌, cond, List, [], ◌∷◌, ◌⊎◌, ℕ, eqb, length, take, Option, Some}
 use Rattle.buffer.specs.Compare.{same_of}
 use Rattle.buffer.specs.Place.{front_of}
 use Rattle.frame.specs.Frame.{frame_error}
@@ -12,7 +12,6 @@ use Rattle.layout.specs.declared.Bank.{Bank}
 use Rattle.layout.specs.Pair.{Banks}
 use Rattle.exchange.specs.State.{is_open}
 use Rattle.client.specs.Host.{new_of}
-use Rattle.client.specs.Notice.{no_notice}
 use Rattle.client.specs.Record.{nobody}
 use Rattle.calls.specs.Call.{Board, board}
 use Rattle.demands.specs.Board.{LentCall, Input, Initiate, Terminate, Datagram, Outcome, said, Machine, after, outcomes, step_machine}
@@ -40,7 +39,7 @@ pub data ToldOff (r : Option Frame) (number : ℕ) (answer : List ℕ) : Type 0 
 -- the answer at the buffer's front is all that comes of it
 pub record Unheeded (b : Board) (call : LentCall) (o : Outcome) : Type 0 where
   pub board : o.board ≡ b
-  pub notice : o.notice ≡ no_notice
+  pub notice : o.notice ≡ None
   pub buffer : o.buffer ≡ front_of call.buffer (said o)
   pub told : ToldOff (read_of call.datagram) o.number (said o)
 

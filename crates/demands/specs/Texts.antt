@@ -1,13 +1,13 @@
 -- What is asked of a reader of hex text, whatever it is (01, 'Hex text'; 'What comes back when it is no', "then the H faults"; 02 §1, the byte).
 -- Assumes nothing.
-use Rattle.std.specs.Prelude.{◌≡◌, true, false, List, ℕ, ◌*◌, length, replicate}
+use Rattle.std.specs.Prelude.{◌≡◌, true, false, List, ℕ, ◌*◌, length, replicate, Result, Ok, Err}
 use Rattle.layout.specs.declared.Bank.{Bank}
 use Rattle.layout.specs.Layout.{sector_size, good_n, start_of}
 use Rattle.layout.specs.Said.{number, fault, accepted}
 use Rattle.lines.specs.Line.{lines}
 use Rattle.hex_text.specs.declared.fault.Refusal.{Refusal}
-use Rattle.hex_text.specs.declared.read.Answer.{Answer}
-use Rattle.hex_text.specs.declared.read.Answer.TheVariants.{BadN, BadLength, Refused, Accepted}
+use Rattle.hex_text.specs.declared.read.ReadError.{ReadError}
+use Rattle.hex_text.specs.declared.read.ReadError.TheVariants.{BadN, BadLength, Line}
 use Rattle.hex_text.specs.Meaning.{KeepsAll, FirstBroken, Leaves}
 use Rattle.hex_text.specs.Read.{Reading, kind_number, answer_said, text_read}
 
@@ -50,11 +50,11 @@ InventsByte read =
     → answer_said (read text bank n image).answer ≡ fault k l a → answer_said (read other bank n image).answer ≡ fault k l b → a ≡ b
 
 -- one of each kind: it answers as the definition does, but tells a refusal anew
-abbrev pub retold : (Refusal → Refusal) → Answer → Answer
-retold tells BadN = BadN
-retold tells BadLength = BadLength
-retold tells (Refused r) = Refused (tells r)
-retold tells Accepted = Accepted
+abbrev pub retold : (Refusal → Refusal) → Result (Unit {0}) ReadError → Result (Unit {0}) ReadError
+retold tells (Err BadN) = Err BadN
+retold tells (Err BadLength) = Err BadLength
+retold tells (Err (Line r)) = Err (Line (tells r))
+retold tells (Ok done) = Ok done
 
 abbrev pub retelling : (Bank → ℕ → List ℕ → Refusal → Refusal) → TextReader
 retelling tells text bank n image =

@@ -1,6 +1,6 @@
 -- What is asked of a writer of hex text, whatever it is, and of what is read of its texts (02 §2).
 -- Assumes nothing.
-use Rattle.std.specs.Prelude.{◌≡◌, true, false, cond, List, [], ◌++◌, ℕ, zero, suc, ◌*◌, ◌/◌, ◌≤◌, ◌<◌, length, take, drop}
+use Rattle.std.specs.Prelude.{◌≡◌, true, false, cond, List, [], ◌++◌, ℕ, zero, suc, ◌*◌, ◌/◌, ◌≤◌, ◌<◌, length, take, drop, Option, Some}
 use Rattle.buffer.specs.Compare.{blank_of}
 use Rattle.buffer.specs.Number.{byte_at}
 use Rattle.buffer.specs.Place.{place_of, front_of}
@@ -10,17 +10,15 @@ use Rattle.layout.specs.declared.Bank.TheVariants.{Zero, One}
 use Rattle.layout.specs.Layout.{sector_size, whole_length, start_of}
 use Rattle.layout.specs.Said.{number, value, accepted}
 use Rattle.hex_text.specs.Read.{Reading, answer_said}
-use Rattle.rows.specs.declared.text.Written.{Written}
-use Rattle.rows.specs.declared.text.Written.TheVariants.{Text}
 use Rattle.rows.specs.Text.{row_size, row_of, row_upper, data_line, upper_line, end_line, all_rows, text_of, longest_text, written_of, buffer_after, written_said}
 use Rattle.demands.specs.Texts.{TextReader}
 
 -- what a writer gives back, and the buffer then
 pub record WrittenOut : Type 0 where
-  pub answer : Written
+  pub answer : Option ℕ
   pub buffer : List ℕ
 
-abbrev pub wrote : Written → List ℕ → WrittenOut
+abbrev pub wrote : Option ℕ → List ℕ → WrittenOut
 wrote answer buffer = record { answer = answer; buffer = buffer }
 
 -- image, bank, buffer
@@ -42,16 +40,16 @@ abbrev pub MeetsWriter : TextWriter → Type 0
 MeetsWriter write = (image : List ℕ) (bank : Bank) (before : List ℕ) → WriteRight image bank before (write image bank before)
 
 -- of one that tells the length alone: 2, or the text's, and 707,121 bytes at most
-pub record LengthRight (image : List ℕ) (bank : Bank) (r : Written) : Type 0 where
+pub record LengthRight (image : List ℕ) (bank : Bank) (r : Option ℕ) : Type 0 where
   pub bad_length : whole_length (length image) ≡ false → written_said r ≡ number 2
   pub told : whole_length (length image) ≡ true → written_said r ≡ value (length (text_of image bank))
   pub most : (size : ℕ) → written_said r ≡ value size → size ≤ longest_text
 
-abbrev pub MeetsLength : (List ℕ → Bank → Written) → Type 0
+abbrev pub MeetsLength : (List ℕ → Bank → Option ℕ) → Type 0
 MeetsLength tell = (image : List ℕ) (bank : Bank) → LengthRight image bank (tell image bank)
 
 -- so a caller can lend enough
-abbrev pub Enough : (List ℕ → Bank → Written) → TextWriter → Type 0
+abbrev pub Enough : (List ℕ → Bank → Option ℕ) → TextWriter → Type 0
 Enough tell write =
     (image : List ℕ) (bank : Bank) (before : List ℕ) (size : ℕ) → written_said (tell image bank) ≡ value size → size ≤ length before
     → written_said (write image bank before).answer ≡ value size
@@ -108,7 +106,7 @@ ForgetsStart write = (image before : List ℕ) → write image Zero before ≡ w
 
 -- one of them: its rows' addresses count from 0
 abbrev pub start_forgetter : TextWriter
-start_forgetter image bank before = wrote (Text (length (all_rows image 0 ++ end_line))) (front_of before (all_rows image 0 ++ end_line))
+start_forgetter image bank before = wrote (Some (length (all_rows image 0 ++ end_line))) (front_of before (all_rows image 0 ++ end_line))
 
 -- the lines of the first k rows alone
 unfoldable pub row_lines : List ℕ → ℕ → ℕ → List ℕ
@@ -129,4 +127,4 @@ abbrev pub once_told : List ℕ → Bank → List ℕ
 once_told image bank = upper_line (row_upper (start_of bank) 0) ++ all_lines image bank ++ end_line
 
 abbrev pub half_forgetter : TextWriter
-half_forgetter image bank before = wrote (Text (length (once_told image bank))) (front_of before (once_told image bank))
+half_forgetter image bank before = wrote (Some (length (once_told image bank))) (front_of before (once_told image bank))

@@ -6,7 +6,7 @@ use mathlib.Core.List.{List, [], ◌∷◌, ◌++◌, foldl, foldl-append}
 use Prim.Native.Nat.{ℕ, zero, suc, ◌+◌, ◌-◌, ◌*◌, ◌<◌, ◌≤◌}
 use native.Mathlib.Omega.{arith}
 use native.Mathlib.Numerals.{add-one}
-use lib.Dec.{eqb, leb}
+use lib.Dec.{leb}
 use lib.ListN.{length, take, drop}
 use borrow.Author.Tests.{le-leb, leb-true, leb-false, eqb-true}
 use Rattle.buffer.specs.Place.{front_of}
@@ -14,8 +14,7 @@ use Rattle.buffer.proofs.Bools.{and_left, and_right, and_both, not_so}
 use Rattle.layout.specs.declared.Bank.{Bank}
 use Rattle.layout.specs.Layout.{other_of}
 use Rattle.layout.specs.Pair.{Banks, banks, bank_in, with_bank}
-use Rattle.exchange.specs.declared.answer.Answer.{Answer}
-use Rattle.exchange.specs.Answer.{answer_bytes}
+use Rattle.exchange.specs.Answer.{Reply, reply_bytes}
 use Rattle.client.specs.declared.record.Client.{Client}
 use Rattle.client.specs.declared.step.Stepped.{Stepped}
 use Rattle.client.specs.Step.{Carried, step_of, IsStep}
@@ -52,14 +51,6 @@ one_bad slots n k h b = not_so (slots_good slots n) (λ g. let s = each_good slo
 
 -- the slots, and then the addresses
 module _ (slots addresses : List ℕ) (n : ℕ) where
-  pub slots_bad : slots_good slots n ≡ false → false ≡ all_good slots addresses n
-  unfolding all_good
-  slots_bad e = rw e
-
-  pub by_addresses : slots_good slots n ≡ true → eqb (length addresses) (n * address_size) ≡ all_good slots addresses n
-  unfolding all_good
-  by_addresses e = rw e
-
   pub slots_all_good : all_good slots addresses n ≡ true → slots_good slots n ≡ true
   unfolding all_good
   slots_all_good g = and_left _ _ g
@@ -143,7 +134,7 @@ module _ (slots marks addresses buffer : List ℕ) (start : Board) where
             };
           };
           buffer = (s.said ∙ step_said c (length (bank_in x pair)) (bank_in (other_of x) pair) marks address lent (datagram_at slots k)
-              ∙ ap (λ (a : Answer). front_of lent (answer_bytes a)) same.answer) i;
+              ∙ ap (λ (a : Reply). front_of lent (reply_bytes a)) same.answer) i;
         }
 
     pub one-taken : ran (given_of r.answer r.length) (board r.client (banks bank0' bank1')) said ≡ run_at (k + 1)

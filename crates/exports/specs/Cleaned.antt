@@ -1,28 +1,19 @@
 -- What is told to C of a bank that is cleaned: the number by which 02 §7 refuses it, or 0, and how many runs and sectors are listed.
 -- Assumes nothing.
-use Rattle.std.specs.Prelude.{ℕ, ◌≡◌, Bool, cond, List, [], ◌∷◌, leb, length}
+use Rattle.std.specs.Prelude.{ℕ, ◌≡◌, Bool, cond, List, [], ◌∷◌, Ok, Err, leb, length}
 use Rattle.buffer.specs.Place.{front_of}
 use Rattle.layout.specs.Said.{code}
-use Rattle.clean.specs.declared.Cleaned.{Cleaned}
-use Rattle.clean.specs.declared.Cleaned.TheVariants.{BadLength, Faulty, NoRoom, Done}
-use Rattle.clean.specs.Clean.{runs_of, sectors_of, clean_of, clean_says, bank_after, list_after}
+use Rattle.clean.specs.declared.Counts.{Counts}
+use Rattle.clean.specs.Clean.{Cleaned, counts, runs_of, sectors_of, clean_of, clean_says, bank_after, list_after}
 use Rattle.clean.specs.Runs.{flat}
 
 -- how many of each, none where it is refused
-abbrev pub runs_told : Cleaned → ℕ
-runs_told BadLength = 0
-runs_told Faulty = 0
-runs_told NoRoom = 0
-runs_told (Done runs sectors) = runs
-
-abbrev pub sectors_told : Cleaned → ℕ
-sectors_told BadLength = 0
-sectors_told Faulty = 0
-sectors_told NoRoom = 0
-sectors_told (Done runs sectors) = sectors
+abbrev pub told_of : Cleaned → Counts
+told_of (Err refusal) = counts 0 0
+told_of (Ok done) = done
 
 abbrev pub counts_of : Cleaned → List ℕ
-counts_of r = runs_told r ∷ sectors_told r ∷ []
+counts_of r = (told_of r).runs ∷ (told_of r).sectors ∷ []
 
 -- whether there is room for the two; if not, the bank is not looked at
 abbrev pub room_for_counts : List ℕ → Bool

@@ -1,25 +1,23 @@
 -- A night for bank 0 hears the responses of slots, one after another, for a caller in C (02 §4).
 -- Assumes nothing.
-use Rattle.std.specs.Prelude.{ℕ, zero, suc, ◌≡◌, cond, List, length}
+use Rattle.std.specs.Prelude.{ℕ, zero, suc, ◌≡◌, cond, List, length, Result, Ok, Err}
 use Rattle.layout.specs.declared.Bank.TheVariants.{Zero}
 use Rattle.night.specs.declared.record.Called.{Called}
 use Rattle.night.specs.declared.record.Next.{Next}
-use Rattle.night.specs.declared.record.Next.TheVariants.{BadN, BadLength, BadTries, NoPacket, NotBegun, Send, Finished, GaveUp}
+use Rattle.night.specs.declared.record.Next.TheVariants.{NotBegun, Send, Finished, GaveUp}
 use Rattle.night.specs.declared.record.Night.{Night}
+use Rattle.night.specs.declared.record.Refusal.{Refusal}
 use Rattle.night.specs.Call.{Heard, heard_in, start_of, step_of, buffer_by}
-use Rattle.night.specs.Record.{next_number}
+use Rattle.night.specs.Record.{refusal_number}
 use Rattle.exports.specs.Slots.{slot_count, datagram_at, slots_good}
 
 -- how long the request is, or the refusal's number; what is neither has a number that is none of these
-abbrev pub next_code : Next → ℕ
-next_code BadN = next_number BadN
-next_code BadLength = next_number BadLength
-next_code BadTries = next_number BadTries
-next_code NoPacket = next_number NoPacket
-next_code NotBegun = 21
-next_code (Send name size) = size
-next_code Finished = 0
-next_code (GaveUp name why) = 20
+abbrev pub next_code : Result Next Refusal → ℕ
+next_code (Err why) = refusal_number why
+next_code (Ok NotBegun) = 21
+next_code (Ok (Send name size)) = size
+next_code (Ok Finished) = 0
+next_code (Ok (GaveUp name why)) = 20
 
 -- the record, what the last call told, and the buffer behind it
 pub record Stood : Type 0 where

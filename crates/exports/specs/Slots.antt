@@ -1,14 +1,12 @@
 -- A new client takes the datagrams of slots, each from its own address, one after another, for a caller in C (01, 'The client, step by step'; 02 §5).
 -- Assumes nothing.
-use Rattle.std.specs.Prelude.{ℕ, zero, suc, ◌+◌, ◌*◌, ◌/◌, ◌≡◌, Bool, true, ◌&&◌, cond, eqb, leb, length, take, drop}
+use Rattle.std.specs.Prelude.{Ok, Err, ℕ, zero, suc, ◌+◌, ◌*◌, ◌/◌, ◌≡◌, Bool, true, ◌&&◌, cond, eqb, leb, length, take, drop}
 use mathlib.Core.List.{List, [], ◌∷◌, ◌++◌, foldl}
 use Rattle.buffer.specs.Number.{number_at}
 use Rattle.buffer.specs.Place.{front_of}
 use Rattle.layout.specs.declared.Bank.TheVariants.{Zero}
 use Rattle.layout.specs.Pair.{banks}
-use Rattle.exchange.specs.declared.answer.Answer.{Answer}
-use Rattle.exchange.specs.declared.answer.Answer.TheVariants.{Refused, FrameError, ParameterError, Response, BankIs, VersionIs, Written}
-use Rattle.exchange.specs.Answer.{answer_bytes, refusal_number}
+use Rattle.exchange.specs.Answer.{Reply, reply_bytes, refusal_number}
 use Rattle.client.specs.declared.record.Client.{Client}
 use Rattle.client.specs.Host.{new_of, initiate_of}
 use Rattle.client.specs.Step.{Carried}
@@ -60,14 +58,9 @@ calls_of slots marks addresses buffer (suc k) =
 -- ---- what is left of calls
 
 -- how long an answer is, or the paper's number where there is none
-abbrev pub given_of : Answer → ℕ → ℕ
-given_of (Refused why) told = refusal_number why
-given_of FrameError told = told
-given_of ParameterError told = told
-given_of (Response command result) told = told
-given_of (BankIs bank) told = told
-given_of (VersionIs major minor revision) told = told
-given_of (Written sector result write crc) told = told
+abbrev pub given_of : Reply → ℕ → ℕ
+given_of (Err why) told = refusal_number why
+given_of (Ok answer) told = told
 
 -- what is given of the last answer, client and banks, and the buffer
 pub record Run : Type 0 where
@@ -83,7 +76,7 @@ last_given before r = given_of r.answer r.told
 
 -- one buffer is lent again and again: "An answer fills the front", and then the next one does
 abbrev pub said_next : List ℕ → Carried → List ℕ
-said_next buffer r = front_of buffer (answer_bytes r.answer)
+said_next buffer r = front_of buffer (reply_bytes r.answer)
 
 unfoldable pub run_of : List ℕ → Board → List Call → Run
 run_of buffer k calls =

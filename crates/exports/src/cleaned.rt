@@ -1,33 +1,31 @@
 // A bank cleaned: the paper's number, and how many runs and sectors are listed.
 ghost use Rattle.std.specs.Prelude.{◌≡◌};
-ghost use Rattle.exports.specs.Cleaned.{runs_told, sectors_told, IsCleanNumbers};
+ghost use Rattle.layout.specs.Said.{code};
+ghost use Rattle.clean.specs.Clean.{cleaned_said};
+ghost use Rattle.exports.specs.Cleaned.{told_of, IsCleanNumbers};
 
-use clean::Cleaned;
+use clean::{Counts, Refusal};
 
 // How many of each, none where it is refused.
-#[derive(Clone, Copy)]
-struct Counts {
-    runs: usize,
-    sectors: usize,
-}
-
-fn counts_of(cleaned: Cleaned) -> Counts
-    ensures { (result.runs ≡ runs_told cleaned) × (result.sectors ≡ sectors_told cleaned) }
+fn counts_of(cleaned: Result<Counts, Refusal>) -> Counts
+    ensures { result ≡ told_of cleaned }
 {
     match cleaned {
-        Cleaned::BadLength => Counts {
+        Ok(counts) => counts,
+        Err(_) => Counts {
             runs: 0,
             sectors: 0,
         },
-        Cleaned::Faulty => Counts {
-            runs: 0,
-            sectors: 0,
-        },
-        Cleaned::NoRoom => Counts {
-            runs: 0,
-            sectors: 0,
-        },
-        Cleaned::Done { runs, sectors } => Counts { runs, sectors },
+    }
+}
+
+// The paper's number, 0 where it is done.
+fn number_of(cleaned: Result<Counts, Refusal>) -> usize
+    ensures { result ≡ code (cleaned_said cleaned) }
+{
+    match cleaned {
+        Ok(_) => 0,
+        Err(refusal) => usize::from(refusal),
     }
 }
 
@@ -47,5 +45,5 @@ pub fn bank_clean(
     let counts = counts_of(cleaned);
     told[0] = counts.runs;
     told[1] = counts.sectors;
-    clean::cleaned_number(cleaned)
+    number_of(cleaned)
 }

@@ -6,21 +6,18 @@ ghost use Rattle.exports.specs.Heard.{next_code, IsNightSlots};
 
 use crate::slots::SLOT;
 use layout::Bank;
-use night::record::{Called, Next, Night};
+use night::record::{Called, Next, Night, Refusal};
 
 // A request's length, which is 5, 13 or 519, or a refusal's number; what is neither has a number that is none of these.
-fn next_code(next: Next) -> usize
+fn next_code(next: Result<Next, Refusal>) -> usize
     ensures { result ≡ next_code next }
 {
     match next {
-        Next::BadN => night::record::next_number(next) as usize,
-        Next::BadLength => night::record::next_number(next) as usize,
-        Next::BadTries => night::record::next_number(next) as usize,
-        Next::NoPacket => night::record::next_number(next) as usize,
-        Next::NotBegun => 21,
-        Next::Send { name: _, size } => size,
-        Next::Finished => 0,
-        Next::GaveUp { name: _, why: _ } => 20,
+        Err(why) => usize::from(why),
+        Ok(Next::NotBegun) => 21,
+        Ok(Next::Send { name: _, size }) => size,
+        Ok(Next::Finished) => 0,
+        Ok(Next::GaveUp { name: _, why: _ }) => 20,
     }
 }
 
@@ -45,15 +42,11 @@ pub fn night_take(image: &[u8], n: usize, tries: usize, slots: &[u8], buffer: &m
     }
     let begun = night::call::start(image, Bank::Zero, n, tries, buffer);
     let mut night = begun.night;
-    let first = begun.next;
-    let mut told = next_code(first);
-    let mut k = 0;
-    while k < count {
+    let mut told = next_code(begun.next);
+    for k in 0..count {
         let called = hear_slot(night, slots, k, image, buffer);
         night = called.night;
-        let next = called.next;
-        told = next_code(next);
-        k += 1;
+        told = next_code(called.next);
     }
     told
 }

@@ -4,6 +4,8 @@ ghost use Rattle.exports.specs.Packet.{IsPacketNumber};
 pub fn sender_packet(image: &[u8], n: usize, p: usize, buffer: &mut [u8]) -> usize
     ensures { IsPacketNumber image.now n p buffer.old result buffer.new }
 {
-    let made = sender::packet::packet(image, n, p, buffer);
-    sender::made::made_number(made)
+    match sender::packet::packet(image, n, p, buffer) {
+        Ok(size) => size,
+        Err(why) => usize::from(why),
+    }
 }

@@ -6,7 +6,7 @@ ghost use Rattle.exports.specs.Slots.{slot_room, slot_size, size_at, datagram_at
 use client::record::Client;
 use client::step::Stepped;
 use decision::plan::ADDRESS;
-use exchange::answer::Answer;
+use exchange::answer::{Answer, Refusal};
 use layout::Bank;
 
 // A slot has a datagram's length in two bytes, high byte first, and room for the longest request.
@@ -20,7 +20,7 @@ pub(crate) fn size_at(slots: &[u8], k: usize) -> usize
     requires { (k + 1) * slot_size ≤ length slots.now }
     ensures { result ≡ size_at slots.now k }
 {
-    buffer::number::number2(slots, k * SLOT) as usize
+    usize::from(buffer::number::number::<u16, _>(slots, k * SLOT))
 }
 
 // Whether no slot says more than it has room for.
@@ -28,51 +28,30 @@ pub(crate) fn slots_good(slots: &[u8], count: usize) -> bool
     requires { count * slot_size ≤ length slots.now }
     ensures { result ≡ slots_good slots.now count }
 {
-    let mut k = 0;
-    while k < count {
+    for k in 0..count {
         if ROOM < size_at(slots, k) {
             return false;
         }
-        k += 1;
     }
     true
 }
 
 // Whether all slots can be taken: each has room for what it says, and each has its address, with nothing behind the last.
+#[tactic(auto, unfolding(crate::specs::Slots::all_good))]
 fn all_good(slots: &[u8], addresses: &[u8], count: usize) -> bool
     requires { count * slot_size ≤ length slots.now }
     ensures { result ≡ all_good slots.now addresses.now count }
 {
-    if !slots_good(slots, count) {
-        return false;
-    }
-    addresses.len() == count * ADDRESS
+    slots_good(slots, count) && addresses.len() == count * ADDRESS
 }
 
 // How long an answer is, or the paper's number where there is none.
-fn given(answer: Answer, length: usize) -> usize
+fn given(answer: Result<Answer, Refusal>, length: usize) -> usize
     ensures { result ≡ given_of answer «length» }
 {
     match answer {
-        Answer::Refused(why) => exchange::answer::refusal_number(why) as usize,
-        Answer::FrameError => length,
-        Answer::ParameterError => length,
-        Answer::Response {
-            command: _,
-            result: _,
-        } => length,
-        Answer::BankIs(_) => length,
-        Answer::VersionIs {
-            major: _,
-            minor: _,
-            revision: _,
-        } => length,
-        Answer::Written {
-            sector: _,
-            result: _,
-            write: _,
-            crc: _,
-        } => length,
+        Ok(_) => length,
+        Err(why) => u8::from(why) as usize,
     }
 }
 
@@ -81,9 +60,7 @@ fn fresh(n: usize) -> Client
     ensures { result ≡ fresh n }
 {
     let made = Client::new(n, Bank::Zero, 0, 0, 0);
-    let closed = made.client;
-    let started = closed.initiate();
-    started.client
+    made.client.initiate().client
 }
 
 // The datagram of slot k, from its address.
@@ -134,13 +111,10 @@ pub fn client_take(
     }
     let mut client = fresh(n);
     let mut told = 0;
-    let mut k = 0;
-    while k < count {
+    for k in 0..count {
         let stepped = take_slot(client, slots, k, bank0, bank1, marks, addresses, buffer);
         client = stepped.client;
-        let answer = stepped.answer;
-        told = given(answer, stepped.length);
-        k += 1;
+        told = given(stepped.answer, stepped.length);
     }
     told
 }

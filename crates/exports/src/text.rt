@@ -4,7 +4,7 @@ ghost use Rattle.layout.specs.Said.{place_said};
 ghost use Rattle.hex_text.specs.Read.{answer_said};
 ghost use Rattle.exports.specs.Text.{IsReadNumbers};
 
-use hex_text::read::Answer;
+use hex_text::read::ReadError;
 use layout::Bank;
 
 // Where a text is at fault, both counted from 1; 0 where it is not.
@@ -14,17 +14,15 @@ struct Place {
     byte: usize,
 }
 
-fn place_of(answer: Answer) -> Place
+fn place_of(answer: Result<(), ReadError>) -> Place
     ensures { (result.line ≡ (place_said (answer_said answer)).line) × (result.byte ≡ (place_said (answer_said answer)).byte) }
 {
     match answer {
-        Answer::BadN => Place { line: 0, byte: 0 },
-        Answer::BadLength => Place { line: 0, byte: 0 },
-        Answer::Refused(refusal) => Place {
+        Err(ReadError::Line(refusal)) => Place {
             line: refusal.line,
             byte: refusal.byte,
         },
-        Answer::Accepted => Place { line: 0, byte: 0 },
+        _ => Place { line: 0, byte: 0 },
     }
 }
 

@@ -13,10 +13,7 @@ use layout::SECTOR;
 fn has_sector(bytes: usize, k: usize) -> bool
     ensures { result ≡ has_sector bytes k }
 {
-    if !layout::good_n(k) {
-        return false;
-    }
-    k * SECTOR <= bytes
+    layout::good_n(k) && k * SECTOR <= bytes
 }
 
 // One store to sector `k`. What does not lie within a sector of the bank changes nothing.
@@ -37,7 +34,7 @@ fn put_word(bank: &mut [u8], k: usize, bytes: &[u8], i: usize)
     ensures { StoresLeave (word_store k bytes.now i) bank.old bank.new }
 {
     let at = i * WORD;
-    let word = buffer::number::number4(&bytes[at..], 0);
+    let word: u32 = buffer::number::number(&bytes[at..], 0);
     if word == 0xFFFF_FFFF {
         return;
     }
@@ -49,10 +46,8 @@ fn put_words(bank: &mut [u8], k: usize, bytes: &[u8], n: usize)
     requires { n * word_bytes ≤ length bytes.now }
     ensures { StoresLeave (word_stores k bytes.now n) bank.old bank.new }
 {
-    let mut i = 0;
-    while i < n {
+    for i in 0..n {
         put_word(bank, k, bytes, i);
-        i += 1;
     }
 }
 
@@ -60,10 +55,7 @@ fn put_words(bank: &mut [u8], k: usize, bytes: &[u8], n: usize)
 fn fits_sector(m: usize) -> bool
     ensures { result ≡ fits_sector m }
 {
-    if SECTOR < m {
-        return false;
-    }
-    m % WORD == 0
+    m <= SECTOR && m % WORD == 0
 }
 
 // Whether all of sector `k` is the bytes followed by 0xFF already.
@@ -107,20 +99,14 @@ fn sweep_one(bank: &mut [u8], k: usize, received: bool)
 fn had(bytes: usize, n: usize) -> usize
     ensures { result ≡ min n (bytes / sector_size) }
 {
-    if n < bytes / SECTOR {
-        return n;
-    }
-    bytes / SECTOR
+    n.min(bytes / SECTOR)
 }
 
 // What is said of sector `j + 1`; one of which nothing is said was not received.
 fn was_received(received: &[bool], j: usize) -> bool
     ensures { result ≡ get_or received.now j false }
 {
-    if j < received.len() {
-        return received[j];
-    }
-    false
+    received.get(j).copied().unwrap_or(false)
 }
 
 // Each of sectors 1 to `n` that was not received is erased, blank or not.
@@ -128,9 +114,7 @@ pub fn sweep(bank: &mut [u8], n: usize, received: &[bool])
     ensures { IsSweep bank.old n received.now bank.new }
 {
     let last = had(bank.len(), n);
-    let mut j = 0;
-    while j < last {
+    for j in 0..last {
         sweep_one(bank, j + 1, was_received(received, j));
-        j += 1;
     }
 }

@@ -20,7 +20,7 @@ pub(crate) fn make(sector: &mut [u8], store: Store)
 {
     match store {
         Store::Erase => buffer::fill::fill(sector, 0xFF),
-        Store::Word { at, word } => buffer::number::put_number4(sector, at, word),
+        Store::Word { at, word } => buffer::number::put_number(sector, at, word),
     }
 }
 
@@ -30,8 +30,5 @@ pub(crate) fn holds(sector: &[u8], bytes: &[u8]) -> bool
     ensures { result ≡ same_of sector.now (padded_of bytes.now) }
 {
     let m = bytes.len();
-    if !buffer::compare::same(&sector[..m], bytes) {
-        return false;
-    }
-    buffer::compare::blank(&sector[m..])
+    buffer::compare::same(&sector[..m], bytes) && buffer::compare::blank(&sector[m..])
 }

@@ -6,7 +6,8 @@ use Rattle.layout.specs.declared.Bank.TheVariants.{Zero}
 use Rattle.layout.specs.Layout.{good_n}
 use Rattle.lines.specs.Line.{lines}
 use Rattle.hex_text.specs.declared.fault.Kind.TheVariants.{H1, H2}
-use Rattle.hex_text.specs.declared.read.Answer.TheVariants.{Refused}
+use Rattle.std.specs.Prelude.{Err}
+use Rattle.hex_text.specs.declared.read.ReadError.TheVariants.{Line}
 use Rattle.digits.specs.Digit.{value_of, is_digit}
 use Rattle.hex_text.specs.Spell.{byte_of, digit_bytes}
 use Rattle.hex_text.specs.Record.{Broken, digits_in, digits_whole, record_of, found_of}
@@ -17,7 +18,7 @@ unfoldable pub on1 : List ℕ → Reading
 on1 text = text_read text Zero 1 (replicate 512 0)
 
 -- a blank line
-pub blank_line : (on1 (0x0A ∷ [])).answer ≡ Refused (record { kind = H1; line = 1; byte = 1 })
+pub blank_line : (on1 (0x0A ∷ [])).answer ≡ Err (Line (record { kind = H1; line = 1; byte = 1 }))
 unfolding on1 text_read good_n read_lines lines found_of record_of
 blank_line = refl
 
@@ -26,7 +27,7 @@ abbrev stopped : List ℕ
 stopped = 0x3A ∷ 48 ∷ 48 ∷ []
 
 abbrev At4 : List ℕ → Type 0
-At4 text = (on1 text).answer ≡ Refused (record { kind = H1; line = 1; byte = 4 })
+At4 text = (on1 text).answer ≡ Err (Line (record { kind = H1; line = 1; byte = 4 }))
 
 pub before_lf : At4 (stopped ++ (0x0A ∷ []))
 unfolding on1 text_read good_n read_lines lines found_of record_of digits_whole digits_in byte_of is_digit value_of
@@ -54,6 +55,6 @@ digits_behind = refl
 
 -- `:020000041000EA` with another last digit
 pub other_sum : (on1 (0x3A ∷ 48 ∷ 50 ∷ 48 ∷ 48 ∷ 48 ∷ 48 ∷ 48 ∷ 52 ∷ 49 ∷ 48 ∷ 48 ∷ 48 ∷ 69 ∷ 66 ∷ [])).answer
-    ≡ Refused (record { kind = H2; line = 1; byte = 14 })
+    ≡ Err (Line (record { kind = H2; line = 1; byte = 14 }))
 unfolding on1 text_read good_n read_lines lines found_of record_of digits_whole digits_in digit_bytes byte_of is_digit value_of total
 other_sum = refl

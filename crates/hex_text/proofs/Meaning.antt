@@ -10,16 +10,15 @@ use Rattle.layout.specs.declared.Bank.{Bank}
 use Rattle.layout.specs.Layout.{good_n, start_of, sector_size}
 use Rattle.layout.specs.Said.{number, fault, accepted}
 use Rattle.lines.specs.Line.{lines}
-use Rattle.hex_text.specs.declared.fault.Kind.{Kind}
 use Rattle.hex_text.specs.declared.record.State.{State}
 use Rattle.hex_text.specs.declared.record.Found.{Found}
-use Rattle.hex_text.specs.declared.record.Found.TheVariants.{Fault, Data, Upper, End, Other}
-use Rattle.hex_text.specs.declared.read.Answer.TheVariants.{BadN, BadLength}
-use Rattle.hex_text.specs.declared.read.Outcome.{Outcome}
-use Rattle.hex_text.specs.declared.read.Outcome.TheVariants.{Stopped, Through}
+use Rattle.hex_text.specs.declared.record.Found.TheVariants.{Data, Upper, End, Other}
+use Rattle.std.specs.Prelude.{Result, Ok, Err}
+use Rattle.hex_text.specs.declared.fault.Refusal.{Refusal}
+use Rattle.hex_text.specs.declared.read.ReadError.TheVariants.{BadN, BadLength}
 use Rattle.hex_text.specs.Spell.{line_bytes}
-use Rattle.hex_text.specs.Record.{record_data, found_of}
-use Rattle.hex_text.specs.Read.{state_after, image_after, LinesRead, goes, read_lines, after_last, at_start, reading_of, lines_read, text_read}
+use Rattle.hex_text.specs.Record.{record_data}
+use Rattle.hex_text.specs.Read.{state_after, image_after, LinesRead, read_lines, after_last, at_start, reading_of, lines_read, text_read}
 use Rattle.hex_text.specs.Read.{answer_said, lines_say, read_says}
 use Rattle.hex_text.specs.Meaning.{line_type, line_at, NotEnded, Keeps, Breaks, KeepsAll, FirstBroken, at_line, no_end, Leaves}
 use Rattle.hex_text.proofs.Images.{leaves_same, leaves-data}
@@ -53,18 +52,10 @@ module _ (base size : ℕ) (ls : List (List ℕ)) where
       }
 
   image_length : (line image : List ℕ) (d : Found) → length (image_after base line d image) ≡ length image
-  image_length line image (Fault k byte) = refl
   image_length line image (Data start n) = length-sets image (start - base) (record_data n (line_bytes line))
   image_length line image (Upper u) = refl
   image_length line image End = refl
   image_length line image Other = refl
-
-  -- a line that keeps the rules is gone on behind
-  goes_on : {i : ℕ} {d : Found} → KeptAs ls i d → (x : Kind → ℕ → LinesRead) (y : LinesRead) → goes d x y ≡ y
-  goes_on (data_line h) x y = refl
-  goes_on (upper_line t) x y = refl
-  goes_on (end_line t) x y = refl
-  goes_on (other_line h u t) x y = refl
 
   leaves_next :
       {i : ℕ} {d : Found} (image : List ℕ) → Leaves base size ls i image → length image ≡ size → ((m : ℕ) → m < i → Keeps base size ls m)
@@ -81,16 +72,16 @@ module _ (base size : ℕ) (ls : List (List ℕ)) where
     next : ((m : ℕ) → m < i → Keeps base size ls m) → Keeps base size ls i → Reached (suc i)
     unfolding read_lines
     next each k =
-        let d : Found = found_of base size r.state (line_at ls i) in
         let says = keeps_as base size ls i r.state r.fits k in
+        let d : Found = says.found in
         let e : suc i + 1 ≡ i + 1 + 1 = omega arith in
         record {
           state = state_after d r.state;
           image = image_after base (line_at ls i) d r.image;
-          fits = state_next r.fits k says;
-          reads = here ∙ goes_on says _ _ ∙ rw e;
+          fits = state_next r.fits k says.kept;
+          reads = here ∙ rw (says.is, e);
           sized = image_length (line_at ls i) r.image d ∙ r.sized;
-          leaves = leaves_next r.image r.leaves r.sized each k says;
+          leaves = leaves_next r.image r.leaves r.sized each k says.kept;
         }
 
     -- one that breaks a rule stops it
@@ -115,7 +106,7 @@ module _ (base size : ℕ) (ls : List (List ℕ)) where
     missing : NotEnded ls (length ls) → lines_say lined.outcome ≡ fault 6 (length ls + 1) 1
     missing n = rw (at_end, still_open r.fits n)
 
-    ended : (m : ℕ) → m < length ls → line_type (line_at ls m) ≡ 1 → lined ≡ record { outcome = Through; image = r.image }
+    ended : (m : ℕ) → m < length ls → line_type (line_at ls m) ≡ 1 → lined ≡ record { outcome = Ok tt; image = r.image }
     ended m h t = at_end ∙ rw (seen r.fits m h t)
 
   -- THE RULES TELL WHAT IS SAID
@@ -126,7 +117,7 @@ module _ (base size : ℕ) (ls : List (List ℕ)) where
 
   -- what an accepted text comes to
   pub record GoesThrough : Type 0 where
-    pub through : lined.outcome ≡ Through
+    pub through : lined.outcome ≡ Ok tt
     pub sized : length lined.image ≡ size
     pub leaves : Leaves base size ls (length ls) lined.image
 
@@ -180,13 +171,13 @@ module _ (text : List ℕ) (bank : Bank) (n : ℕ) (before : List ℕ) where
   abbrev size : ℕ
   size = sector_size * n
 
-  abbrev outcome : Outcome
+  abbrev outcome : Result (Unit {0}) Refusal
   outcome = (lines_read text bank n).outcome
 
   -- by the two tests that come first
   data Way : Type 0 where
-    bad_n : text_read text bank n before ≡ record { answer = BadN; image = before } → read_says text bank n before ≡ number 3 → Way
-    bad_length : text_read text bank n before ≡ record { answer = BadLength; image = before } → read_says text bank n before ≡ number 2 → Way
+    bad_n : text_read text bank n before ≡ record { answer = Err BadN; image = before } → read_says text bank n before ≡ number 3 → Way
+    bad_length : text_read text bank n before ≡ record { answer = Err BadLength; image = before } → read_says text bank n before ≡ number 2 → Way
     lined-up :
         good_n n ≡ true → length before ≡ size → text_read text bank n before ≡ reading_of size outcome (lines_read text bank n).image
         → read_says text bank n before ≡ lines_say outcome → Way
@@ -204,9 +195,9 @@ module _ (text : List ℕ) (bank : Bank) (n : ℕ) (before : List ℕ) where
   pub answer_said_lem : answer_said (text_read text bank n before).answer ≡ read_says text bank n before
   answer_said_lem = by way
     where
-      lined-said : (o : Outcome) (image : List ℕ) → answer_said (reading_of size o image).answer ≡ lines_say o
-      lined-said (Stopped r) image = refl
-      lined-said Through image = refl
+      lined-said : (o : Result (Unit {0}) Refusal) (image : List ℕ) → answer_said (reading_of size o image).answer ≡ lines_say o
+      lined-said (Err r) image = refl
+      lined-said (Ok done) image = refl
 
       by : Way → answer_said (text_read text bank n before).answer ≡ read_says text bank n before
       by (bad_n e f) = rw (e, f)
@@ -221,11 +212,11 @@ module _ (text : List ℕ) (bank : Bank) (n : ℕ) (before : List ℕ) where
   pub unread : (m : ℕ) → read_says text bank n before ≡ number m → (text_read text bank n before).image ≡ before
   unread m a = by way outcome refl
     where
-      by : Way → (o : Outcome) → outcome ≡ o → (text_read text bank n before).image ≡ before
+      by : Way → (o : Result (Unit {0}) Refusal) → outcome ≡ o → (text_read text bank n before).image ≡ before
       by (bad_n e f) o q = rw e
       by (bad_length e f) o q = rw e
-      by (lined-up g w e f) (Stopped r) q = let z = sym a ∙ f ∙ ap lines_say q in no_way (cc)
-      by (lined-up g w e f) Through q = let z = sym a ∙ f ∙ ap lines_say q in no_way (cc)
+      by (lined-up g w e f) (Err r) q = let z = sym a ∙ f ∙ ap lines_say q in no_way (cc)
+      by (lined-up g w e f) (Ok done) q = let z = sym a ∙ f ∙ ap lines_say q in no_way (cc)
 
   module _ (g : good_n n ≡ true) where
     pub says-2 : (length before ≡ size → ⊥) → read_says text bank n before ≡ number 2
@@ -270,9 +261,9 @@ module _ (text : List ℕ) (bank : Bank) (n : ℕ) (before : List ℕ) where
   pub refused_broken : (k l byte : ℕ) → read_says text bank n before ≡ fault k l byte → IsRefused k l byte
   refused_broken k l byte a = by way (verdict base size (lines text))
     where
-      blank : (o : Outcome) (image : List ℕ) → lines_say o ≡ fault k l byte → (reading_of size o image).image ≡ replicate size 0xFF
-      blank (Stopped r) image e = refl
-      blank Through image e = no_way (cc)
+      blank : (o : Result (Unit {0}) Refusal) (image : List ℕ) → lines_say o ≡ fault k l byte → (reading_of size o image).image ≡ replicate size 0xFF
+      blank (Err r) image e = refl
+      blank (Ok done) image e = no_way (cc)
 
       by : Way → Verdict base size (lines text) → IsRefused k l byte
       by (bad_n e f) v = let z = sym f ∙ a in no_way (cc)

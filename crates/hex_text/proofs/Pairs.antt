@@ -2,6 +2,7 @@
 -- Assumes nothing.
 use Rattle.std.proofs.Common.{◌≡◌, ℕ, zero, suc, ◌+◌, ◌-◌, ◌*◌, ◌%◌, ◌<◌, ◌≤◌, Bool, true, false, cond, ◌&&◌, List, ◌∷◌, get_or, set, sym, refl, ◌∙◌, add-zero, add_assoc, add-one, arith, ltb-true, le-ltb, lt-ltb}
 use lib.Seq.{sets}
+use Rattle.std.specs.Prelude.{Some, None}
 use Rattle.buffer.specs.Total.{total}
 use Rattle.buffer.proofs.Bools.{and_left, and_right}
 use Rattle.digits.specs.Digit.{value_of, is_digit}
@@ -58,11 +59,11 @@ check_goes :
 unfolding check_from total all_bytes
 check_goes s t p k h b = rw (bytes_one t p k h) (simp (lt-ltb _ _ b, add_assoc))
 
-check_stops : (s : ℕ) (t : List ℕ) (p k : ℕ) → 0 < k → 256 ≤ pair_byte t p → check_from s (bytes_at t p k) ≡ 256
+check_stops : (s : ℕ) (t : List ℕ) (p k : ℕ) → 0 < k → 256 ≤ pair_byte t p → check_from s (bytes_at t p k) ≡ None
 unfolding check_from all_bytes
 check_stops s t p k h b = rw (bytes_one t p k h) (simp (le-ltb _ _ b))
 
-pub check_ends : (s : ℕ) (t : List ℕ) (p : ℕ) → check_from s (bytes_at t p 0) ≡ s % 256
+pub check_ends : (s : ℕ) (t : List ℕ) (p : ℕ) → check_from s (bytes_at t p 0) ≡ Some (s % 256)
 unfolding check_from total all_bytes bytes_at
 check_ends s t p = rw add-zero
 
@@ -73,7 +74,7 @@ check_mod s bs = let e : (s % 256 + total bs) % 256 ≡ (s + total bs) % 256 = o
 -- one pair more of the sum, whether or not it is one
 pub check_step :
     (good g : Bool) (s b : ℕ) (t : List ℕ) (p k : ℕ) → 0 < k → g ≡ pair_at t p → (pair_at t p ≡ true → b ≡ pair_byte t p)
-    → cond good (check_from s (bytes_at t p k)) 256 ≡ cond (good && g) (check_from ((s + b) % 256) (bytes_at t (p + 2) (k - 1))) 256
+    → cond good (check_from s (bytes_at t p k)) None ≡ cond (good && g) (check_from ((s + b) % 256) (bytes_at t (p + 2) (k - 1))) None
 check_step false g s b t p k h e f = refl
 check_step true false s b t p k h e f = check_stops s t p k h (rw (pair_none (get_or t p 0) (get_or t (p + 1) 0) (sym e)) (omega arith))
 check_step true true s b t p k h e f =

@@ -1,7 +1,7 @@
--- Where a line goes wrong as the code finds it: the digits due and found behind the colon, one more at a time, and the place case by case.
+-- Where a line goes wrong as the code finds it: the digits due and found behind the colon, and the place case by case.
 -- Assumes nothing.
-use Rattle.std.proofs.Common.{◌≡◌, ℕ, suc, ◌+◌, ◌-◌, ◌<◌, ◌≤◌, Bool, true, false, List, [], ◌∷◌, length, get_or, drop, sym, refl, ◌∙◌, arith, drop_of_length-le, drop-cons, eq-eqb, ne_eqb}
-use native.Mathlib.Decide.{dec_lt}
+use Rattle.std.proofs.Common.{◌≡◌, ℕ, zero, suc, ◌+◌, ◌<◌, ◌≤◌, Bool, true, false, cond, List, [], ◌∷◌, length, get_or, take, drop, refl, arith, eq-eqb, ne_eqb}
+use Rattle.std.specs.List.{prefix_len}
 use lib.ListN.{get_or-eq_default}
 use Rattle.buffer.proofs.Bools.{and_false, no_way}
 use Rattle.digits.specs.Digit.{value_of, is_digit}
@@ -16,13 +16,6 @@ pub none_past : (l : List ℕ) (at : ℕ) → length l ≤ at → is_digit (get_
 unfolding is_digit value_of
 none_past l at h = rw (get_or-eq_default l 0 {n = at} h)
 
-pub digit_inside : (l : List ℕ) (at : ℕ) → is_digit (get_or l at 0) ≡ true → at < length l
-digit_inside l at e = by (dec_lt at (length l))
-  where
-    by : Dec (at < length l) → at < length l
-    by (yes h) = h
-    by (no h) = let z = sym e ∙ none_past l at (omega arith) in no_way (cc)
-
 -- THE DIGITS DUE: more than there can be, where no two spell the count
 
 module _ (l : List ℕ) where
@@ -32,33 +25,18 @@ module _ (l : List ℕ) where
   pub due_short : length l < 2 → digits_due l ≡ 522
   due_short h = due_none (rw (none_past l 1 (omega arith)) (and_false (is_digit (get_or l 0 0))))
 
--- THE DIGITS FOUND, from digit n on
+-- THE DIGITS FOUND: those before the first, of as many as are due, that is none
 
-pub found_start : (due : ℕ) (l : List ℕ) → digits_in due l ≡ 0 + digits_in (due - 0) l
-found_start due l = let e : due - 0 ≡ due = omega arith in rw e (omega arith)
-
-module _ (due : ℕ) (l : List ℕ) (n : ℕ) where
-  pub found_all : due ≤ n → digits_in (due - n) (drop n l) ≡ 0
-  unfolding digits_in
-  found_all h = let e : due - n ≡ 0 = omega arith in rw e
-
-  module _ (more : n < due) where
-    one-due : due - n ≡ suc (due - (n + 1))
-    one-due = omega arith
-
-    pub found-one : is_digit (get_or l n 0) ≡ true → digits_in (due - n) (drop n l) ≡ suc (digits_in (due - (n + 1)) (drop (n + 1) l))
-    unfolding digits_in
-    found-one e =
-        let next : suc n ≡ n + 1 = omega arith in
-        rw (one-due, drop-cons l n 0 (digit_inside l n e), e, next)
-
-    pub found-last : is_digit (get_or l n 0) ≡ false → digits_in (due - n) (drop n l) ≡ 0
-    unfolding digits_in
-    found-last e = by (dec_lt n (length l))
-      where
-        by : Dec (n < length l) → digits_in (due - n) (drop n l) ≡ 0
-        by (yes h) = rw (one-due, drop-cons l n 0 h, e)
-        by (no h) = rw (one-due, drop_of_length-le l {i = n} (omega arith))
+pub found_so : (due : ℕ) (l : List ℕ) → prefix_len is_digit (take due l) ≡ digits_in due l
+unfolding digits_in
+found_so zero l = refl
+found_so (suc due) [] = refl
+found_so (suc due) (c ∷ l) = by (is_digit c) (found_so due l)
+  where
+    by : (b : Bool) → prefix_len is_digit (take due l) ≡ digits_in due l
+        → cond b (1 + prefix_len is_digit (take due l)) 0 ≡ cond b (suc (digits_in due l)) 0
+    by true e = omega arith
+    by false e = refl
 
 due_few : (l : List ℕ) → digits_due l ≤ 522
 due_few l = by (pair_at l 0) refl

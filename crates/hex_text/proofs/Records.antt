@@ -1,6 +1,6 @@
 -- A line and its record: digit by digit as it is said, from left to right as the definition reads it, and by the code's tests.
 -- Assumes nothing.
-use Rattle.std.proofs.Common.{◌≡◌, ℕ, zero, suc, ◌+◌, ◌*◌, ◌/◌, ◌%◌, ◌<◌, ◌≤◌, Bool, true, false, cond, eqb, ltb, List, [], ◌∷◌, ◌++◌, length, get_or, take, drop, sym, refl, ap, ◌∙◌, le_of_suc-le-suc, not-suc-le-zero, zero-add, add-one, arith, length-drop, drop_of_length-le, drop-cons, take_at, ltb-true, lt-ltb, eq-eqb, eqb-true}
+use Rattle.std.proofs.Common.{◌≡◌, ℕ, zero, suc, ◌+◌, ◌*◌, ◌/◌, ◌%◌, ◌<◌, ◌≤◌, Bool, true, false, cond, eqb, ltb, List, [], ◌∷◌, ◌++◌, length, get_or, take, drop, sym, refl, ap, ◌∙◌, le_of_suc-le-suc, not-suc-le-zero, zero-add, add-one, arith, Some, None, length-drop, drop_of_length-le, drop-cons, take_at, ltb-true, lt-ltb, eq-eqb, eqb-true}
 use native.Mathlib.Decide.{dec_lt}
 use lib.ListN.{get_or-append}
 use lib.Seq.{take-append-le, drop-append-le, sets, sets-eq}
@@ -196,35 +196,38 @@ module _ (line : List ℕ) (r : IsRecord line) where
 
 -- THE SUM of a line that is a record, and of one that is none
 
-sum_none : (line : List ℕ) → (IsRecord line → ⊥) → sum_of (record_of line) ≡ 256
+sum_none : (line : List ℕ) → (IsRecord line → ⊥) → sum_of (record_of line) ≡ None
 sum_none line n = by (record_of line) refl
   where
-    by : (r : Spelled) → record_of line ≡ r → sum_of r ≡ 256
+    by : (r : Spelled) → record_of line ≡ r → sum_of r ≡ None
     by (Whole bytes) e = absurd (n (whole_record line bytes e).0)
     by (Broken place) e = refl
 
-pub sum_record : (line : List ℕ) → IsRecord line → sum_of (record_of line) ≡ 256 → ⊥
-sum_record line r e = let f : total (line_bytes line) % 256 ≡ 256 = rw (record_whole line r) at e in omega arith
+pub sum_record : (line : List ℕ) → IsRecord line → sum_of (record_of line) ≡ None → ⊥
+sum_record line r e = let f : Some (total (line_bytes line) % 256) ≡ None = rw (record_whole line r) at e in no_way (cc)
 
-pub sum_some : (line : List ℕ) → (sum_of (record_of line) ≡ 256 → ⊥) → IsRecord line
-sum_some line n = by (record_of line) refl
+pub sum_some : (line : List ℕ) {sum : ℕ} → Some sum ≡ sum_of (record_of line) → IsRecord line × (sum ≡ total (line_bytes line) % 256)
+sum_some line {sum} n = by (record_of line) refl n
   where
-    by : (r : Spelled) → record_of line ≡ r → IsRecord line
-    by (Whole bytes) e = (whole_record line bytes e).0
-    by (Broken place) e = absurd (n (rw e))
+    by : (r : Spelled) → record_of line ≡ r → Some sum ≡ sum_of r → IsRecord line × (sum ≡ total (line_bytes line) % 256)
+    by (Whole bytes) e f =
+        let w = whole_record line bytes e in
+        let g : sum ≡ total bytes % 256 = cc in
+        (w.0, rw (sym w.1) g)
+    by (Broken place) e f = no_way (cc)
 
 -- all are bytes, or the sum says so
-sum_bad : (bs : List ℕ) → check_from 0 bs ≡ 256 → all_bytes bs ≡ true → ⊥
+sum_bad : (bs : List ℕ) → None ≡ check_from 0 bs → all_bytes bs ≡ true → ⊥
 unfolding check_from
-sum_bad bs e a = let f : (0 + total bs) % 256 ≡ 256 = rw a at e in omega arith
+sum_bad bs e a = let f : None ≡ Some ((0 + total bs) % 256) = rw a at e in no_way (cc)
 
-sum_good : (bs : List ℕ) → (check_from 0 bs ≡ 256 → ⊥) → (all_bytes bs ≡ true) × (check_from 0 bs ≡ total bs % 256)
+sum_good : (bs : List ℕ) {sum : ℕ} → Some sum ≡ check_from 0 bs → (all_bytes bs ≡ true) × (sum ≡ total bs % 256)
 unfolding check_from
-sum_good bs h = by (all_bytes bs) refl
+sum_good bs {sum} h = by (all_bytes bs) refl h
   where
-    by : (b : Bool) → all_bytes bs ≡ b → (all_bytes bs ≡ true) × (check_from 0 bs ≡ total bs % 256)
-    by true e = (e, simp (e, zero-add))
-    by false e = absurd (h (simp e))
+    by : (b : Bool) → all_bytes bs ≡ b → Some sum ≡ cond b (Some ((0 + total bs) % 256)) None → (all_bytes bs ≡ true) × (sum ≡ total bs % 256)
+    by true e f = let g : sum ≡ (0 + total bs) % 256 = cc in (e, rw zero-add at g)
+    by false e f = no_way (cc)
 
 -- THE BYTES AT THE FRONT of what was lent
 
@@ -246,13 +249,13 @@ module _ (bytes before : List ℕ) {held : List ℕ} (room : length bytes ≤ le
 -- WHAT WAS SUMMED, TEST BY TEST
 
 module _ (line before after : List ℕ) where
-  summed_not : (IsRecord line → ⊥) → Summed line before after 256
+  summed_not : (IsRecord line → ⊥) → Summed line before after None
   summed_not n = record { sum = sym (sum_none line n); put = λ bytes e. absurd (n (whole_record line bytes e).0) }
 
-  pub summed_short : length line < 11 → Summed line before after 256
+  pub summed_short : length line < 11 → Summed line before after None
   summed_short h = summed_not (λ r. omega (arith, r.counted))
 
-  pub summed_long : 521 < length line → Summed line before after 256
+  pub summed_long : 521 < length line → Summed line before after None
   summed_long h =
       summed_not
       (λ r.
@@ -260,30 +263,30 @@ module _ (line before after : List ℕ) where
       let low = r.digits 2 (omega arith) (omega arith) in
       omega (arith, r.counted))
 
-  pub summed_even : length line % 2 ≡ 0 → Summed line before after 256
+  pub summed_even : length line % 2 ≡ 0 → Summed line before after None
   summed_even h = summed_not (λ r. omega (arith, r.counted))
 
-  pub summed_colon : (get_or line 0 0 ≡ 0x3A → ⊥) → Summed line before after 256
+  pub summed_colon : (get_or line 0 0 ≡ 0x3A → ⊥) → Summed line before after None
   summed_colon h = summed_not (λ r. h r.colon)
 
   -- the pairs of digits behind the colon
   abbrev pairs : List ℕ
   pairs = bytes_at line 1 (length line / 2)
 
-  module _ (odd : length line % 2 ≡ 0 → ⊥) {sum : ℕ} (added : sum ≡ check_from 0 pairs) where
+  module _ (odd : length line % 2 ≡ 0 → ⊥) where
     halves : length line ≡ 2 * (length line / 2) + 1
     halves = omega arith
 
-    pub summed-bytes : sum ≡ 256 → Summed line before after 256
+    pub summed-bytes : None ≡ check_from 0 pairs → Summed line before after None
     summed-bytes z =
         summed_not
-        (λ r. sum_bad _ (sym added ∙ z) (all_bytes_lem line 1 (length line / 2) (λ i l h. r.digits i l (omega arith))))
+        (λ r. sum_bad _ z (all_bytes_lem line 1 (length line / 2) (λ i l h. r.digits i l (omega arith))))
 
     module _
-        (good : sum ≡ 256 → ⊥) (colon : get_or line 0 0 ≡ 0x3A) (some : 11 ≤ length line) (few : length line ≤ 521)
+        {sum : ℕ} (added : Some sum ≡ check_from 0 pairs) (colon : get_or line 0 0 ≡ 0x3A) (some : 11 ≤ length line) (few : length line ≤ 521)
         (room : 260 ≤ length before) (put : after ≡ sets before 0 pairs) {n : ℕ} (count : n ≡ record_count after) where
-      total-is : (all_bytes pairs ≡ true) × (check_from 0 pairs ≡ total pairs % 256)
-      total-is = sum_good _ (λ z. good (added ∙ z))
+      total-is : (all_bytes pairs ≡ true) × (sum ≡ total pairs % 256)
+      total-is = sum_good _ added
 
       digits : (i : ℕ) → 1 ≤ i → i < length line → value_of (get_or line i 0) < 16
       digits i l h = bytes_all line 1 (length line / 2) total-is.0 i l (omega arith)
@@ -295,15 +298,15 @@ module _ (line before after : List ℕ) where
           count ∙ front_count pairs before (omega arith) put (omega arith)
           ∙ rw b at (byte-spelled line (length line / 2) halves digits 0 (omega arith))
 
-      pub summed-count : (length line / 2 ≡ n + 5 → ⊥) → Summed line before after 256
+      pub summed-count : (length line / 2 ≡ n + 5 → ⊥) → Summed line before after None
       summed-count d = summed_not (λ r. let c = count_is in d (omega (arith, r.counted)))
 
-      pub summed : length line / 2 ≡ n + 5 → Summed line before after sum
+      pub summed : length line / 2 ≡ n + 5 → Summed line before after (Some sum)
       summed d =
           let b = line_bytes_lem line (length line / 2) halves in
           let c = count_is in
           let r : IsRecord line = record { colon = colon; digits = digits; counted = omega arith } in
           record {
-            sum = added ∙ total-is.1 ∙ rw (record_whole line r, b);
+            sum = rw (record_whole line r, b, total-is.1);
             put = λ bytes e. put ∙ ap (sets before 0) (sym b ∙ sym (whole_record line bytes e).1);
           }

@@ -6,14 +6,16 @@ use native.Mathlib.Decide.{ℕ_discrete, dec_lt, dec_le}
 use lib.Seq.{take-length}
 use Rattle.buffer.specs.Total.{total}
 use Rattle.buffer.proofs.Bools.{and_both, not_so, no_way}
+use Rattle.std.specs.Prelude.{Result, Ok}
 use Rattle.hex_text.specs.declared.fault.Kind.{Kind}
+use Rattle.hex_text.specs.declared.fault.Fault.{Fault}
 use Rattle.hex_text.specs.declared.fault.Kind.TheVariants.{H1, H2, H3, H4, H5, H6}
 use Rattle.hex_text.specs.declared.record.State.{State}
 use Rattle.hex_text.specs.declared.record.Found.{Found}
-use Rattle.hex_text.specs.declared.record.Found.TheVariants.{Fault, Data, Upper, End, Other}
+use Rattle.hex_text.specs.declared.record.Found.TheVariants.{Data, Upper, End, Other}
 use Rattle.hex_text.specs.Spell.{line_bytes}
 use Rattle.hex_text.specs.Record.{Spelled, Whole, Broken, record_count, record_address, record_type, record_upper, record_data, record_of}
-use Rattle.hex_text.specs.Record.{record_checksum_place, colon_place, in_bank, data_at, typed, found_of}
+use Rattle.hex_text.specs.Record.{record_checksum_place, colon_place, fault_at, in_bank, data_at, typed, found_of}
 use Rattle.hex_text.specs.Read.{state_after, at_start, kind_number}
 use Rattle.hex_text.specs.Meaning.{line_count, line_address, line_type, line_data, line_upper, sum_to, IsRecord, AddsUp, checksum_place, GoodType}
 use Rattle.hex_text.specs.Meaning.{data_record, end_record, upper_record, start_record}
@@ -153,14 +155,14 @@ module _ (base size : ℕ) (ls : List (List ℕ)) (i : ℕ) (s : State) (state :
   abbrev line : List ℕ
   line = line_at ls i
 
-  abbrev found : Found
+  abbrev found : Result Found Fault
   found = found_of base size s line
 
   module _ (n : NotEnded ls i) (r : IsRecord line) where
-    found-sum : (AddsUp line → ⊥) → found ≡ Fault H2 (checksum_place line)
+    found-sum : (AddsUp line → ⊥) → found ≡ fault_at H2 (checksum_place line)
     found-sum a =
         let e : record_checksum_place (line_bytes line) ≡ checksum_place line = let c = count_is line r in omega arith in
-        found-2 base size s line (still_open state n) r (λ z. a (ap (λ (t : ℕ). t % 256) (sym (sum_is line r)) ∙ z)) ∙ ap (Fault H2) e
+        found-2 base size s line (still_open state n) r (λ z. a (ap (λ (t : ℕ). t % 256) (sym (sum_is line r)) ∙ z)) ∙ ap (λ (b : ℕ). fault_at H2 b) e
 
     module _ (a : AddsUp line) where
       found-is : found ≡ typed base size (upper_at ls i) s.last (line_bytes line)
@@ -174,7 +176,7 @@ module _ (base size : ℕ) (ls : List (List ℕ)) (i : ℕ) (s : State) (state :
           found-is ∙ typed_data _ _ _ _ (line_bytes line) (sym (address_is line r)) (type_is line r ∙ t)
           ∙ ap (data_at base size s.last (start_at ls i)) (count_is line r)
 
-      found_none : line_type line ≡ 0 → line_count line ≡ 0 → found ≡ Other
+      found_none : line_type line ≡ 0 → line_count line ≡ 0 → found ≡ Ok Other
       unfolding data_at
       found_none t z = found_data t ∙ simp (eq-eqb _ 0 z)
 
@@ -185,7 +187,7 @@ module _ (base size : ℕ) (ls : List (List ℕ)) (i : ℕ) (s : State) (state :
         in-so : in_bank base size (start_at ls i) (line_count line) ≡ true → InBank base size ls i
         in-so e j b = let l = in_bank_lem base size (start_at ls i) (line_count line) e in (omega arith, omega (arith, b.1))
 
-        found-4 : (InBank base size ls i → ⊥) → found ≡ Fault H4 colon_place
+        found-4 : (InBank base size ls i → ⊥) → found ≡ fault_at H4 colon_place
         unfolding data_at
         found-4 x = found_data h.0 ∙ rw (ne_eqb (line_count line) 0 some, not_so _ (λ e. x (in-so e)))
 
@@ -193,13 +195,13 @@ module _ (base size : ℕ) (ls : List (List ℕ)) (i : ℕ) (s : State) (state :
           inside : in_bank base size (start_at ls i) (line_count line) ≡ true
           inside = in_bank_so base size (start_at ls i) (line_count line) h.1 (λ j l. b j (h.0, l))
 
-          found-5 : (AfterEarlier ls i → ⊥) → found ≡ Fault H5 colon_place
+          found-5 : (AfterEarlier ls i → ⊥) → found ≡ fault_at H5 colon_place
           unfolding data_at
           found-5 x =
               found_data h.0
               ∙ rw (ne_eqb (line_count line) 0 some, inside, not_so (leb s.last (start_at ls i)) (λ e. x (after_so state (leb-true _ _ e))))
 
-          found-there : AfterEarlier ls i → found ≡ Data (start_at ls i) (line_count line)
+          found-there : AfterEarlier ls i → found ≡ Ok (Data (start_at ls i) (line_count line))
           unfolding data_at
           found-there x = found_data h.0 ∙ rw (ne_eqb (line_count line) 0 some, inside, le-leb _ _ (so_after state h x))
 
@@ -208,21 +210,21 @@ module _ (base size : ℕ) (ls : List (List ℕ)) (i : ℕ) (s : State) (state :
         other-typed : record_type (line_bytes line) ≡ 0 → ⊥
         other-typed z = t (sym (type_is line r) ∙ z)
 
-        found_end : line_type line ≡ 1 → line_count line ≡ 0 → line_address line ≡ 0 → found ≡ End
+        found_end : line_type line ≡ 1 → line_count line ≡ 0 → line_address line ≡ 0 → found ≡ Ok End
         found_end e f z = found-is ∙ typed-end _ _ _ _ _ (sym (address_is line r)) other-typed z (type_is line r ∙ e) (count_is line r ∙ f)
 
-        found_upper : line_type line ≡ 4 → line_count line ≡ 2 → line_address line ≡ 0 → found ≡ Upper (line_upper line)
+        found_upper : line_type line ≡ 4 → line_count line ≡ 2 → line_address line ≡ 0 → found ≡ Ok (Upper (line_upper line))
         found_upper e f z =
             let u = sym (upper_is line r f) in
             found-is ∙ typed-upper _ _ _ _ _ (sym (address_is line r)) other-typed z u (type_is line r ∙ e) (count_is line r ∙ f)
 
-        found_start : line_type line ≡ 5 → line_count line ≡ 4 → line_address line ≡ 0 → found ≡ Other
+        found_start : line_type line ≡ 5 → line_count line ≡ 4 → line_address line ≡ 0 → found ≡ Ok Other
         found_start e f z = found-is ∙ typed-other _ _ _ _ _ (sym (address_is line r)) other-typed z (type_is line r ∙ e) (count_is line r ∙ f)
 
-        found-3 : (GoodType line → ⊥) → found ≡ Fault H3 colon_place
+        found-3 : (GoodType line → ⊥) → found ≡ fault_at H3 colon_place
         found-3 g = by (ℕ_discrete (line_address line) 0)
           where
-            by : Dec (line_address line ≡ 0) → found ≡ Fault H3 colon_place
+            by : Dec (line_address line ≡ 0) → found ≡ fault_at H3 colon_place
             by (no z) = found-is ∙ typed-field _ _ _ _ _ (sym (address_is line r)) other-typed z
             by (yes z) =
                 found-is
@@ -252,13 +254,19 @@ pub no_byte : (ls : List (List ℕ)) (i : ℕ) → (HasByte ls i 0 → ⊥) → 
 no_byte ls i h j b = h (b.0, omega (arith, b.1))
 
 module _ (base size : ℕ) (ls : List (List ℕ)) (i : ℕ) (s : State) (state : StateAt ls i s) where
-  pub keeps_as : Keeps base size ls i → KeptAs ls i (found_of base size s (line_at ls i))
+  -- what it says, then
+  pub record SaidAs : Type 0 where
+    pub found : Found
+    pub is : found_of base size s (line_at ls i) ≡ Ok found
+    pub kept : KeptAs ls i found
+
+  pub keeps_as : Keeps base size ls i → SaidAs
   keeps_as k = by k.good_type (dec_lt 0 (line_count (line_at ls i)))
     where
-      says : {d : Found} → found_of base size s (line_at ls i) ≡ d → KeptAs ls i d → KeptAs ls i (found_of base size s (line_at ls i))
-      says e d = rw e d
+      says : {d : Found} → found_of base size s (line_at ls i) ≡ Ok d → KeptAs ls i d → SaidAs
+      says {d} e k = record { found = d; is = e; kept = k }
 
-      by : GoodType (line_at ls i) → Dec (0 < line_count (line_at ls i)) → KeptAs ls i (found_of base size s (line_at ls i))
+      by : GoodType (line_at ls i) → Dec (0 < line_count (line_at ls i)) → SaidAs
       by (data_record t) (yes c) =
           says (found-there base size ls i s state k.not_ended k.is_record k.adds_up (t, c) k.in_bank_lem k.after_earlier)
           (data_line (t, c))
@@ -276,7 +284,7 @@ module _ (base size : ℕ) (ls : List (List ℕ)) (i : ℕ) (s : State) (state :
   -- and one that breaks one has that fault
   pub record Faulted (k byte : ℕ) : Type 0 where
     pub kind : Kind
-    pub is : found_of base size s (line_at ls i) ≡ Fault kind byte
+    pub is : found_of base size s (line_at ls i) ≡ fault_at kind byte
     pub numbered : kind_number kind ≡ k
 
   pub breaks_faulted : {k byte : ℕ} → Breaks base size ls i k byte → Faulted k byte
@@ -289,12 +297,12 @@ module _ (base size : ℕ) (ls : List (List ℕ)) (i : ℕ) (s : State) (state :
       record { kind = H3; is = found-3 base size ls i s state n r a (λ z. t (data_record z)) t; numbered = refl }
   breaks_faulted (outside n r a t x) = record { kind = H4; is = by (has-byte? ls i); numbered = refl }
     where
-      by : Dec (HasByte ls i 0) → found_of base size s (line_at ls i) ≡ Fault H4 colon_place
+      by : Dec (HasByte ls i 0) → found_of base size s (line_at ls i) ≡ fault_at H4 colon_place
       by (yes h) = found-4 base size ls i s state n r a h x
       by (no h) = absurd (x (λ j b. absurd (no_byte ls i h j b)))
   breaks_faulted (below_earlier n r a t b x) = record { kind = H5; is = by (has-byte? ls i); numbered = refl }
     where
-      by : Dec (HasByte ls i 0) → found_of base size s (line_at ls i) ≡ Fault H5 colon_place
+      by : Dec (HasByte ls i 0) → found_of base size s (line_at ls i) ≡ fault_at H5 colon_place
       by (yes h) = found-5 base size ls i s state n r a h b x
       by (no h) = absurd (x (λ g. absurd (h g)))
 

@@ -7,14 +7,16 @@ use Rattle.buffer.proofs.Bools.{and_left, and_right, not_so, split, no_way}
 use Rattle.buffer.proofs.Numbers.{number_two}
 use Rattle.buffer.specs.Number.{number_at}
 use Rattle.buffer.specs.Total.{total}
+use Rattle.std.specs.Prelude.{Some, None, Result, Ok, Err}
 use Rattle.hex_text.specs.declared.fault.Kind.{Kind}
+use Rattle.hex_text.specs.declared.fault.Fault.{Fault}
 use Rattle.hex_text.specs.declared.fault.Kind.TheVariants.{H1, H2, H3, H4, H5, H6}
 use Rattle.hex_text.specs.declared.record.State.{State}
 use Rattle.hex_text.specs.declared.record.Found.{Found}
-use Rattle.hex_text.specs.declared.record.Found.TheVariants.{Fault, Data, Upper, End, Other}
+use Rattle.hex_text.specs.declared.record.Found.TheVariants.{Data, Upper, End, Other}
 use Rattle.hex_text.specs.Spell.{line_bytes}
 use Rattle.hex_text.specs.Record.{Spelled, Whole, Broken, record_count, record_address, record_type, record_upper, record_data, record_of}
-use Rattle.hex_text.specs.Record.{record_checksum_place, colon_place, in_bank, data_at, typed, found_of}
+use Rattle.hex_text.specs.Record.{record_checksum_place, colon_place, fault_at, in_bank, data_at, typed, found_of}
 use Rattle.hex_text.specs.Meaning.{IsRecord}
 use Rattle.hex_text.specs.Places.{Summed, Placed, Looked}
 use Rattle.hex_text.proofs.Records.{whole_record, record_whole, record_half, record_length, byte_is, byte_small, sum_some, sum_record, front_is, front_data}
@@ -22,17 +24,17 @@ use Rattle.hex_text.proofs.Records.{whole_record, record_whole, record_half, rec
 -- BY THE STATE, THE RECORD AND ITS SUM
 
 module _ (base size : ℕ) (s : State) (line : List ℕ) where
-  pub found_over : s.over ≡ true → found_of base size s line ≡ Fault H6 1
+  pub found_over : s.over ≡ true → found_of base size s line ≡ fault_at H6 1
   unfolding found_of
   found_over o = rw o
 
   module _ (o : s.over ≡ false) where
-    pub found-1 : {place : ℕ} → record_of line ≡ Broken place → found_of base size s line ≡ Fault H1 place
+    pub found-1 : {place : ℕ} → record_of line ≡ Broken place → found_of base size s line ≡ fault_at H1 place
     unfolding found_of
     found-1 e = rw (o, e)
 
     module _ (r : IsRecord line) where
-      pub found-2 : (total (line_bytes line) % 256 ≡ 0 → ⊥) → found_of base size s line ≡ Fault H2 (record_checksum_place (line_bytes line))
+      pub found-2 : (total (line_bytes line) % 256 ≡ 0 → ⊥) → found_of base size s line ≡ fault_at H2 (record_checksum_place (line_bytes line))
       unfolding found_of
       found-2 n = rw (o, record_whole line r, ne_eqb (total (line_bytes line) % 256) 0 n)
 
@@ -60,12 +62,12 @@ module _ (base size upper last : ℕ) (r : List ℕ) {a : ℕ} (ea : a ≡ recor
   typed_data z = simp (eq-eqb (record_type r) 0 z, ea)
 
   module _ (nz : record_type r ≡ 0 → ⊥) where
-    pub typed-field : (a ≡ 0 → ⊥) → typed base size upper last r ≡ Fault H3 colon_place
+    pub typed-field : (a ≡ 0 → ⊥) → typed base size upper last r ≡ fault_at H3 colon_place
     unfolding typed
     typed-field n = simp (ne_eqb (record_type r) 0 nz, ne_eqb (record_address r) 0 (λ z. n (ea ∙ z)))
 
     module _ (az : a ≡ 0) where
-      pub typed-end : record_type r ≡ 1 → record_count r ≡ 0 → typed base size upper last r ≡ End
+      pub typed-end : record_type r ≡ 1 → record_count r ≡ 0 → typed base size upper last r ≡ Ok End
       unfolding typed
       typed-end e f =
           simp (
@@ -75,7 +77,7 @@ module _ (base size upper last : ℕ) (r : List ℕ) {a : ℕ} (ea : a ≡ recor
             eq-eqb (record_count r) 0 f,
           )
 
-      pub typed-upper : {u : ℕ} → u ≡ record_upper r → record_type r ≡ 4 → record_count r ≡ 2 → typed base size upper last r ≡ Upper u
+      pub typed-upper : {u : ℕ} → u ≡ record_upper r → record_type r ≡ 4 → record_count r ≡ 2 → typed base size upper last r ≡ Ok (Upper u)
       unfolding typed
       typed-upper high e f =
           simp (
@@ -87,7 +89,7 @@ module _ (base size upper last : ℕ) (r : List ℕ) {a : ℕ} (ea : a ≡ recor
             high,
           )
 
-      pub typed-other : record_type r ≡ 5 → record_count r ≡ 4 → typed base size upper last r ≡ Other
+      pub typed-other : record_type r ≡ 5 → record_count r ≡ 4 → typed base size upper last r ≡ Ok Other
       unfolding typed
       typed-other e f =
           simp (
@@ -101,7 +103,7 @@ module _ (base size upper last : ℕ) (r : List ℕ) {a : ℕ} (ea : a ≡ recor
 
       pub typed-bad :
           (record_type r ≡ 1 → record_count r ≡ 0 → ⊥) → (record_type r ≡ 4 → record_count r ≡ 2 → ⊥) → (record_type r ≡ 5 → record_count r ≡ 4 → ⊥)
-          → typed base size upper last r ≡ Fault H3 colon_place
+          → typed base size upper last r ≡ fault_at H3 colon_place
       unfolding typed
       typed-bad x y z =
           simp (
@@ -120,9 +122,9 @@ in_bank_lem base size start n e =
     (leb-true base start low, leb-true (start + n) (base + size) high)
 
 -- what holds of each thing that a record may say holds of what it says
-module _ (P : Found → Type 0) (faulty : (k : Kind) → P (Fault k colon_place)) (other : P Other) (base size last : ℕ) where
+module _ (P : Result Found Fault → Type 0) (faulty : (k : Kind) → P (fault_at k colon_place)) (other : P (Ok Other)) (base size last : ℕ) where
   data_by :
-      (start n : ℕ) → (base ≤ start → start + n ≤ base + size → last ≤ start → P (Data start n)) → P (data_at base size last start n)
+      (start n : ℕ) → (base ≤ start → start + n ≤ base + size → last ≤ start → P (Ok (Data start n))) → P (data_at base size last start n)
   unfolding data_at
   data_by start n f =
       split P (eqb n 0) (λ x. other)
@@ -131,8 +133,8 @@ module _ (P : Found → Type 0) (faulty : (k : Kind) → P (Fault k colon_place)
       (λ y. faulty H4))
 
   typed_by :
-      (upper : ℕ) (r : List ℕ) → P End → P (Upper (record_upper r))
-      → ((start : ℕ) → base ≤ start → start + record_count r ≤ base + size → last ≤ start → P (Data start (record_count r)))
+      (upper : ℕ) (r : List ℕ) → P (Ok End) → P (Ok (Upper (record_upper r)))
+      → ((start : ℕ) → base ≤ start → start + record_count r ≤ base + size → last ≤ start → P (Ok (Data start (record_count r))))
       → P (typed base size upper last r)
   unfolding typed
   typed_by upper r end high f =
@@ -151,12 +153,12 @@ pub record DataIn (base size last : ℕ) (line : List ℕ) (start n : ℕ) : Typ
   pub after : last ≤ start
   pub whole : length (record_data n (line_bytes line)) ≡ n
 
-abbrev Told : ℕ → ℕ → ℕ → List ℕ → Found → Type 0
-Told base size last line (Fault k byte) = Unit {0}
-Told base size last line (Data start n) = DataIn base size last line start n
-Told base size last line (Upper u) = u < 65536
-Told base size last line End = Unit {0}
-Told base size last line Other = Unit {0}
+abbrev Told : ℕ → ℕ → ℕ → List ℕ → Result Found Fault → Type 0
+Told base size last line (Err f) = Unit {0}
+Told base size last line (Ok (Data start n)) = DataIn base size last line start n
+Told base size last line (Ok (Upper u)) = u < 65536
+Told base size last line (Ok End) = Unit {0}
+Told base size last line (Ok Other) = Unit {0}
 
 told_typed :
     (base size upper last : ℕ) (line : List ℕ) → IsRecord line → Told base size last line (typed base size upper last (line_bytes line))
@@ -182,44 +184,41 @@ told base size s line = by s.over refl (record_of line) refl (eqb (total (line_b
         rw (found-typed base size s line o r (eqb-true _ 0 f)) (told_typed base size s.upper s.last line r)
 
 pub data_in :
-    (base size : ℕ) (s : State) (line : List ℕ) (start n : ℕ) → found_of base size s line ≡ Data start n → DataIn base size s.last line start n
+    (base size : ℕ) (s : State) (line : List ℕ) (start n : ℕ) → found_of base size s line ≡ Ok (Data start n) → DataIn base size s.last line start n
 data_in base size s line start n e = rw e at (told base size s line)
-
-pub upper_in : (base size : ℕ) (s : State) (line : List ℕ) (u : ℕ) → found_of base size s line ≡ Upper u → u < 65536
-upper_in base size s line u e = rw e at (told base size s line)
 
 -- WHAT WAS LOOKED AT, CASE BY CASE
 
 module _ (line : List ℕ) (base size : ℕ) (s : State) (held : List ℕ) where
-  looked_fault : (f : Kind) (byte : ℕ) → found_of base size s line ≡ Fault f byte → Looked line base size s held (Fault f byte)
+  looked_fault : (f : Kind) (byte : ℕ) → found_of base size s line ≡ fault_at f byte → Looked line base size s held (fault_at f byte)
   looked_fault f byte e = record { is = sym e; holds = λ start n z. no_way (cc) }
 
-  pub looked_over : s.over ≡ true → Looked line base size s held (Fault H6 1)
+  pub looked_over : s.over ≡ true → Looked line base size s held (fault_at H6 1)
   looked_over o = looked_fault H6 1 (found_over base size s line o)
 
-  module _ (o : s.over ≡ false) {before : List ℕ} {sum : ℕ} (summed : Summed line before held sum) where
-    pub looked-1 : sum ≡ 256 → {byte : ℕ} → Placed line byte → Looked line base size s held (Fault H1 byte)
-    looked-1 z {byte} placed = by (record_of line) refl
+  module _ (o : s.over ≡ false) {before : List ℕ} where
+    pub looked-1 : Summed line before held None → {byte : ℕ} → Placed line byte → Looked line base size s held (fault_at H1 byte)
+    looked-1 summed {byte} placed = by (record_of line) refl
       where
-        by : (q : Spelled) → record_of line ≡ q → Looked line base size s held (Fault H1 byte)
-        by (Whole bytes) e = absurd (sum_record line (whole_record line bytes e).0 (sym summed.sum ∙ z))
-        by (Broken place) e = looked_fault H1 byte (found-1 base size s line o e ∙ ap (Fault H1) (sym (placed place e)))
+        by : (q : Spelled) → record_of line ≡ q → Looked line base size s held (fault_at H1 byte)
+        by (Whole bytes) e = absurd (sum_record line (whole_record line bytes e).0 (sym summed.sum))
+        by (Broken place) e = looked_fault H1 byte (found-1 base size s line o e ∙ ap (λ (b : ℕ). fault_at H1 b) (sym (placed place e)))
 
-    module _ (some : sum ≡ 256 → ⊥) where
+    module _ {sum : ℕ} (summed : Summed line before held (Some sum)) where
       is_record : IsRecord line
-      is_record = sum_some line (λ z. some (summed.sum ∙ z))
+      is_record = (sum_some line summed.sum).0
 
       sum_is : sum ≡ total (line_bytes line) % 256
-      sum_is = summed.sum ∙ rw (record_whole line is_record)
+      sum_is = (sum_some line summed.sum).1
 
       pub looked-some : 1 ≤ length line
       looked-some = omega (arith, is_record.counted)
 
-      pub looked-2 : (sum ≡ 0 → ⊥) → Looked line base size s held (Fault H2 (length line - 1))
+      pub looked-2 : (sum ≡ 0 → ⊥) → Looked line base size s held (fault_at H2 (length line - 1))
       looked-2 n =
           let c = byte_is line is_record 0 (omega arith) in
           let last : record_checksum_place (line_bytes line) ≡ length line - 1 = omega (arith, is_record.counted) in
-          looked_fault H2 (length line - 1) (found-2 base size s line o is_record (λ z. n (sum_is ∙ z)) ∙ ap (Fault H2) last)
+          looked_fault H2 (length line - 1) (found-2 base size s line o is_record (λ z. n (sum_is ∙ z)) ∙ ap (λ (b : ℕ). fault_at H2 b) last)
 
       module _ (room : 260 ≤ length before) where
         put : held ≡ sets before 0 (line_bytes line)
@@ -246,7 +245,7 @@ module _ (line : List ℕ) (base size : ℕ) (s : State) (held : List ℕ) where
             let l = record_length line is_record in let n = byte_is line is_record 0 (omega arith) in rw front (omega arith)
 
         pub looked-typed :
-            {r : Found} → sum ≡ 0 → r ≡ typed base size s.upper s.last (take (length line / 2) held) → Looked line base size s held r
+            {r : Result Found Fault} → sum ≡ 0 → r ≡ typed base size s.upper s.last (take (length line / 2) held) → Looked line base size s held r
         looked-typed z q =
             let f = q ∙ ap (typed base size s.upper s.last) front ∙ sym (found-typed base size s line o is_record (sym sum_is ∙ z)) in
             record {
@@ -259,7 +258,7 @@ module _ (line : List ℕ) (base size : ℕ) (s : State) (held : List ℕ) where
             }
 
 -- data that were found: where they belong, and that they lie within the record
-module _ {line : List ℕ} {base size : ℕ} {s : State} {held : List ℕ} {start n : ℕ} (l : Looked line base size s held (Data start n)) where
+module _ {line : List ℕ} {base size : ℕ} {s : State} {held : List ℕ} {start n : ℕ} (l : Looked line base size s held (Ok (Data start n))) where
   pub looked_in : DataIn base size s.last line start n
   looked_in = data_in base size s line start n (sym l.is)
 

@@ -1,14 +1,13 @@
 -- The same by positions in a line, as the code goes; proofs/ ties these to the records of the lines.
 -- Assumes nothing.
-use Rattle.std.specs.Prelude.{◌≡◌, ℕ, zero, suc, ◌+◌, ◌%◌, ◌<◌, Bool, true, cond, ◌&&◌, List, [], ◌∷◌, length, ◌≢◌, nat_lt, slice_index}
+use Rattle.std.specs.Prelude.{◌≡◌, ℕ, zero, suc, ◌+◌, ◌%◌, ◌<◌, Bool, true, cond, ◌&&◌, List, [], ◌∷◌, length, nat_lt, slice_index, Option, Some, None, Result, Ok, Err}
 use Rattle.std.proofs.lemmas.List.Edits.{sets}
 use Rattle.buffer.specs.Total.{total}
+use Rattle.hex_text.specs.declared.fault.Fault.{Fault}
 use Rattle.hex_text.specs.declared.record.State.{State}
 use Rattle.hex_text.specs.declared.record.Found.{Found}
-use Rattle.hex_text.specs.declared.record.Found.TheVariants.{Fault, Data, Upper, End, Other}
-use Rattle.hex_text.specs.declared.read.Outcome.{Outcome}
-use Rattle.hex_text.specs.declared.read.Step.{Step}
-use Rattle.hex_text.specs.declared.read.Step.TheVariants.{Stop, On}
+use Rattle.hex_text.specs.declared.record.Found.TheVariants.{Data}
+use Rattle.hex_text.specs.declared.fault.Refusal.{Refusal}
 use Rattle.digits.specs.Digit.{is_digit}
 use Rattle.hex_text.specs.Spell.{byte_of, line_bytes}
 use Rattle.hex_text.specs.Record.{Spelled, Whole, Broken, record_data, record_of, found_of}
@@ -30,22 +29,22 @@ unfoldable pub all_bytes : List ℕ → Bool
 all_bytes [] = true
 all_bytes (b ∷ bs) = nat_lt b 256 && all_bytes bs
 
--- the sum modulo 256, from s on; 256 where one is no byte
-unfoldable pub check_from : ℕ → List ℕ → ℕ
-check_from s bs = cond (all_bytes bs) ((s + total bs) % 256) 256
+-- the sum modulo 256, from s on; none where one is no byte
+unfoldable pub check_from : ℕ → List ℕ → Option ℕ
+check_from s bs = cond (all_bytes bs) (Some ((s + total bs) % 256)) None
 
 -- their sum, and the bytes at the front of what was lent where all are bytes
-pub record SpelledAt (bytes before after : List ℕ) (r : ℕ) : Type 0 where
+pub record SpelledAt (bytes before after : List ℕ) (r : Option ℕ) : Type 0 where
   pub sum : r ≡ check_from 0 bytes
-  pub put : (r ≢ 256) → after ≡ sets before 0 bytes
+  pub put : (s : ℕ) → r ≡ Some s → after ≡ sets before 0 bytes
 
--- RECORDS. The sum of a record's bytes modulo 256; 256 where the line is none
-abbrev pub sum_of : Spelled → ℕ
-sum_of (Whole r) = total r % 256
-sum_of (Broken place) = 256
+-- RECORDS. The sum of a record's bytes modulo 256; none where the line is none
+abbrev pub sum_of : Spelled → Option ℕ
+sum_of (Whole r) = Some (total r % 256)
+sum_of (Broken place) = None
 
 -- that of a line, and its record's bytes at the front of what was lent
-pub record Summed (line before after : List ℕ) (r : ℕ) : Type 0 where
+pub record Summed (line before after : List ℕ) (r : Option ℕ) : Type 0 where
   pub sum : r ≡ sum_of (record_of line)
   pub put : (bytes : List ℕ) → record_of line ≡ Whole bytes → after ≡ sets before 0 bytes
 
@@ -54,28 +53,28 @@ abbrev pub Placed : List ℕ → ℕ → Type 0
 Placed line r = (place : ℕ) → record_of line ≡ Broken place → r ≡ place
 
 -- what a line says; where it has data, they lie in the record
-pub record Looked (line : List ℕ) (base size : ℕ) (s : State) (held : List ℕ) (r : Found) : Type 0 where
+pub record Looked (line : List ℕ) (base size : ℕ) (s : State) (held : List ℕ) (r : Result Found Fault) : Type 0 where
   pub is : r ≡ found_of base size s line
-  pub holds : (start n : ℕ) → r ≡ Data start n → record_data n held ≡ record_data n (line_bytes line)
+  pub holds : (start n : ℕ) → r ≡ Ok (Data start n) → record_data n held ≡ record_data n (line_bytes line)
 
-pub record LookFits (base size : ℕ) (s : State) : Type 0 where
-  pub upper_small : s.upper < 65536
+pub record LookFits (base size : ℕ) : Type 0 where
   pub base_small : base < 4294967296
   pub size_small : size < 4294967296
 
 -- A LINE TAKEN
-abbrev pub step_by : Found → State → Step
-step_by (Fault k byte) s = Stop k byte
-step_by (Data start n) s = On (state_after (Data start n) s)
-step_by (Upper u) s = On (state_after (Upper u) s)
-step_by End s = On (state_after End s)
-step_by Other s = On s
+abbrev pub step_by : Result Found Fault → State → Result State Fault
+step_by (Err f) s = Err f
+step_by (Ok d) s = Ok (state_after d s)
 
-pub record Took (base : ℕ) (s : State) (line before after : List ℕ) (r : Step) : Type 0 where
+abbrev pub image_by : ℕ → List ℕ → Result Found Fault → List ℕ → List ℕ
+image_by base line (Err f) image = image
+image_by base line (Ok d) image = image_after base line d image
+
+pub record Took (base : ℕ) (s : State) (line before after : List ℕ) (r : Result State Fault) : Type 0 where
   pub is : r ≡ step_by (found_of base (length before) s line) s
-  pub image : after ≡ image_after base line (found_of base (length before) s line) before
+  pub image : after ≡ image_by base line (found_of base (length before) s line) before
 
 -- what the lines come to
-pub record Came (d : LinesRead) (r : Outcome) (image : List ℕ) : Type 0 where
+pub record Came (d : LinesRead) (r : Result (Unit {0}) Refusal) (image : List ℕ) : Type 0 where
   pub outcome : r ≡ d.outcome
   pub image_is : image ≡ d.image

@@ -1,11 +1,13 @@
 -- A line's record, and what it says to a bank (01, 'Hex text': "Per line, first fault of").
 -- Assumes nothing.
-use Rattle.std.specs.Prelude.{ℕ, zero, suc, ◌+◌, ◌*◌, ◌%◌, Bool, cond, ◌&&◌, List, [], ◌∷◌, length, take, drop, ◌==◌, nat_le, slice_index}
+use Rattle.std.specs.Prelude.{ℕ, zero, suc, ◌+◌, ◌*◌, ◌%◌, Bool, cond, ◌&&◌, List, [], ◌∷◌, length, take, drop, ◌==◌, nat_le, slice_index, Result, Ok, Err}
 use Rattle.buffer.specs.Total.{total}
+use Rattle.hex_text.specs.declared.fault.Kind.{Kind}
+use Rattle.hex_text.specs.declared.fault.Fault.{Fault}
 use Rattle.hex_text.specs.declared.fault.Kind.TheVariants.{H1, H2, H3, H4, H5, H6}
 use Rattle.hex_text.specs.declared.record.State.{State}
 use Rattle.hex_text.specs.declared.record.Found.{Found}
-use Rattle.hex_text.specs.declared.record.Found.TheVariants.{Fault, Data, Upper, End, Other}
+use Rattle.hex_text.specs.declared.record.Found.TheVariants.{Data, Upper, End, Other}
 use Rattle.digits.specs.Digit.{is_digit}
 use Rattle.hex_text.specs.Spell.{byte_of, digit_bytes}
 
@@ -62,32 +64,36 @@ record_checksum_place r = 10 + 2 * record_count r
 abbrev pub colon_place : ℕ
 colon_place = 1
 
+-- a line that has that fault, at that byte
+abbrev pub fault_at : Kind → ℕ → Result Found Fault
+fault_at kind byte = Err (record { 0 = kind; 1 = byte })
+
 -- WHAT A RECORD SAYS to a bank of `size` bytes from address `base` on. Addresses are plain numbers: they "run on past offset 0xFFFF",
 -- nothing wraps, and a carry stays out of the upper half.
 unfoldable pub in_bank : ℕ → ℕ → ℕ → ℕ → Bool
 in_bank base size start n = nat_le base start && nat_le (start + n) (base + size)
 
 -- "Data of count 0" says nothing; H4 comes before H5
-unfoldable pub data_at : ℕ → ℕ → ℕ → ℕ → ℕ → Found
+unfoldable pub data_at : ℕ → ℕ → ℕ → ℕ → ℕ → Result Found Fault
 data_at base size last start n =
-    cond (n == 0) Other
-    (cond (in_bank base size start n) (cond (nat_le last start) (Data start n) (Fault H5 colon_place)) (Fault H4 colon_place))
+    cond (n == 0) (Ok Other)
+    (cond (in_bank base size start n) (cond (nat_le last start) (Ok (Data start n)) (fault_at H5 colon_place)) (fault_at H4 colon_place))
 
 -- by its type; `upper` and `last` come from the lines before
-unfoldable pub typed : ℕ → ℕ → ℕ → ℕ → List ℕ → Found
+unfoldable pub typed : ℕ → ℕ → ℕ → ℕ → List ℕ → Result Found Fault
 typed base size upper last r =
     cond (record_type r == 0) (data_at base size last (upper * 65536 + record_address r) (record_count r))
     (cond (record_address r == 0)
-    (cond (record_type r == 1 && record_count r == 0) End
-    (cond (record_type r == 4 && record_count r == 2) (Upper (record_upper r))
-    (cond (record_type r == 5 && record_count r == 4) Other (Fault H3 colon_place))))
-    (Fault H3 colon_place))
+    (cond (record_type r == 1 && record_count r == 0) (Ok End)
+    (cond (record_type r == 4 && record_count r == 2) (Ok (Upper (record_upper r)))
+    (cond (record_type r == 5 && record_count r == 4) (Ok Other) (fault_at H3 colon_place))))
+    (fault_at H3 colon_place))
 
 -- H2: "add to 0 modulo 256"
-abbrev pub says : ℕ → ℕ → State → Spelled → Found
-says base size s (Whole r) = cond (total r % 256 == 0) (typed base size s.upper s.last r) (Fault H2 (record_checksum_place r))
-says base size s (Broken place) = Fault H1 place
+abbrev pub says : ℕ → ℕ → State → Spelled → Result Found Fault
+says base size s (Whole r) = cond (total r % 256 == 0) (typed base size s.upper s.last r) (fault_at H2 (record_checksum_place r))
+says base size s (Broken place) = fault_at H1 place
 
 -- what a line says: its first fault, or what it is to change; behind the end record it is H6 "without being read"
-unfoldable pub found_of : ℕ → ℕ → State → List ℕ → Found
-found_of base size s line = cond s.over (Fault H6 1) (says base size s (record_of line))
+unfoldable pub found_of : ℕ → ℕ → State → List ℕ → Result Found Fault
+found_of base size s line = cond s.over (fault_at H6 1) (says base size s (record_of line))

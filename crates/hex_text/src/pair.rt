@@ -2,12 +2,6 @@
 ghost use Rattle.std.specs.Prelude.{◌≡◌, ◌+◌, ◌<◌, true, length};
 ghost use Rattle.hex_text.specs.Places.{pair_at, pair_byte};
 
-pub(crate) fn wide(byte: u8) -> usize
-    ensures { (result ≡ byte) × (result < 256) }
-{
-    byte as usize
-}
-
 // Whether two digits stand at `at`.
 pub(crate) fn pair_at(text: &[u8], at: usize) -> bool
     requires { at + 1 < length text.now }

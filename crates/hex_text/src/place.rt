@@ -4,19 +4,10 @@ ghost use Rattle.digits.specs.Digit.{is_digit};
 ghost use Rattle.hex_text.specs.Record.{digits_due, digits_in};
 ghost use Rattle.hex_text.specs.Places.{Placed};
 
-use crate::pair::{pair_at, value_at, wide};
+use crate::pair::{pair_at, value_at};
 
 // The digits due behind a colon where no count is spelled: more than stand before what spells none.
 const NO_COUNT: usize = 2 * (256 + 5);
-
-fn digit_at(text: &[u8], at: usize) -> bool
-    ensures { result ≡ is_digit (slice_index text.now at) }
-{
-    if text.len() <= at {
-        return false;
-    }
-    digits::value(text[at]) < digits::NONE
-}
 
 // How many digits are due behind the colon.
 fn digits_due(behind: &[u8]) -> usize
@@ -28,21 +19,18 @@ fn digits_due(behind: &[u8]) -> usize
     if !pair_at(behind, 0) {
         return NO_COUNT;
     }
-    2 * (wide(value_at(behind, 0)) + 5)
+    2 * (usize::from(value_at(behind, 0)) + 5)
 }
 
 // How many there are of those that are due.
 fn digits_in(behind: &[u8], due: usize) -> usize
     ensures { result ≡ digits_in due behind.now }
 {
-    let mut n = 0;
-    while n < due {
-        if !digit_at(behind, n) {
-            return n;
-        }
-        n += 1;
-    }
-    n
+    behind
+        .iter()
+        .take(due)
+        .take_while(|byte| digits::value(**byte) < digits::NONE)
+        .count()
 }
 
 // The first byte of the line that can't belong, or one past its end, counted from 1.

@@ -2,33 +2,27 @@
 #![tactic(auto)]
 
 use layout::{Bank, MOST, SECTOR};
-use rows::text::{LONGEST, Written};
-use script::input::Input;
+use rows::text::LONGEST;
 use script::{call, input, say, text};
 use std::env::Env;
+
+const USAGE: &[u8] = b"usage: ./run hexout BANK [FILE]\n";
 
 // One byte more than the largest bank has, so that a longer input is seen to be no bank.
 const ROOM: usize = MOST * SECTOR + 1;
 
-fn say_refused(rt: &impl Env, number: usize) {
-    say::refused(rt, number);
-    say::end(rt);
-    call::refused(rt);
-}
-
-// The text lies within its room, and the input in its own: both tests hold, and are there for the numbers' type.
+// The text lies within its room.
 fn say_text(rt: &impl Env, hex_text: &[u8], size: usize) {
-    if size <= hex_text.len() {
-        let end = io::count(size as isize, hex_text);
-        say::text(rt, &hex_text[..end]);
+    if let Some(written) = hex_text.get(..size) {
+        say::text(rt, written);
     }
 }
 
 fn write_into(rt: &impl Env, image: &[u8], bank: Bank, hex_text: &mut [u8]) {
     let written = rows::text::write(image, bank, hex_text);
     match written {
-        Written::Text(size) => say_text(rt, hex_text, size),
-        _ => say_refused(rt, rows::text::written_number(written)),
+        Some(size) => say_text(rt, hex_text, size),
+        None => say::refused_all(rt, rows::text::written_number(written)),
     }
 }
 
@@ -37,46 +31,23 @@ fn write(rt: &impl Env, image: &[u8], bank: Bank) {
     write_into(rt, image, bank, &mut hex_text);
 }
 
-fn write_input(rt: &impl Env, room: &[u8], size: usize, bank: Bank) {
-    if size <= room.len() {
-        let end = io::count(size as isize, room);
-        write(rt, &room[..end], bank);
-    }
-}
-
-fn write_from(rt: &(impl Env + std::io::Input), room: &mut [u8], bank: Bank) {
-    match input::all(rt, room) {
-        Input::Unread => (),
-        Input::Read(size) => write_input(rt, room, size, bank),
-    }
-}
-
-fn for_bank(rt: &(impl Env + std::io::Input), bank: Bank) {
+fn write_input(rt: &(impl Env + std::io::Input), bank: Bank) {
     let mut room = [0u8; ROOM];
-    write_from(rt, &mut room, bank);
-}
-
-fn with_word(rt: &(impl Env + std::io::Input), number: usize) {
-    if number == 0 {
-        return for_bank(rt, Bank::Zero);
+    if let Some(size) = input::all(rt, &mut room) {
+        write(rt, &room[..size], bank);
     }
-    if number == 1 {
-        return for_bank(rt, Bank::One);
-    }
-    call::called_wrongly(
-        rt,
-        b"hexout: BANK is 0 or 1\nusage: ./run hexout BANK [FILE]\n",
-    );
 }
 
 fn called(rt: &(impl Env + std::io::Input)) {
     let mut first = [0u8; 8];
-    let size = call::word(rt, 0, &mut first);
-    with_word(rt, text::decimal(&first[..size], 1));
+    match call::word(rt, 0, &mut first).and_then(text::bank) {
+        Some(bank) => write_input(rt, bank),
+        None => call::wrong_word(rt, b"hexout: BANK is 0 or 1\n", USAGE),
+    }
 }
 
 fn main(rt: HostRuntime) {
-    if call::takes(&rt, 1, b"usage: ./run hexout BANK [FILE]\n") {
+    if call::takes(&rt, 1, USAGE) {
         called(&rt);
     }
 }

@@ -8,13 +8,15 @@ use native.Mathlib.Numerals.{add-one}
 use native.Mathlib.Omega.{arith}
 use lib.Dec.{eqb, leb, ltb}
 use lib.ListN.{length, get_or, take, drop, drop_of_length-le, length-drop}
-use lib.Seq.{drop-cons, drop-drop}
+use lib.Seq.{drop-cons, drop-drop, drop-length}
 use borrow.Author.Tests.{eq-eqb, ne_eqb, eqb-false, ltb-true, ltb-false, leb-true}
 use Rattle.buffer.proofs.Bools.{and_left, and_right, and_false, no_way}
+use Rattle.std.specs.Borrow.{Bor}
 use Rattle.lines.specs.declared.line.Line.{Line}
-use Rattle.lines.specs.declared.line.Ahead.TheVariants.{One, Nothing}
+use Rattle.lines.specs.declared.line.LineReader.{LineReader}
+use Rattle.std.specs.Prelude.{Some, None}
 use Rattle.lines.specs.Line.{front, lf_next, lines}
-use Rattle.lines.specs.Places.{end_len, line_len, line_all, quiet_at, LineAt, ahead_at}
+use Rattle.lines.specs.Places.{end_len, line_len, line_all, quiet, LineAt, ahead_at, IsReader, lines_left}
 
 pub lf_here : (t : List ℕ) (i : ℕ) → i < length t → lf_next (drop i t) ≡ eqb (get_or t i 0) 0x0A
 lf_here t i h = rw (drop-cons t i 0 h)
@@ -63,28 +65,31 @@ no_end : (t : List ℕ) (i : ℕ) → i < length t → 14 ≤ get_or t i 0 → e
 no_end t i h k = end_here t i h ∙ simp (ne_eqb (get_or t i 0) 0x0A (λ e. omega arith), ne_eqb (get_or t i 0) 0x0D (λ e. omega arith))
 
 pub quiet_goes :
-    (t : List ℕ) (i k : ℕ) → i + k ≤ length t → quiet_at t i k ≡ true
+    (t : List ℕ) (i k : ℕ) → i + k ≤ length t → quiet (take k (drop i t)) ≡ true
     → (i + line_len (drop i t) ≡ i + k + line_len (drop (i + k) t)) × (i + line_all (drop i t) ≡ i + k + line_all (drop (i + k) t))
-unfolding quiet_at
+unfolding quiet
 quiet_goes t i zero h q = let e : i + zero ≡ i = omega arith in rw e (refl, refl)
 quiet_goes t i (suc k) h q =
-    let b = and_left (leb 14 (get_or t i 0)) (quiet_at t (i + 1) k) q in
+    let c : (leb 14 (get_or t i 0) && quiet (take k (drop (suc i) t))) ≡ true = rw (drop-cons t i 0 (omega arith)) at q in
+    let b = and_left (leb 14 (get_or t i 0)) (quiet (take k (drop (suc i) t))) c in
+    let n = and_right (leb 14 (get_or t i 0)) (quiet (take k (drop (suc i) t))) c in
     let g = line_goes t i (omega arith) (no_end t i (omega arith) (leb-true 14 (get_or t i 0) b)) in
-    let r = quiet_goes t (i + 1) k (omega arith) (and_right (leb 14 (get_or t i 0)) (quiet_at t (i + 1) k) q) in
+    let r = quiet_goes t (i + 1) k (omega arith) (rw add-one n) in
     let e : i + 1 + k ≡ i + suc k = omega arith in
     let r' = rw e at r in
     (omega arith, omega arith)
 
-pub quiet_one : (t : List ℕ) (i k : ℕ) (good : Bool) → 0 < k → (good && quiet_at t i k) ≡ (good && leb 14 (get_or t i 0) && quiet_at t (i + 1) (k - 1))
-unfolding quiet_at
-quiet_one t i zero good h = absurd (omega arith)
-quiet_one t i (suc k) true h = let e : suc k - 1 ≡ k = omega arith in rw e
-quiet_one t i (suc k) false h = refl
+-- one byte more is looked at
+pub quiet_one :
+    (t : List ℕ) (i : ℕ) (good : Bool) → i < length t → (good && quiet (drop i t)) ≡ (good && leb 14 (get_or t i 0) && quiet (drop (i + 1) t))
+unfolding quiet
+quiet_one t i true h = rw (add-one, drop-cons t i 0 h)
+quiet_one t i false h = refl
 
-pub quiet_none : (t : List ℕ) (i : ℕ) (good : Bool) → (good && quiet_at t i 0) ≡ good
-unfolding quiet_at
-quiet_none t i true = refl
-quiet_none t i false = refl
+pub quiet_none : (t : List ℕ) (good : Bool) → (good && quiet (drop (length t) t)) ≡ good
+unfolding quiet
+quiet_none t true = rw (drop-length t)
+quiet_none t false = refl
 
 -- ---- the first line of a text, and the others
 
@@ -158,7 +163,7 @@ all_some c t = by (eqb (end_len (c ∷ t)) 0) refl
     by true e = omega arith
     by false e = let n = eqb-false (end_len (c ∷ t)) 0 e in omega arith
 
-pub ahead_line : (t : List ℕ) (at : ℕ) (l : Line) → ahead_at t at ≡ One l → (at < length t) × LineAt t at l.end l.next
+pub ahead_line : (t : List ℕ) (at : ℕ) (l : Line) → ahead_at t at ≡ Some l → (at < length t) × LineAt t at l.end l.next
 unfolding ahead_at
 ahead_line t at l e = by (ltb at (length t)) refl
   where
@@ -175,10 +180,31 @@ ahead_line t at l e = by (ltb at (length t)) refl
         let w = length-drop at t in
         (h, record { end_is = x; next_is = y; after = omega arith; before = omega arith; on = omega arith; within = omega arith })
 
-pub ahead_none : (t : List ℕ) (at : ℕ) → ahead_at t at ≡ Nothing → length t ≤ at
+pub ahead_none : (t : List ℕ) (at : ℕ) → ahead_at t at ≡ None → length t ≤ at
 unfolding ahead_at
 ahead_none t at e = by (ltb at (length t)) refl
   where
     by : (b : Bool) → ltb at (length t) ≡ b → length t ≤ at
     by true f = let g = rw f at e in no_way (cc)
     by false f = ltb-false _ _ f
+
+-- ---- the lines that a line reader gives
+
+-- from its start on, those of the text
+pub left_first : {text : Bor (List ℕ)} {r : LineReader} → IsReader text 0 r → lines_left r ≡ lines text.now
+left_first r = rw (r.at_is, r.text_is)
+
+front_few : (c : ℕ) (ls : List (List ℕ)) → length (front c ls) ≤ suc (length ls)
+front_few c [] = omega arith
+front_few c (l ∷ ls) = omega arith
+
+-- no more than bytes
+pub lines_few : (t : List ℕ) → length (lines t) ≤ length t
+unfolding lines
+lines_few [] = omega arith
+lines_few (c ∷ t) = by (eqb c 0x0A) (eqb c 0x0D && lf_next t) (lines_few t)
+  where
+    by : (a b : Bool) → length (lines t) ≤ length t → length (cond a ([] ∷ lines t) (cond b (lines t) (front c (lines t)))) ≤ suc (length t)
+    by true b h = omega arith
+    by false true h = omega arith
+    by false false h = omega (arith, front_few c (lines t))

@@ -1,11 +1,10 @@
 -- Lines by positions in the text, and the contracts of the line reader.
 -- Assumes nothing.
-use Rattle.std.specs.Prelude.{ℕ, zero, suc, ◌+◌, ◌≤◌, ◌<◌, ◌≡◌, List, [], ◌∷◌, Bool, true, ◌&&◌, cond, length, get_or, drop, eqb, leb, ltb}
+use Rattle.std.specs.Prelude.{ℕ, suc, ◌+◌, ◌≤◌, ◌<◌, ◌≡◌, List, [], ◌∷◌, Bool, true, ◌&&◌, cond, length, drop, eqb, leb, ltb, Option, Some, None}
 use Rattle.std.specs.Borrow.{Bor}
-use Rattle.lines.specs.declared.line.Ahead.{Ahead}
-use Rattle.lines.specs.declared.line.Ahead.TheVariants.{One, Nothing}
+use Rattle.lines.specs.declared.line.Line.{Line}
 use Rattle.lines.specs.declared.line.LineReader.{LineReader}
-use Rattle.lines.specs.Line.{lf_next}
+use Rattle.lines.specs.Line.{lf_next, lines}
 
 -- how many bytes the end of a line has with which a text begins; 0 for none
 unfoldable pub end_len : List ℕ → ℕ
@@ -21,10 +20,10 @@ unfoldable pub line_all : List ℕ → ℕ
 line_all [] = 0
 line_all (c ∷ t) = cond (eqb (end_len (c ∷ t)) 0) (suc (line_all t)) (end_len (c ∷ t))
 
--- none of the k bytes from i on is below 14, so none is a CR or an LF
-unfoldable pub quiet_at : List ℕ → ℕ → ℕ → Bool
-quiet_at t i zero = true
-quiet_at t i (suc k) = leb 14 (get_or t i 0) && quiet_at t (i + 1) k
+-- none of these bytes is below 14, so none is a CR or an LF
+unfoldable pub quiet : List ℕ → Bool
+quiet [] = true
+quiet (c ∷ t) = leb 14 c && quiet t
 
 -- the line goes on from `at` to r
 pub record Skipped (t : List ℕ) (at r : ℕ) : Type 0 where
@@ -43,17 +42,18 @@ pub record LineAt (text : List ℕ) (at end next : ℕ) : Type 0 where
   pub within : next ≤ length text
 
 -- what a line reader finds at its place
-unfoldable pub ahead_at : List ℕ → ℕ → Ahead
+unfoldable pub ahead_at : List ℕ → ℕ → Option Line
 ahead_at t at =
-    cond (ltb at (length t)) (One (record { end = at + line_len (drop at t); next = at + line_all (drop at t) })) Nothing
-
-abbrev pub IsAhead : List ℕ → ℕ → Ahead → Type 0
-IsAhead text at r = r ≡ ahead_at text at
+    cond (ltb at (length t)) (Some (record { end = at + line_len (drop at t); next = at + line_all (drop at t) })) None
 
 -- the text that it was lent, and the place
 pub record IsReader (text : Bor (List ℕ)) (at : ℕ) (r : LineReader) : Type 0 where
   pub text_is : r.text ≡ text
   pub at_is : r.at ≡ at
 
-abbrev pub IsNext : LineReader → Ahead → Type 0
+abbrev pub IsNext : LineReader → Option Line → Type 0
 IsNext reader r = r ≡ ahead_at reader.text.now reader.at
+
+-- the lines that it gives: those of the text from its place on
+abbrev pub lines_left : LineReader → List (List ℕ)
+lines_left reader = lines (drop reader.at reader.text.now)

@@ -1,23 +1,17 @@
 // The lines of a text, and the line reader.
 ghost use Rattle.std.specs.Prelude.{◌≡◌, ◌+◌, ◌<◌, ◌≤◌, length, drop};
+ghost use Rattle.std.specs.Iterator.{YieldsFirstRef, item_count};
 ghost use Rattle.lines.specs.Line.{lf_next};
-ghost use Rattle.lines.specs.Places.{quiet_at, Skipped, end_len, LineAt, ahead_at, IsReader, IsNext, IsAhead};
+ghost use Rattle.lines.specs.Places.{quiet, Skipped, end_len, LineAt, IsReader, IsNext, lines_left};
 
 // A line's end, without LF or CR LF, and the start of the next one.
-#[derive(Clone, Copy)]
+#[derive(Clone, Copy, PartialEq, Eq)]
 pub struct Line {
     pub end: usize,
     pub next: usize,
 }
 
-// What lies ahead of a place in a text.
-#[derive(Clone, Copy)]
-pub enum Ahead {
-    One(Line),
-    Nothing,
-}
-
-// A line reader keeps the text that it was lent and its place in it.
+// A line reader keeps the text that it was lent and its place in it. As an iterator it gives the bytes of each line from its place on.
 #[derive(Clone, Copy)]
 pub struct LineReader<'a> {
     pub text: &'a [u8],
@@ -50,18 +44,13 @@ fn end_at(text: &[u8], i: usize) -> usize
     0
 }
 
-// Whether no line ends in the 16 bytes from `at` on: none of them is below 14.
-fn quiet(text: &[u8], at: usize) -> bool
-    requires { at + 16 ≤ length text.now }
-    ensures { result ≡ quiet_at text.now at 16 }
+// Whether no line ends in these bytes: none of them is below 14. The loop has no way out, so that the compiler takes many at once.
+fn quiet(bytes: &[u8]) -> bool
+    ensures { result ≡ quiet bytes.now }
 {
     let mut good = true;
-    let mut p = at;
-    let mut left: usize = 16;
-    while 0 < left {
-        good = good & (14 <= text[p]);
-        p += 1;
-        left -= 1;
+    for byte in bytes {
+        good = good & (14 <= *byte);
     }
     good
 }
@@ -72,12 +61,9 @@ fn skip(text: &[u8], at: usize) -> usize
     ensures { Skipped text.now at result }
 {
     let mut i = at;
-    while 16 <= text.len() - i {
-        if quiet(text, i) {
-            i += 16;
-        } else {
-            return i;
-        }
+    // The index is kept: the place at which this stops is what is asked.
+    while 16 <= text.len() - i && quiet(&text[i..i + 16]) {
+        i += 16;
     }
     i
 }
@@ -87,8 +73,7 @@ fn line_at(text: &[u8], at: usize) -> Line
     requires { at < length text.now }
     ensures { LineAt text.now at result.end result.next }
 {
-    let mut i = skip(text, at);
-    while i < text.len() {
+    for i in skip(text, at)..text.len() {
         let e = end_at(text, i);
         if e != 0 {
             return Line {
@@ -96,39 +81,42 @@ fn line_at(text: &[u8], at: usize) -> Line
                 next: i + e,
             };
         }
-        i += 1;
     }
-    Line { end: i, next: i }
+    let end = text.len();
+    Line { end, next: end }
 }
 
-// What lies ahead of `at`: the work of the line reader, on the text and the place that it keeps.
-fn line_from(text: &[u8], at: usize) -> Ahead
-    ensures { result ≡ ahead_at text.now at }
-{
-    if at < text.len() {
-        let l = line_at(text, at);
-        return Ahead::One(l);
+impl<'a> LineReader<'a> {
+    // A line reader at a place of a text: 0 for its first line, a line's `next` for the one after it.
+    pub fn new(text: &'a [u8], at: usize) -> LineReader<'a>
+        ensures { IsReader text.entry at result }
+    {
+        LineReader { text, at }
     }
-    Ahead::Nothing
+
+    // The line that it is at, or `None` where the text ends.
+    pub fn line(&self) -> Option<Line>
+        ensures { IsNext self.now result }
+    {
+        if self.at < self.text.len() {
+            return Some(line_at(self.text, self.at));
+        }
+        None
+    }
 }
 
-// A line reader at a place of a text: 0 for its first line, a line's `next` for the one after it.
-pub fn reader_at<'a>(text: &'a [u8], at: usize) -> LineReader<'a>
-    ensures { IsReader text.entry at result }
-{
-    LineReader { text, at }
-}
+impl<'a> Iterator for LineReader<'a> {
+    type Item = &'a [u8];
 
-// The line that a line reader is at.
-pub fn next_line<'a>(reader: LineReader<'a>) -> Ahead
-    ensures { IsNext reader.entry result }
-{
-    line_from(reader.text, reader.at)
-}
+    ghost next_gives = { YieldsFirstRef lines_left };
 
-// What a line reader at `at` finds. Its parameters are plain, so that whoever calls it is proved without a walk by hand.
-pub fn ahead_of(text: &[u8], at: usize) -> Ahead
-    ensures { IsAhead text.now at result }
-{
-    next_line(reader_at(text, at))
+    ghost remaining = { item_count lines_left };
+
+    fn next(&mut self) -> Option<&'a [u8]> {
+        let text = self.text;
+        let at = self.at;
+        let line = self.line()?;
+        self.at = line.next;
+        Some(&text[at..line.end])
+    }
 }

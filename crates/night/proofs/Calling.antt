@@ -8,22 +8,21 @@ use native.Mathlib.Omega.{arith}
 use lib.Dec.{leb, ltb}
 use lib.ListN.{length}
 use borrow.Author.Tests.{ltb-true}
+use Rattle.std.specs.Prelude.{Result, Ok, Err}
 use Rattle.buffer.proofs.Bools.{split}
 use Rattle.layout.specs.declared.Bank.{Bank}
-use Rattle.layout.specs.Layout.{good_n}
 use Rattle.response.specs.declared.read.Response.{Response}
 use Rattle.response.specs.Response.{response_of}
-use Rattle.sender.specs.Packet.{packet_count}
+use Rattle.sender.specs.declared.made.Place.{Place}
 use Rattle.night.specs.declared.judge.Verdict.{Verdict}
 use Rattle.night.specs.declared.judge.Verdict.TheVariants.{Settled, Spent, Stops}
-use Rattle.night.specs.declared.lent.Looked.{Looked}
-use Rattle.night.specs.declared.lent.Looked.TheVariants.{Refused, Good}
 use Rattle.night.specs.declared.name.Name.{Name}
 use Rattle.night.specs.declared.name.Name.TheVariants.{ModeStart, VersionInfo, BankInfo, WriteStart, Packet, WriteEnd, ModeEnd}
 use Rattle.night.specs.declared.record.Called.{Called}
 use Rattle.night.specs.declared.record.Next.{Next}
 use Rattle.night.specs.declared.record.Next.TheVariants as next
 use Rattle.night.specs.declared.record.Night.{Night}
+use Rattle.night.specs.declared.record.Refusal.{Refusal}
 use Rattle.night.specs.declared.record.Stand.{Stand}
 use Rattle.night.specs.declared.record.Stand.TheVariants.{NotBegun, At, Finished, GaveUp}
 use Rattle.night.specs.declared.record.Why.{Why}
@@ -53,7 +52,7 @@ use Rattle.night.specs.Call.{
   IsStart,
 }
 use Rattle.night.specs.Judge.{judge_of}
-use Rattle.night.specs.Lent.{tries_good, lengths_good, looked_of}
+use Rattle.night.specs.Lent.{looked_of}
 use Rattle.night.specs.Name.{number_of}
 use Rattle.night.specs.Record.{following_of, again_of, moved_of, standing, next_number}
 use Rattle.night.proofs.Lending.{says_refused, says_good}
@@ -84,97 +83,67 @@ stands_there name gone tries count verdict stand {packets} h q e =
     subst (λ (s : Stand). stands_at s < packets) (sym e)
     (subst (λ (x : ℕ). stands_at (moved_of name gone tries count verdict) < x) q (moved_there name gone tries count verdict (omega arith)))
 
--- ---- a refusal says its number, and the buffer keeps its bytes
-
-module _ (image : List ℕ) (n tries size p : ℕ) (bank : Bank) (m : ℕ) (before : List ℕ) where
-  keeps_in : Looked → Type 0
-  keeps_in (Refused why) = buffer_after image bank m before why ≡ before
-  keeps_in (Good sector count) = before ≡ before
-
-  keeps : keeps_in (looked_of image n tries size p)
-  unfolding looked_of keeps_in
-  keeps =
-      split keeps_in (good_n n)
-      (λ _.
-      split keeps_in (lengths_good image n size)
-      (λ _. split keeps_in (tries_good tries) (λ _. split keeps_in (ltb p (packet_count image n)) (λ _. refl) (λ _. refl)) (λ _. refl))
-      (λ _. refl))
-      (λ _. refl)
-
-  pub refused_keeps : (why : Next) → Refused why ≡ looked_of image n tries size p → buffer_after image bank m before why ≡ before
-  unfolding keeps_in
-  refused_keeps why e = subst keeps_in (sym e) keeps
-
--- what goes on or ends is no refusal
-pub next_says : (image : List ℕ) (bank : Bank) (n : ℕ) (stand : Stand) → next_number (next_of image bank n stand) ≡ 0
-next_says image bank n NotBegun = refl
-next_says image bank n (At name gone) = refl
-next_says image bank n Finished = refl
-next_says image bank n (GaveUp name why) = refl
-
 -- ---- the request goes out, or the end is told
 
 module _ (night : Night) (image before : List ℕ) (r : Called) where
   -- the buffer is as it was, by where the record stands
-  pub gone_end : (stand : Stand) → night.stand ≡ stand → r ≡ called night (next_of image night.bank night.n stand)
-      → before ≡ buffer_after image night.bank night.n before (next_of image night.bank night.n stand) → IsGoesOn night image before r before
+  pub gone_end : (stand : Stand) → night.stand ≡ stand → r ≡ called night (Ok (next_of image night.bank night.n stand))
+      → before ≡ buffer_after image night.bank night.n before (Ok (next_of image night.bank night.n stand)) → IsGoesOn night image before r before
   gone_end stand e a s =
       record {
-        answered = a ∙ ap (λ (x : Stand). called night (next_of image night.bank night.n x)) (sym e);
-        stands = s ∙ ap (λ (x : Stand). buffer_after image night.bank night.n before (next_of image night.bank night.n x)) (sym e);
+        answered = a ∙ ap (λ (x : Stand). called night (Ok (next_of image night.bank night.n x))) (sym e);
+        stands = s ∙ ap (λ (x : Stand). buffer_after image night.bank night.n before (Ok (next_of image night.bank night.n x))) (sym e);
       }
 
-  pub gone_out : (after : List ℕ) (name : Name) (gone : ℕ) (next : Next) → night.stand ≡ At name gone
+  pub gone_out : (after : List ℕ) (name : Name) (gone : ℕ) (next : Result Next Refusal) → night.stand ≡ At name gone
       → IsMake name night.bank night.n image before next after
       → r ≡ called night next → IsGoesOn night image before r after
   gone_out after name gone next e m a =
       record {
-        answered = a ∙ ap (called night) m.answered ∙ ap (λ (x : Stand). called night (next_of image night.bank night.n x)) (sym e);
-        stands = m.stands ∙ ap (λ (x : Stand). buffer_after image night.bank night.n before (next_of image night.bank night.n x)) (sym e);
+        answered = a ∙ ap (called night) m.answered ∙ ap (λ (x : Stand). called night (Ok (next_of image night.bank night.n x))) (sym e);
+        stands = m.stands ∙ ap (λ (x : Stand). buffer_after image night.bank night.n before (Ok (next_of image night.bank night.n x))) (sym e);
       }
 
 -- ---- the night is over
 
 module _ (night : Night) (p : ℕ) (end : Next) (image : List ℕ) (size : ℕ) (r : Called) where
-  pub over_refused : (why : Next) → Refused why ≡ looked_of image night.n night.tries size p → r ≡ called night why
+  pub over_refused : (why : Refusal) → Err why ≡ looked_of image night.n night.tries size p → r ≡ called night (Err why)
       → r ≡ over_of night p end image size
   unfolding over_of
   over_refused why e a = a ∙ ap (end_told night end) e
 
-  pub over_told : (sector count : ℕ) → Good sector count ≡ looked_of image night.n night.tries size p → r ≡ called night end
+  pub over_told : (place : Place) → Ok place ≡ looked_of image night.n night.tries size p → r ≡ called night (Ok end)
       → r ≡ over_of night p end image size
   unfolding over_of
-  over_told sector count e a = a ∙ ap (end_told night end) e
+  over_told place e a = a ∙ ap (end_told night end) e
 
 -- ---- a request is at hand
 
 module _ (night : Night) (name : Name) (gone : ℕ) (response : Option Response) (image before : List ℕ) (r : Called) where
-  abbrev looked : Looked
+  abbrev looked : Result Place Refusal
   looked = looked_of image night.n night.tries (length before) (number_of name)
 
-  pub hand_refused : (why : Next) → Refused why ≡ looked → r ≡ called night why → IsAtHand night name gone response image before r before
+  pub hand_refused : (why : Refusal) → Err why ≡ looked → r ≡ called night (Err why) → IsAtHand night name gone response image before r before
   unfolding at_hand_of
   hand_refused why e a =
       record {
         answered = a ∙ ap (judged night name gone response image) e;
-        stands =
-            sym (refused_keeps image night.n night.tries (length before) (number_of name) night.bank night.n before why e)
-            ∙ ap (λ (l : Looked). buffer_by image before (judged night name gone response image l)) e;
+        stands = ap (λ (l : Result Place Refusal). buffer_by image before (judged night name gone response image l)) e;
       }
 
-  pub hand_moved : (after : List ℕ) (sector count : ℕ) (verdict : Verdict) (stand : Stand) → Good sector count ≡ looked
-      → verdict ≡ judge_of name (leb 2 gone) night.bank image sector response → stand ≡ moved_of name gone night.tries count verdict
+  pub hand_moved : (after : List ℕ) (place : Place) (verdict : Verdict) (stand : Stand) → Ok place ≡ looked
+      → verdict ≡ judge_of name (leb 2 gone) night.bank image place.sector response → stand ≡ moved_of name gone night.tries place.count verdict
       → IsGoesOn (standing stand night) image before r after → IsAtHand night name gone response image before r after
   unfolding at_hand_of
-  hand_moved after sector count verdict stand e v s g =
-      let m : stand ≡ moved_of name gone night.tries count (judge_of name (leb 2 gone) night.bank image sector response) =
-      s ∙ ap (moved_of name gone night.tries count) v in
+  hand_moved after place verdict stand e v s g =
+      let m : stand ≡ moved_of name gone night.tries place.count (judge_of name (leb 2 gone) night.bank image place.sector response) =
+      s ∙ ap (moved_of name gone night.tries place.count) v in
       record {
         answered = g.answered ∙ ap (λ (x : Stand). gone_on image (standing x night)) m ∙ ap (judged night name gone response image) e;
         stands =
             g.stands
             ∙ ap (λ (x : Stand). buffer_by image before (gone_on image (standing x night))) m
-            ∙ ap (λ (l : Looked). buffer_by image before (judged night name gone response image l)) e;
+            ∙ ap (λ (l : Result Place Refusal). buffer_by image before (judged night name gone response image l)) e;
       }
 
 -- ---- an event
@@ -184,31 +153,29 @@ module _ (night : Night) (name : Name) (gone : ℕ) (response : Option Response)
   unfolding at_hand_of
   hand_says = by (looked_of image night.n night.tries size (number_of name)) refl
     where
-      by : (l : Looked) → l ≡ looked_of image night.n night.tries size (number_of name)
+      by : (l : Result Place Refusal) → l ≡ looked_of image night.n night.tries size (number_of name)
           → next_number (judged night name gone response image l).next ≡ lent_says image night.n night.tries size (number_of name)
-      by (Refused why) e = says_refused image night.n night.tries size (number_of name) why e
-      by (Good sector count) e =
-          next_says image night.bank night.n (moved_of name gone night.tries count (judge_of name (leb 2 gone) night.bank image sector response))
-          ∙ says_good image night.n night.tries size (number_of name) sector count e
+      by (Err why) e = says_refused image night.n night.tries size (number_of name) why e
+      by (Ok place) e = says_good image night.n night.tries size (number_of name) place e
 
 module _ (night : Night) (p : ℕ) (end : Next) (image : List ℕ) (size : ℕ) where
-  pub over_says : next_number end ≡ 0 → next_number (over_of night p end image size).next ≡ lent_says image night.n night.tries size p
+  pub over_says : next_number (over_of night p end image size).next ≡ lent_says image night.n night.tries size p
   unfolding over_of
-  over_says z = by (looked_of image night.n night.tries size p) refl
+  over_says = by (looked_of image night.n night.tries size p) refl
     where
-      by : (l : Looked) → l ≡ looked_of image night.n night.tries size p
+      by : (l : Result Place Refusal) → l ≡ looked_of image night.n night.tries size p
           → next_number (end_told night end l).next ≡ lent_says image night.n night.tries size p
-      by (Refused why) e = says_refused image night.n night.tries size p why e
-      by (Good sector count) e = z ∙ says_good image night.n night.tries size p sector count e
+      by (Err why) e = says_refused image night.n night.tries size p why e
+      by (Ok place) e = says_good image night.n night.tries size p place e
 
-  over_keeps : (before : List ℕ) → buffer_after image night.bank night.n before end ≡ before
+  over_keeps : (before : List ℕ) → buffer_after image night.bank night.n before (Ok end) ≡ before
       → before ≡ buffer_by image before (over_of night p end image size)
   unfolding over_of
   over_keeps before z = by (looked_of image night.n night.tries size p) refl
     where
-      by : (l : Looked) → l ≡ looked_of image night.n night.tries size p → before ≡ buffer_by image before (end_told night end l)
-      by (Refused why) e = sym (refused_keeps image night.n night.tries size p night.bank night.n before why e)
-      by (Good sector count) e = sym z
+      by : (l : Result Place Refusal) → l ≡ looked_of image night.n night.tries size p → before ≡ buffer_by image before (end_told night end l)
+      by (Err why) e = refl
+      by (Ok place) e = sym z
 
 module _ (night : Night) (response : Option Response) (image before : List ℕ) (r : Called) where
   by_stand_lem : (after : List ℕ) (stand : Stand) → night.stand ≡ stand → r ≡ by_stand night response image (length before) stand
@@ -222,7 +189,7 @@ module _ (night : Night) (response : Option Response) (image before : List ℕ) 
         stands = b ∙ ap (λ (x : Stand). buffer_by image before (by_stand night response image (length before) x)) back;
       }
 
-  pub step_unbegun : night.stand ≡ NotBegun → r ≡ called night next.NotBegun → IsStep night response image before r before
+  pub step_unbegun : night.stand ≡ NotBegun → r ≡ called night (Ok next.NotBegun) → IsStep night response image before r before
   step_unbegun e a = by_stand_lem before NotBegun e a refl refl
 
   pub step_hand : (after : List ℕ) (name : Name) (gone : ℕ) → night.stand ≡ At name gone → IsAtHand night name gone response image before r after
@@ -231,14 +198,14 @@ module _ (night : Night) (response : Option Response) (image before : List ℕ) 
 
   pub step_finished : night.stand ≡ Finished → r ≡ over_of night 0 next.Finished image (length before) → IsStep night response image before r before
   step_finished e a =
-      by_stand_lem before Finished e a (over_says night 0 next.Finished image (length before) refl) (over_keeps night 0 next.Finished image (length before) before refl)
+      by_stand_lem before Finished e a (over_says night 0 next.Finished image (length before)) (over_keeps night 0 next.Finished image (length before) before refl)
 
   pub step_gave_up : (name : Name) (why : Why) (p : ℕ) → night.stand ≡ GaveUp name why → p ≡ number_of name
       → r ≡ over_of night p (next.GaveUp name why) image (length before)
       → IsStep night response image before r before
   step_gave_up name why p e q a =
       by_stand_lem before (GaveUp name why) e (a ∙ ap (λ (x : ℕ). over_of night x (next.GaveUp name why) image (length before)) q)
-      (over_says night (number_of name) (next.GaveUp name why) image (length before) refl)
+      (over_says night (number_of name) (next.GaveUp name why) image (length before))
       (over_keeps night (number_of name) (next.GaveUp name why) image (length before) before refl)
 
 -- a response, as it reads
@@ -254,28 +221,26 @@ step_heard night response datagram image before r after e s =
 -- ---- the start
 
 module _ (image : List ℕ) (bank : Bank) (n tries : ℕ) (before : List ℕ) (r : Called) where
-  abbrev first : Looked
+  abbrev first : Result Place Refusal
   first = looked_of image n tries (length before) 0
 
-  pub start_refused : (why : Next) → Refused why ≡ first → r ≡ called (night_of bank n tries NotBegun) why
+  pub start_refused : (why : Refusal) → Err why ≡ first → r ≡ called (night_of bank n tries NotBegun) (Err why)
       → IsStart image bank n tries before r before
   unfolding start_of
   start_refused why e a =
       record {
         answered = a ∙ ap (begun image bank n tries) e;
         says = ap (λ (c : Called). next_number c.next) a ∙ says_refused image n tries (length before) 0 why e;
-        stands =
-            sym (refused_keeps image n tries (length before) 0 bank n before why e)
-            ∙ ap (λ (l : Looked). buffer_by image before (begun image bank n tries l)) e;
+        stands = ap (λ (l : Result Place Refusal). buffer_by image before (begun image bank n tries l)) e;
       }
 
-  pub start_gone : (after : List ℕ) (sector count : ℕ) → Good sector count ≡ first
+  pub start_gone : (after : List ℕ) (place : Place) → Ok place ≡ first
       → IsGoesOn (night_of bank n tries (At ModeStart 1)) image before r after
       → IsStart image bank n tries before r after
   unfolding start_of
-  start_gone after sector count e g =
+  start_gone after place e g =
       record {
         answered = g.answered ∙ ap (begun image bank n tries) e;
-        says = ap (λ (c : Called). next_number c.next) g.answered ∙ says_good image n tries (length before) 0 sector count e;
-        stands = g.stands ∙ ap (λ (l : Looked). buffer_by image before (begun image bank n tries l)) e;
+        says = ap (λ (c : Called). next_number c.next) g.answered ∙ says_good image n tries (length before) 0 place e;
+        stands = g.stands ∙ ap (λ (l : Result Place Refusal). buffer_by image before (begun image bank n tries l)) e;
       }

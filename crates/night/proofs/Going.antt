@@ -8,12 +8,12 @@ use Prim.Native.Nat.{ℕ, ◌*◌, ◌≤◌, ◌<◌}
 use lib.Dec.{leb}
 use lib.ListN.{length}
 use borrow.Author.Tests.{eq-eqb, le-leb, lt-ltb}
+use Rattle.std.specs.Prelude.{Ok}
 use Rattle.layout.specs.declared.Bank.{Bank}
 use Rattle.layout.specs.Layout.{sector_size, good_n}
 use Rattle.response.specs.declared.read.Response.{Response}
 use Rattle.sender.specs.Made.{room}
 use Rattle.sender.specs.Packet.{packet_count, packet_sector}
-use Rattle.night.specs.declared.lent.Looked.TheVariants.{Good}
 use Rattle.night.specs.declared.name.Name.{Name}
 use Rattle.night.specs.declared.name.Name.TheVariants.{ModeStart}
 use Rattle.night.specs.declared.record.Next.TheVariants as next
@@ -39,7 +39,7 @@ unfolding tries_good
 tried tries l h = rw (le-leb 1 tries l, le-leb tries 9 h)
 
 module _ (image : List ℕ) (n tries size : ℕ) (f : Fits image n tries size) where
-  looked_good : (p : ℕ) → p < packet_count image n → looked_of image n tries size p ≡ Good (packet_sector image n p) (packet_count image n)
+  looked_good : (p : ℕ) → p < packet_count image n → looked_of image n tries size p ≡ Ok (record { sector = packet_sector image n p; count = packet_count image n })
   unfolding looked_of
   looked_good p h =
       rw (f.good, eq-eqb (length image) (sector_size * n) f.whole, le-leb room size f.roomy, tried tries f.low f.high, lt-ltb p (packet_count image n) h)
@@ -63,13 +63,13 @@ module _ (night : Night) (response : Option Response) (image : List ℕ) (size :
       ∙ ap (judged night name gone response image) (looked_good image night.n night.tries size f (number_of name) h)
 
   -- an end is told again
-  pub finished_again : night.stand ≡ Finished → 0 < packet_count image night.n → step_of night response image size ≡ called night next.Finished
+  pub finished_again : night.stand ≡ Finished → 0 < packet_count image night.n → step_of night response image size ≡ called night (Ok next.Finished)
   unfolding over_of
   finished_again e h =
       ap (by_stand night response image size) e ∙ ap (end_told night next.Finished) (looked_good image night.n night.tries size f 0 h)
 
   pub gave_up_again : (name : Name) (why : Why) → night.stand ≡ GaveUp name why → number_of name < packet_count image night.n
-      → step_of night response image size ≡ called night (next.GaveUp name why)
+      → step_of night response image size ≡ called night (Ok (next.GaveUp name why))
   unfolding over_of
   gave_up_again name why e h =
       ap (by_stand night response image size) e

@@ -1,5 +1,6 @@
 -- For the crates above: what settles a request, how an event moves the record, and what a call does to a record that may be any.
 -- Assumes nothing.
+use Rattle.std.proofs.Common.{Some}
 use Rattle.std.specs.Prelude.{Option, Some, None}
 use mathlib.Core.Path.{◌≡◌, refl, sym, ap, subst, ◌∙◌}
 use mathlib.Core.Bool.{Bool, true, false, ◌&&◌, ◌||◌, cond, false≢true}
@@ -10,29 +11,31 @@ use native.Mathlib.Omega.{arith}
 use lib.Dec.{eqb, leb, ltb}
 use lib.ListN.{length}
 use borrow.Author.Tests.{eqb-true, eq-eqb, ltb-true, ltb-false, le-ltb}
+use Rattle.std.specs.Prelude.{Result, Ok, Err}
 use Rattle.buffer.proofs.Bools.{split, and_left, and_right, and_false, no_way}
-use Rattle.commands.specs.declared.Coded.TheVariants.{Is}
+use Rattle.std.specs.Option.{option_eq}
 use Rattle.commands.specs.declared.Command.{Command}
 use Rattle.commands.specs.declared.Command.TheVariants as command
 use Rattle.commands.specs.Command.{response_code, answered_by}
 use Rattle.commands.proofs.Codes.{response_known}
 use Rattle.crc.specs.Crc.{crc_of}
-use Rattle.layout.specs.Layout.{bank_number, good_n, other_of, sector_of}
+use Rattle.layout.specs.Layout.{bank_number, other_of, sector_of}
 use Rattle.layout.specs.declared.Bank.{Bank}
 use Rattle.layout.specs.declared.Bank.TheVariants.{Zero, One}
 use Rattle.response.specs.declared.read.Response.{Response}
 use Rattle.response.specs.declared.read.Response.TheVariants.{Plain, Error, Target, Firmware, Written}
-use Rattle.sender.specs.Packet.{packet_count, packet_sector}
+use Rattle.sender.specs.declared.made.Place.{Place}
+use Rattle.sender.specs.Packet.{packet_sector}
 use Rattle.night.specs.declared.judge.Verdict.{Verdict}
 use Rattle.night.specs.declared.judge.Verdict.TheVariants.{Settled, Spent, Stops}
 use Rattle.night.specs.declared.name.Name.{Name}
 use Rattle.night.specs.declared.name.Name.TheVariants.{ModeStart, VersionInfo, BankInfo, WriteStart, Packet, WriteEnd, ModeEnd}
-use Rattle.night.specs.declared.lent.Looked.{Looked}
-use Rattle.night.specs.declared.lent.Looked.TheVariants.{Refused, Good}
 use Rattle.night.specs.declared.record.Called.{Called}
 use Rattle.night.specs.declared.record.Next.{Next}
 use Rattle.night.specs.declared.record.Next.TheVariants as next
 use Rattle.night.specs.declared.record.Night.{Night}
+use Rattle.night.specs.declared.record.Refusal.{Refusal}
+use Rattle.night.specs.declared.record.Refusal.TheVariants.{BadN, BadLength, BadTries, NoPacket}
 use Rattle.night.specs.declared.record.Stand.{Stand}
 use Rattle.night.specs.declared.record.Stand.TheVariants.{NotBegun, At, Finished, GaveUp}
 use Rattle.night.specs.declared.record.Why.{Why}
@@ -55,10 +58,10 @@ use Rattle.night.specs.Call.{
   step_says,
 }
 use Rattle.night.specs.Judge.{own_result, own_verdict, version_verdict, bank_verdict, fields_awaited, packet_verdict, judge_of}
-use Rattle.night.specs.Lent.{tries_good, lengths_good, looked_of}
+use Rattle.night.specs.Lent.{looked_of}
 use Rattle.night.specs.Name.{number_of}
-use Rattle.night.specs.Record.{following_of, again_of, moved_of, standing, next_number}
-use Rattle.night.proofs.Calling.{hand_says, next_says, over_says, refused_keeps}
+use Rattle.night.specs.Record.{following_of, again_of, moved_of, standing, refusal_number, next_number}
+use Rattle.night.proofs.Calling.{hand_says, over_says}
 use Rattle.night.proofs.Lending.{lent, says_refused, says_good}
 use Rattle.night.proofs.Moving.{goes_again, given_up}
 
@@ -71,7 +74,7 @@ Settling name repeated bank image sector response = judge_of name repeated bank 
 -- no two commands are answered by one code
 same_command : (a b : Command) → response_code a ≡ response_code b → a ≡ b
 same_command a b e =
-    let p : Is a ≡ Is b = sym (response_known a) ∙ ap answered_by e ∙ response_known b in cc
+    let p : Some a ≡ Some b = sym (response_known a) ∙ ap answered_by e ∙ response_known b in cc
 
 same_bank : (a b : Bank) → bank_number a ≡ bank_number b → a ≡ b
 same_bank Zero Zero e = refl
@@ -79,21 +82,26 @@ same_bank Zero One e = no_way e
 same_bank One Zero e = no_way (sym e)
 same_bank One One e = refl
 
--- what carries a result that is not 0 is the command's own response
-own_reads : (command : Command) (response : Option Response) (result : ℕ) → 0 < result → own_result command response ≡ result
+-- what carries a result is the command's own response
+own_reads : (command : Command) (response : Option Response) (result : ℕ) → option_eq eqb (own_result command response) (Some result) ≡ true
     → response ≡ Some (Plain command result)
-own_reads command None result h e = absurd (omega arith)
-own_reads command (Some (Plain other r)) result h e =
-    split (λ (x : ℕ). x ≡ result → Some (Plain other r) ≡ Some (Plain command result)) (eqb (response_code other) (response_code command))
-    (λ t q. let s = same_command other command (eqb-true _ _ t) in cc)
-    (λ _ q. absurd (omega arith))
+own_reads command None result e = absurd (false≢true e)
+own_reads command (Some (Plain other r)) result e =
+    split (λ (x : Option ℕ). option_eq eqb x (Some result) ≡ true → Some (Plain other r) ≡ Some (Plain command result))
+    (eqb (response_code other) (response_code command))
+    (λ t q.
+    let s = same_command other command (eqb-true _ _ t) in
+    let same : r ≡ result = eqb-true r result q in
+    cc)
+    (λ _ q. absurd (false≢true q))
     e
-own_reads command (Some (Error r)) result h e = absurd (omega arith)
-own_reads command (Some (Target bank)) result h e = absurd (omega arith)
-own_reads command (Some (Firmware id major minor revision)) result h e = absurd (omega arith)
-own_reads command (Some (Written sector response write crc)) result h e = absurd (omega arith)
+own_reads command (Some (Error r)) result e = absurd (false≢true e)
+own_reads command (Some (Target bank)) result e = absurd (false≢true e)
+own_reads command (Some (Firmware id major minor revision)) result e = absurd (false≢true e)
+own_reads command (Some (Written sector response write crc)) result e = absurd (false≢true e)
 
-own_result_lem : (command : Command) (response : Option Response) (result : ℕ) → response ≡ Some (Plain command result) → own_result command response ≡ result
+own_result_lem : (command : Command) (response : Option Response) (result : ℕ) → response ≡ Some (Plain command result)
+    → own_result command response ≡ Some result
 own_result_lem command response result e = rw (e, eq-eqb (response_code command) (response_code command) refl)
 
 module _ (command : Command) (repeated : Bool) (response : Option Response) where
@@ -103,14 +111,14 @@ module _ (command : Command) (repeated : Bool) (response : Option Response) wher
   unfolding own_verdict
   own_settled declined =
       let Out : Type 0 = (response ≡ Some (Plain command 0x06)) ⊎ ((response ≡ Some (Plain command 0x15)) × (repeated ≡ true) × (declined ≡ Settled)) in
-      let result : ℕ = own_result command response in
-      split (λ (v : Verdict). v ≡ Settled → Out) (eqb result 0x06)
-      (λ t _. inl (own_reads command response 0x06 (omega arith) (eqb-true result 0x06 t)))
-      (λ _. split (λ (v : Verdict). v ≡ Settled → Out) (repeated && eqb result 0x15)
+      let is : ℕ → Bool = λ k. option_eq eqb (own_result command response) (Some k) in
+      split (λ (v : Verdict). v ≡ Settled → Out) (is 0x06)
+      (λ t _. inl (own_reads command response 0x06 t))
+      (λ _. split (λ (v : Verdict). v ≡ Settled → Out) (repeated && is 0x15)
       (λ t e.
       inr (
-        own_reads command response 0x15 (omega arith) (eqb-true result 0x15 (and_right repeated (eqb result 0x15) t)),
-        and_left repeated (eqb result 0x15) t,
+        own_reads command response 0x15 (and_right repeated (is 0x15) t),
+        and_left repeated (is 0x15) t,
         e,
       ))
       (λ _ e. no_way cc))
@@ -269,13 +277,13 @@ module _ (command : Command) (repeated : Bool) (response : Option Response) (why
   unfolding own_verdict
   own_stopped declined =
       let Out : Type 0 = (response ≡ Some (Plain command 0x15)) × (repeated ≡ true) × (declined ≡ Stops why) in
-      let result : ℕ = own_result command response in
-      split (λ (v : Verdict). v ≡ Stops why → Out) (eqb result 0x06)
+      let is : ℕ → Bool = λ k. option_eq eqb (own_result command response) (Some k) in
+      split (λ (v : Verdict). v ≡ Stops why → Out) (is 0x06)
       (λ _ e. no_way cc)
-      (λ _. split (λ (v : Verdict). v ≡ Stops why → Out) (repeated && eqb result 0x15)
+      (λ _. split (λ (v : Verdict). v ≡ Stops why → Out) (repeated && is 0x15)
       (λ t e. (
-        own_reads command response 0x15 (omega arith) (eqb-true result 0x15 (and_right repeated (eqb result 0x15) t)),
-        and_left repeated (eqb result 0x15) t,
+        own_reads command response 0x15 (and_right repeated (is 0x15) t),
+        and_left repeated (is 0x15) t,
         e,
       ))
       (λ _ e. no_way cc))
@@ -426,31 +434,21 @@ module _ (night : Night) (response : Option Response) (image before : List ℕ) 
   abbrev Refusing : Called → Type 0
   Refusing c = (next_number c.next ≡ 0 → ⊥) → Kept night image before c
 
-  refused_kept : (p : ℕ) (why : Next) → Refused why ≡ looked_of image night.n night.tries (length before) p
-      → Kept night image before (called night why)
-  refused_kept p why e =
-      record { same = refl; buffer = refused_keeps image night.n night.tries (length before) p night.bank night.n before why e }
-
-  over_kept : (p : ℕ) (end : Next) → next_number end ≡ 0 → Refusing (over_of night p end image (length before))
+  over_kept : (p : ℕ) (end : Next) → Refusing (over_of night p end image (length before))
   unfolding over_of
-  over_kept p end z = by (looked_of image night.n night.tries (length before) p) refl
+  over_kept p end = by (looked_of image night.n night.tries (length before) p)
     where
-      by : (l : Looked) → l ≡ looked_of image night.n night.tries (length before) p → Refusing (end_told night end l)
-      by (Refused why) e h = refused_kept p why e
-      by (Good sector count) e h = absurd (h z)
+      by : (l : Result Place Refusal) → Refusing (end_told night end l)
+      by (Err why) h = record { same = refl; buffer = refl }
+      by (Ok place) h = absurd (h refl)
 
   hand_kept : (name : Name) (gone : ℕ) → Refusing (at_hand_of night name gone response image (length before))
   unfolding at_hand_of
-  hand_kept name gone = by (looked_of image night.n night.tries (length before) (number_of name)) refl
+  hand_kept name gone = by (looked_of image night.n night.tries (length before) (number_of name))
     where
-      by : (l : Looked) → l ≡ looked_of image night.n night.tries (length before) (number_of name)
-          → Refusing (judged night name gone response image l)
-      by (Refused why) e h = refused_kept (number_of name) why e
-      by (Good sector count) e h =
-          absurd
-          (h
-          (next_says image night.bank night.n
-          (moved_of name gone night.tries count (judge_of name (leb 2 gone) night.bank image sector response))))
+      by : (l : Result Place Refusal) → Refusing (judged night name gone response image l)
+      by (Err why) h = record { same = refl; buffer = refl }
+      by (Ok place) h = absurd (h refl)
 
   pub step_kept : Refusing (step_of night response image (length before))
   step_kept = by night.stand
@@ -458,104 +456,77 @@ module _ (night : Night) (response : Option Response) (image before : List ℕ) 
       by : (stand : Stand) → Refusing (by_stand night response image (length before) stand)
       by NotBegun h = absurd (h refl)
       by (At name gone) h = hand_kept name gone h
-      by Finished h = over_kept 0 next.Finished refl h
-      by (GaveUp name why) h = over_kept (number_of name) (next.GaveUp name why) refl h
+      by Finished h = over_kept 0 next.Finished h
+      by (GaveUp name why) h = over_kept (number_of name) (next.GaveUp name why) h
 
 -- ---- what has gone out T times does not go out again
 
 module _ (name : Name) (size : ℕ) where
-  abbrev Other : Next → Type 0
-  Other told = told ≡ next.Send name size → ⊥
-
-  abbrev RefusalOther : Looked → Type 0
-  RefusalOther (Refused why) = Other why
-  RefusalOther (Good sector count) = Unit {0}
-
-  refusal_other : (image : List ℕ) (n tries room p : ℕ) → RefusalOther (looked_of image n tries room p)
-  unfolding looked_of
-  refusal_other image n tries room p =
-      split RefusalOther (good_n n)
-      (λ _.
-      split RefusalOther (lengths_good image n room)
-      (λ _.
-      split RefusalOther (tries_good tries) (λ _. split RefusalOther (ltb p (packet_count image n)) (λ _. tt) (λ _ e. no_way cc)) (λ _ e. no_way cc))
-      (λ _ e. no_way cc))
-      (λ _ e. no_way cc)
+  abbrev Other : Result Next Refusal → Type 0
+  Other told = told ≡ Ok (next.Send name size) → ⊥
 
   -- the request behind one is another
   module _ (image : List ℕ) (bank : Bank) (n : ℕ) where
-    follows-other : (k : Name) (count : ℕ) → k ≡ name → Other (next_of image bank n (following_of k count))
+    follows-other : (k : Name) (count : ℕ) → k ≡ name → Other (Ok (next_of image bank n (following_of k count)))
     follows-other ModeStart count e q = no_way cc
     follows-other VersionInfo count e q = no_way cc
     follows-other BankInfo count e q = no_way cc
     follows-other WriteStart count e q = no_way cc
     follows-other (Packet p) count e q =
-        split (λ (s : Stand). Other (next_of image bank n s)) (ltb (p + 1) count)
+        split (λ (s : Stand). Other (Ok (next_of image bank n s))) (ltb (p + 1) count)
         (λ _ r. let same : p + 1 ≡ p = cc in absurd (omega arith))
         (λ _ r. no_way cc)
         q
     follows-other WriteEnd count e q = no_way cc
     follows-other ModeEnd count e q = no_way cc
 
-    moved_other : (gone tries count : ℕ) (verdict : Verdict) → tries ≤ gone → Other (next_of image bank n (moved_of name gone tries count verdict))
+    moved_other : (gone tries count : ℕ) (verdict : Verdict) → tries ≤ gone → Other (Ok (next_of image bank n (moved_of name gone tries count verdict)))
     unfolding again_of
     moved_other gone tries count Settled h q = follows-other name count refl q
     moved_other gone tries count Spent h q =
-        subst (λ (t : Bool). Other (next_of image bank n (cond t (At name (gone + 1)) (GaveUp name Tries)))) (sym (le-ltb gone tries h)) (λ r. no_way cc) q
+        subst (λ (t : Bool). Other (Ok (next_of image bank n (cond t (At name (gone + 1)) (GaveUp name Tries))))) (sym (le-ltb gone tries h)) (λ r. no_way cc) q
     moved_other gone tries count (Stops why) h q = no_way cc
 
   pub not_again : (night : Night) (response : Option Response) (image : List ℕ) (room gone : ℕ) → night.stand ≡ At name gone → night.tries ≤ gone
-      → (step_of night response image room).next ≡ next.Send name size → ⊥
+      → (step_of night response image room).next ≡ Ok (next.Send name size) → ⊥
   unfolding at_hand_of
   not_again night response image room gone e h q =
-      by (looked_of image night.n night.tries room (number_of name)) refl
-      (sym (ap (λ (s : Stand). (by_stand night response image room s).next) e) ∙ q)
+      by (looked_of image night.n night.tries room (number_of name)) (sym (ap (λ (s : Stand). (by_stand night response image room s).next) e) ∙ q)
     where
-      by : (l : Looked) → l ≡ looked_of image night.n night.tries room (number_of name) → Other (judged night name gone response image l).next
-      by (Refused why) s = subst RefusalOther (sym s) (refusal_other image night.n night.tries room (number_of name))
-      by (Good sector count) s =
-          moved_other image night.bank night.n gone night.tries count (judge_of name (leb 2 gone) night.bank image sector response) h
+      by : (l : Result Place Refusal) → Other (judged night name gone response image l).next
+      by (Err why) s = no_way cc
+      by (Ok place) s =
+          moved_other image night.bank night.n gone night.tries place.count (judge_of name (leb 2 gone) night.bank image place.sector response) h s
 
 -- ---- what has gone out T times, and settles nothing, is given up
 
-abbrev RefusalCounts : Looked → Type 0
-RefusalCounts (Refused why) = next_number why ≡ 0 → ⊥
-RefusalCounts (Good sector count) = Unit {0}
-
-refusal_counts : (image : List ℕ) (n tries size p : ℕ) → RefusalCounts (looked_of image n tries size p)
-unfolding looked_of
-refusal_counts image n tries size p =
-    split RefusalCounts (good_n n)
-    (λ _.
-    split RefusalCounts (lengths_good image n size)
-    (λ _.
-    split RefusalCounts (tries_good tries) (λ _. split RefusalCounts (ltb p (packet_count image n)) (λ _. tt) (λ _ e. absurd (omega arith)))
-    (λ _ e. absurd (omega arith)))
-    (λ _ e. absurd (omega arith)))
-    (λ _ e. absurd (omega arith))
+refusal_counts : (why : Refusal) → refusal_number why ≡ 0 → ⊥
+refusal_counts BadN e = omega arith
+refusal_counts BadLength e = omega arith
+refusal_counts BadTries e = omega arith
+refusal_counts NoPacket e = omega arith
 
 module _ (night : Night) (response : Option Response) (image : List ℕ) (size : ℕ) (name : Name) (gone : ℕ) where
-  spent_up : (sector count : ℕ) → night.tries ≤ gone → Spending name (leb 2 gone) night.bank image sector response
-      → judged night name gone response image (Good sector count) ≡ called (standing (GaveUp name Tries) night) (next.GaveUp name Tries)
-  spent_up sector count h e =
-      ap (λ (s : Stand). gone_on image (standing s night)) (ap (moved_of name gone night.tries count) e ∙ sym (given_up name gone night.tries h))
+  spent_up : (place : Place) → night.tries ≤ gone → Spending name (leb 2 gone) night.bank image place.sector response
+      → judged night name gone response image (Ok place) ≡ called (standing (GaveUp name Tries) night) (Ok (next.GaveUp name Tries))
+  spent_up place h e =
+      ap (λ (s : Stand). gone_on image (standing s night)) (ap (moved_of name gone night.tries place.count) e ∙ sym (given_up name gone night.tries h))
 
   pub gives_up : night.stand ≡ At name gone → night.tries ≤ gone → next_number (step_of night response image size).next ≡ 0
       → Spending name (leb 2 gone) night.bank image (packet_sector image night.n (number_of name)) response
-      → step_of night response image size ≡ called (standing (GaveUp name Tries) night) (next.GaveUp name Tries)
+      → step_of night response image size ≡ called (standing (GaveUp name Tries) night) (Ok (next.GaveUp name Tries))
   unfolding at_hand_of
   gives_up e h z t =
       let here : step_of night response image size ≡ at_hand_of night name gone response image size = ap (by_stand night response image size) e in
       here ∙ by (looked_of image night.n night.tries size (number_of name)) refl (sym (ap (λ (c : Called). next_number c.next) here) ∙ z)
     where
-      by : (l : Looked) → l ≡ looked_of image night.n night.tries size (number_of name)
+      by : (l : Result Place Refusal) → l ≡ looked_of image night.n night.tries size (number_of name)
           → next_number (judged night name gone response image l).next ≡ 0
-          → judged night name gone response image l ≡ called (standing (GaveUp name Tries) night) (next.GaveUp name Tries)
-      by (Refused why) q no-refusal =
-          absurd (subst RefusalCounts (sym q) (refusal_counts image night.n night.tries size (number_of name)) no-refusal)
-      by (Good sector count) q no-refusal =
-          let given = lent image night.n night.tries size (number_of name) sector count q in
-          spent_up sector count h (subst (λ (x : ℕ). Spending name (leb 2 gone) night.bank image x response) (sym given.sector_is) t)
+          → judged night name gone response image l ≡ called (standing (GaveUp name Tries) night) (Ok (next.GaveUp name Tries))
+      by (Err why) q no-refusal = absurd (refusal_counts why no-refusal)
+      by (Ok place) q no-refusal =
+          let given = lent image night.n night.tries size (number_of name) place q in
+          spent_up place h (subst (λ (x : ℕ). Spending name (leb 2 gone) night.bank image x response) (sym given.sector_is) t)
 
 -- ---- the refusals, in the paper's numbers
 
@@ -567,10 +538,10 @@ module _ (night : Night) (response : Option Response) (image before : List ℕ) 
           → next_number (by_stand night response image (length before) stand).next ≡ step_says image night (length before) stand
       by NotBegun e = refl
       by (At name gone) e = hand_says night name gone response image (length before)
-      by Finished e = over_says night 0 next.Finished image (length before) refl
-      by (GaveUp name why) e = over_says night (number_of name) (next.GaveUp name why) image (length before) refl
+      by Finished e = over_says night 0 next.Finished image (length before)
+      by (GaveUp name why) e = over_says night (number_of name) (next.GaveUp name why) image (length before)
 
-  pub unbegun_told : night.stand ≡ NotBegun → step_of night response image (length before) ≡ called night next.NotBegun
+  pub unbegun_told : night.stand ≡ NotBegun → step_of night response image (length before) ≡ called night (Ok next.NotBegun)
   unbegun_told e = ap (by_stand night response image (length before)) e
 
 module _ (image : List ℕ) (bank : Bank) (n tries : ℕ) (before : List ℕ) where
@@ -578,18 +549,18 @@ module _ (image : List ℕ) (bank : Bank) (n tries : ℕ) (before : List ℕ) wh
   unfolding start_of
   start_says = by (looked_of image n tries (length before) 0) refl
     where
-      by : (l : Looked) → l ≡ looked_of image n tries (length before) 0
+      by : (l : Result Place Refusal) → l ≡ looked_of image n tries (length before) 0
           → next_number (begun image bank n tries l).next ≡ lent_says image n tries (length before) 0
-      by (Refused why) e = says_refused image n tries (length before) 0 why e
-      by (Good sector count) e = says_good image n tries (length before) 0 sector count e
+      by (Err why) e = says_refused image n tries (length before) 0 why e
+      by (Ok place) e = says_good image n tries (length before) 0 place e
 
   -- a refused start: the buffer is as it was, and the record stands nowhere
   pub start_kept : (next_number (start_of image bank n tries (length before)).next ≡ 0 → ⊥)
       → Kept (night_of bank n tries NotBegun) image before (start_of image bank n tries (length before))
   unfolding start_of
-  start_kept = by (looked_of image n tries (length before) 0) refl
+  start_kept = by (looked_of image n tries (length before) 0)
     where
-      by : (l : Looked) → l ≡ looked_of image n tries (length before) 0 → (next_number (begun image bank n tries l).next ≡ 0 → ⊥)
+      by : (l : Result Place Refusal) → (next_number (begun image bank n tries l).next ≡ 0 → ⊥)
           → Kept (night_of bank n tries NotBegun) image before (begun image bank n tries l)
-      by (Refused why) e h = record { same = refl; buffer = refused_keeps image n tries (length before) 0 bank n before why e }
-      by (Good sector count) e h = absurd (h refl)
+      by (Err why) h = record { same = refl; buffer = refl }
+      by (Ok place) h = absurd (h refl)

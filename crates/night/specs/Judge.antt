@@ -2,6 +2,7 @@
 -- night or counts as done, a try is spent.
 -- Assumes nothing.
 use Rattle.std.specs.Prelude.{Bool, ◌&&◌, ◌||◌, cond, List, ℕ, eqb, Option, Some, None}
+use Rattle.std.specs.Option.{option_eq}
 use Rattle.commands.specs.declared.Command.{Command}
 use Rattle.commands.specs.declared.Command.TheVariants as command
 use Rattle.commands.specs.Command.{response_code}
@@ -16,20 +17,20 @@ use Rattle.night.specs.declared.name.Name.{Name}
 use Rattle.night.specs.declared.name.Name.TheVariants.{ModeStart, VersionInfo, BankInfo, WriteStart, Packet, WriteEnd, ModeEnd}
 use Rattle.night.specs.declared.record.Why.TheVariants.{WrongBank, Unknown}
 
--- the result in a command's own response; 0, which is none, in any other
-abbrev pub own_result : Command → Option Response → ℕ
-own_result command None = 0
-own_result command (Some (Plain other result)) = cond (eqb (response_code other) (response_code command)) result 0
-own_result command (Some (Error result)) = 0
-own_result command (Some (Target bank)) = 0
-own_result command (Some (Firmware id major minor revision)) = 0
-own_result command (Some (Written sector response write crc)) = 0
+-- the result in a command's own response; none in any other
+abbrev pub own_result : Command → Option Response → Option ℕ
+own_result command None = None
+own_result command (Some (Plain other result)) = cond (eqb (response_code other) (response_code command)) (Some result) None
+own_result command (Some (Error result)) = None
+own_result command (Some (Target bank)) = None
+own_result command (Some (Firmware id major minor revision)) = None
+own_result command (Some (Written sector response write crc)) = None
 
 -- 06 is awaited; "15 to a repeated" request comes to what is given for it
 unfoldable pub own_verdict : Command → Bool → Verdict → Option Response → Verdict
 own_verdict command repeated declined response =
-    cond (eqb (own_result command response) 0x06) Settled
-    (cond (repeated && eqb (own_result command response) 0x15) declined Spent)
+    cond (option_eq eqb (own_result command response) (Some 0x06)) Settled
+    (cond (repeated && option_eq eqb (own_result command response) (Some 0x15)) declined Spent)
 
 -- any ID and version
 abbrev pub version_verdict : Option Response → Verdict

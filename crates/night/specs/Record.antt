@@ -1,13 +1,16 @@
 -- How the record of a night moves, and what a call says in the paper's numbers (02 §4, "Each request is sent at most T times").
 -- Assumes nothing.
-use Rattle.std.specs.Prelude.{◌≡◌, cond, ℕ, ◌+◌, ltb}
+use Rattle.std.specs.Prelude.{◌≡◌, cond, ℕ, ◌+◌, ltb, Result, Ok, Err}
+use Rattle.sender.specs.declared.made.Refusal.{Refusal as Unmade}
+use Rattle.sender.specs.declared.made.Refusal.TheVariants as made
 use Rattle.night.specs.declared.judge.Verdict.{Verdict}
 use Rattle.night.specs.declared.judge.Verdict.TheVariants.{Settled, Spent, Stops}
 use Rattle.night.specs.declared.name.Name.{Name}
 use Rattle.night.specs.declared.name.Name.TheVariants.{ModeStart, VersionInfo, BankInfo, WriteStart, Packet, WriteEnd, ModeEnd}
 use Rattle.night.specs.declared.record.Next.{Next}
-use Rattle.night.specs.declared.record.Next.TheVariants.{BadN, BadLength, BadTries, NoPacket, NotBegun, Send, Finished, GaveUp}
 use Rattle.night.specs.declared.record.Night.{Night}
+use Rattle.night.specs.declared.record.Refusal.{Refusal}
+use Rattle.night.specs.declared.record.Refusal.TheVariants.{BadN, BadLength, BadTries, NoPacket}
 use Rattle.night.specs.declared.record.Stand.{Stand}
 use Rattle.night.specs.declared.record.Stand.TheVariants as stand
 use Rattle.night.specs.declared.record.Why.TheVariants.{Tries}
@@ -36,15 +39,21 @@ abbrev pub standing : Stand → Night → Night
 standing stand night = record { bank = night.bank; n = night.n; tries = night.tries; stand = stand }
 
 -- "3, 2 for lent lengths, 7 for T out of range, 8 for an image with no packet to send"; 0 of all else
-abbrev pub next_number : Next → ℕ
-next_number BadN = 3
-next_number BadLength = 2
-next_number BadTries = 7
-next_number NoPacket = 8
-next_number NotBegun = 0
-next_number (Send name size) = 0
-next_number Finished = 0
-next_number (GaveUp name why) = 0
+abbrev pub refusal_number : Refusal → ℕ
+refusal_number BadN = 3
+refusal_number BadLength = 2
+refusal_number BadTries = 7
+refusal_number NoPacket = 8
 
-abbrev pub IsNextNumber : Next → ℕ → Type 0
-IsNextNumber next r = r ≡ next_number next
+abbrev pub IsRefusalNumber : Refusal → ℕ → Type 0
+IsRefusalNumber why r = r ≡ refusal_number why
+
+abbrev pub next_number : Result Next Refusal → ℕ
+next_number (Err why) = refusal_number why
+next_number (Ok next) = 0
+
+-- what the sender refuses
+abbrev pub taken_over : Unmade → Refusal
+taken_over made.BadN = BadN
+taken_over made.BadLength = BadLength
+taken_over made.PastLast = NoPacket

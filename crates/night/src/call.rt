@@ -5,14 +5,14 @@ ghost use Rattle.sender.specs.Made.{room};
 ghost use Rattle.sender.specs.Packet.{image_good, packet_count};
 ghost use Rattle.night.specs.Call.{called, stands_at, over_of, IsGoesOn, IsAtHand, IsStep, IsStart, IsHeard, IsSilent};
 
-use crate::lent::Looked;
 use crate::name::Name;
-use crate::record::{Called, Next, Night, Stand};
+use crate::record::{Called, Next, Night, Refusal, Stand};
 use crate::{judge, lent, make, name, record};
 use layout::Bank;
 use response::read::Response;
+use sender::made::Place;
 
-fn told(night: Night, next: Next) -> Called
+fn told(night: Night, next: Result<Next, Refusal>) -> Called
     ensures { result ≡ called night next }
 {
     Called { night, next }
@@ -29,10 +29,10 @@ fn goes_on(night: Night, image: &[u8], buffer: &mut [u8]) -> Called
     let stand = night.stand;
     let bank = night.bank;
     match stand {
-        Stand::NotBegun => told(night, Next::NotBegun),
+        Stand::NotBegun => told(night, Ok(Next::NotBegun)),
         Stand::At { name, gone: _ } => told(night, make::make(name, bank, night.n, image, buffer)),
-        Stand::Finished => told(night, Next::Finished),
-        Stand::GaveUp { name, why } => told(night, Next::GaveUp { name, why }),
+        Stand::Finished => told(night, Ok(Next::Finished)),
+        Stand::GaveUp { name, why } => told(night, Ok(Next::GaveUp { name, why })),
     }
 }
 
@@ -41,11 +41,8 @@ fn over(night: Night, p: usize, end: Next, image: &[u8], room: usize) -> Called
     ensures { result ≡ over_of night p end image.now room }
 {
     match lent::look(image, night.n, night.tries, room, p) {
-        Looked::Refused(why) => told(night, why),
-        Looked::Good {
-            sector: _,
-            count: _,
-        } => told(night, end),
+        Err(why) => told(night, Err(why)),
+        Ok(_) => told(night, Ok(end)),
     }
 }
 
@@ -67,8 +64,8 @@ fn at_hand(
         buffer.len(),
         name::number(name),
     ) {
-        Looked::Refused(why) => told(night, why),
-        Looked::Good { sector, count } => {
+        Err(why) => told(night, Err(why)),
+        Ok(Place { sector, count }) => {
             let verdict = judge::judge(name, gone >= 2, bank, image, sector, response);
             let stand = record::moved(name, gone, night.tries, count, verdict);
             goes_on(Night { stand, ..night }, image, buffer)
@@ -81,7 +78,7 @@ fn step(night: Night, response: Option<Response>, image: &[u8], buffer: &mut [u8
 {
     let stand = night.stand;
     match stand {
-        Stand::NotBegun => told(night, Next::NotBegun),
+        Stand::NotBegun => told(night, Ok(Next::NotBegun)),
         Stand::At { name, gone } => at_hand(night, name, gone, response, image, buffer),
         Stand::Finished => over(night, 0, Next::Finished, image, buffer.len()),
         Stand::GaveUp { name, why } => over(
@@ -98,19 +95,16 @@ pub fn start(image: &[u8], bank: Bank, n: usize, tries: usize, buffer: &mut [u8]
     ensures { IsStart image.now bank n tries buffer.old result buffer.new }
 {
     match lent::look(image, n, tries, buffer.len(), 0) {
-        Looked::Refused(why) => told(
+        Err(why) => told(
             Night {
                 bank,
                 n,
                 tries,
                 stand: Stand::NotBegun,
             },
-            why,
+            Err(why),
         ),
-        Looked::Good {
-            sector: _,
-            count: _,
-        } => goes_on(
+        Ok(_) => goes_on(
             Night {
                 bank,
                 n,

@@ -18,8 +18,8 @@ pub(crate) enum Verdict {
     Stops(Why),
 }
 
-// The result in this command's own response; 0, which is none, in any other.
-fn own_result(command: Command, response: Option<Response>) -> u8
+// The result in this command's own response; none in any other.
+fn own_result(command: Command, response: Option<Response>) -> Option<u8>
     ensures { result ≡ own_result command response }
 {
     match response {
@@ -28,8 +28,8 @@ fn own_result(command: Command, response: Option<Response>) -> u8
                 command: other,
                 result,
             },
-        ) if commands::response_code(other) == commands::response_code(command) => result,
-        _ => 0,
+        ) if other == command => Some(result),
+        _ => None,
     }
 }
 
@@ -38,10 +38,10 @@ fn own(command: Command, repeated: bool, declined: Verdict, response: Option<Res
     ensures { result ≡ own_verdict command repeated declined response }
 {
     let result = own_result(command, response);
-    if result == 0x06 {
+    if result == Some(0x06) {
         return Verdict::Settled;
     }
-    if repeated & (result == 0x15) {
+    if repeated & (result == Some(0x15)) {
         return declined;
     }
     Verdict::Spent
@@ -62,7 +62,7 @@ fn bank(ours: Bank, response: Option<Response>) -> Verdict
 {
     match response {
         Some(Response::Target { bank: target }) => {
-            if layout::bank_number(target) == layout::bank_number(ours) {
+            if target == ours {
                 Verdict::Settled
             } else {
                 Verdict::Stops(Why::WrongBank)

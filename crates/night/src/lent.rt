@@ -2,16 +2,8 @@
 ghost use Rattle.std.specs.Prelude.{◌≡◌};
 ghost use Rattle.night.specs.Lent.{tries_good, room_given, looked_of};
 
-use crate::record::Next;
-use sender::made::ROOM;
-use sender::packet::Placed;
-
-#[derive(Clone, Copy)]
-pub(crate) enum Looked {
-    Refused(Next),
-    // The sector of the packet asked for, and how many packets the image has.
-    Good { sector: usize, count: usize },
-}
+use crate::record::Refusal;
+use sender::made::{Place, ROOM, Refusal as Unmade};
 
 fn tries_good(tries: usize) -> bool
     ensures { result ≡ tries_good tries }
@@ -20,25 +12,32 @@ fn tries_good(tries: usize) -> bool
 }
 
 // Behind N and the image come the buffer and the tries, and then what was found in the image.
-fn room_given(room: usize, tries: usize, found: Looked) -> Looked
+fn room_given(room: usize, tries: usize, found: Result<Place, Refusal>) -> Result<Place, Refusal>
     ensures { result ≡ room_given room tries found }
 {
     if room < ROOM {
-        return Looked::Refused(Next::BadLength);
+        return Err(Refusal::BadLength);
     }
     if !tries_good(tries) {
-        return Looked::Refused(Next::BadTries);
+        return Err(Refusal::BadTries);
     }
     found
 }
 
-pub(crate) fn look(image: &[u8], n: usize, tries: usize, room: usize, p: usize) -> Looked
+// Where packet p stands, unless something that is lent is refused.
+pub(crate) fn look(
+    image: &[u8],
+    n: usize,
+    tries: usize,
+    room: usize,
+    p: usize,
+) -> Result<Place, Refusal>
     ensures { result ≡ looked_of image.now n tries room p }
 {
     match sender::packet::place(image, n, p) {
-        Placed::BadN => Looked::Refused(Next::BadN),
-        Placed::BadLength => Looked::Refused(Next::BadLength),
-        Placed::PastLast => room_given(room, tries, Looked::Refused(Next::NoPacket)),
-        Placed::At { sector, count } => room_given(room, tries, Looked::Good { sector, count }),
+        Err(Unmade::BadN) => Err(Refusal::BadN),
+        Err(Unmade::BadLength) => Err(Refusal::BadLength),
+        Err(Unmade::PastLast) => room_given(room, tries, Err(Refusal::NoPacket)),
+        Ok(place) => room_given(room, tries, Ok(place)),
     }
 }

@@ -7,23 +7,25 @@ ghost use Rattle.night.specs.Name.{number_of};
 ghost use Rattle.night.specs.Call.{sent_by, IsMake};
 
 use crate::name::Name;
-use crate::record::Next;
+use crate::record::{Next, Refusal};
 use layout::Bank;
-use sender::made::Made;
+use sender::made::Refusal as Unmade;
 use sender::request::Request;
 
-fn sent(name: Name, made: Made) -> Next
+fn sent(name: Name, made: Result<usize, Unmade>) -> Result<Next, Refusal>
     ensures { result ≡ sent_by name made }
 {
-    match made {
-        Made::BadN => Next::BadN,
-        Made::BadLength => Next::BadLength,
-        Made::PastLast => Next::NoPacket,
-        Made::Frame(size) => Next::Send { name, size },
-    }
+    let size = made?;
+    Ok(Next::Send { name, size })
 }
 
-pub(crate) fn make(name: Name, bank: Bank, n: usize, image: &[u8], buffer: &mut [u8]) -> Next
+pub(crate) fn make(
+    name: Name,
+    bank: Bank,
+    n: usize,
+    image: &[u8],
+    buffer: &mut [u8],
+) -> Result<Next, Refusal>
     requires n_value { good_n n ≡ true }
     requires n_value_2 { image_good image.now n ≡ true }
     requires room_in_bounds { room ≤ length buffer.old }

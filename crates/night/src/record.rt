@@ -1,11 +1,12 @@
 // The record of a night, what comes of a call, and how the record moves.
 ghost use Rattle.std.specs.Prelude.{◌≡◌, ◌<◌};
 ghost use Rattle.night.specs.Name.{number_of};
-ghost use Rattle.night.specs.Record.{following_of, again_of, moved_of, IsNextNumber};
+ghost use Rattle.night.specs.Record.{taken_over, following_of, again_of, moved_of, IsRefusalNumber};
 
 use crate::judge::Verdict;
 use crate::name::Name;
 use layout::Bank;
+use sender::made::Refusal as Unmade;
 
 // Why a request was given up.
 #[derive(Clone, Copy)]
@@ -37,8 +38,9 @@ pub struct Night {
     pub stand: Stand,
 }
 
-#[derive(Clone, Copy)]
-pub enum Next {
+// Why a call is refused.
+#[derive(Clone, Copy, PartialEq, Eq)]
+pub enum Refusal {
     // No bank has so many sectors.
     BadN,
     // The image or the buffer has a wrong length.
@@ -47,6 +49,37 @@ pub enum Next {
     BadTries,
     // The image has no packet to send, or none of the number that the record stands at.
     NoPacket,
+}
+
+// The same, as the sender says it.
+impl From<Unmade> for Refusal {
+    ghost from_gives = { λ why r. r ≡ taken_over why };
+
+    fn from(why: Unmade) -> Refusal {
+        match why {
+            Unmade::BadN => Refusal::BadN,
+            Unmade::BadLength => Refusal::BadLength,
+            Unmade::PastLast => Refusal::NoPacket,
+        }
+    }
+}
+
+// The number of the paper.
+impl From<Refusal> for usize {
+    ghost from_gives = { IsRefusalNumber };
+
+    fn from(why: Refusal) -> usize {
+        match why {
+            Refusal::BadN => 3,
+            Refusal::BadLength => 2,
+            Refusal::BadTries => 7,
+            Refusal::NoPacket => 8,
+        }
+    }
+}
+
+#[derive(Clone, Copy)]
+pub enum Next {
     NotBegun,
     // This request goes out, so many bytes at the buffer's front.
     Send { name: Name, size: usize },
@@ -58,23 +91,7 @@ pub enum Next {
 #[derive(Clone, Copy)]
 pub struct Called {
     pub night: Night,
-    pub next: Next,
-}
-
-// The paper's number of a refusal; 0 of all else.
-pub fn next_number(next: Next) -> u8
-    ensures { IsNextNumber next result }
-{
-    match next {
-        Next::BadN => 3,
-        Next::BadLength => 2,
-        Next::BadTries => 7,
-        Next::NoPacket => 8,
-        Next::NotBegun => 0,
-        Next::Send { name: _, size: _ } => 0,
-        Next::Finished => 0,
-        Next::GaveUp { name: _, why: _ } => 0,
-    }
+    pub next: Result<Next, Refusal>,
 }
 
 fn first(name: Name) -> Stand

@@ -1,73 +1,40 @@
 // The hex file, read into the image that is sent.
-ghost use Rattle.std.specs.Prelude.{◌≤◌};
-
-use crate::{refusals, talk};
-use hex_text::read::Answer;
-use layout::{Bank, SECTOR};
-use script::input;
-use script::input::Input;
+use crate::talk;
+use hex_text::fault::Refusal;
+use hex_text::read::ReadError;
+use layout::{Bank, MOST, SECTOR};
+use script::{call, input, say};
 use std::env::Env;
 use std::fs::Files;
 
 const LONGEST_TEXT: usize = 1_048_576;
 
-const LONGEST_IMAGE: usize = 251_392;
+fn say_refusal(rt: &impl Env, refusal: Refusal) {
+    let number = u8::from(refusal.kind);
+    say::refused_place_all(rt, usize::from(number), refusal.line, refusal.byte);
+}
 
-fn read_into(
+// The image has as much of its room as N says; where no bank has so many sectors that is not looked at.
+fn read_text(
     rt: &(impl Env + std::io::Input),
     hex_text: &[u8],
     bank: Bank,
     n: usize,
     tries: usize,
-    image: &mut [u8],
 ) {
+    let mut room = [0u8; MOST * SECTOR];
+    let Some(image) = room.get_mut(..n.min(MOST) * SECTOR) else {
+        return;
+    };
     let answer = hex_text::read::read(hex_text, bank, n, image);
     match answer {
-        Answer::Refused(refusal) => refusals::line(rt, refusal),
-        Answer::Accepted => talk::run(rt, image, bank, n, tries),
-        _ => refusals::number(rt, hex_text::read::answer_number(answer)),
+        Err(ReadError::Line(refusal)) => say_refusal(rt, refusal),
+        Ok(()) => talk::run(rt, image, bank, n, tries),
+        _ => say::refused_all(rt, hex_text::read::answer_number(answer)),
     }
 }
 
-// The image has as much of the room as N says; where no bank has so many sectors that is not looked at.
-fn read_in(
-    rt: &(impl Env + std::io::Input),
-    hex_text: &[u8],
-    bank: Bank,
-    n: usize,
-    tries: usize,
-    room: &mut [u8],
-)
-    requires { n ≤ 999999 }
-{
-    let length = io::count((SECTOR * n) as isize, room);
-    read_into(rt, hex_text, bank, n, tries, &mut room[..length]);
-}
-
-fn read_text(rt: &(impl Env + std::io::Input), hex_text: &[u8], bank: Bank, n: usize, tries: usize)
-    requires { n ≤ 999999 }
-{
-    let mut room = [0u8; LONGEST_IMAGE];
-    read_in(rt, hex_text, bank, n, tries, &mut room);
-}
-
-fn read_input(
-    rt: &(impl Env + std::io::Input),
-    room: &[u8],
-    size: usize,
-    bank: Bank,
-    n: usize,
-    tries: usize,
-)
-    requires { n ≤ 999999 }
-{
-    if size > LONGEST_TEXT {
-        return refusals::too_long(rt);
-    }
-    let end = io::count(size as isize, room);
-    read_text(rt, &room[..end], bank, n, tries);
-}
-
+// A file that cannot be read was named when that was told: it may be a word out of its place.
 fn send_from(
     rt: &(impl Env + Files + std::io::Input),
     name: &[u8],
@@ -75,12 +42,11 @@ fn send_from(
     bank: Bank,
     n: usize,
     tries: usize,
-)
-    requires { n ≤ 999999 }
-{
+) {
     match input::file(rt, name, room) {
-        Input::Unread => refusals::no_file(),
-        Input::Read(size) => read_input(rt, room, size, bank, n, tries),
+        Some(size) if size > LONGEST_TEXT => say::words_refused(rt, b"too long"),
+        Some(size) => read_text(rt, &room[..size], bank, n, tries),
+        None => call::say_usage(crate::USAGE),
     }
 }
 
@@ -91,9 +57,7 @@ pub(crate) fn send(
     bank: Bank,
     n: usize,
     tries: usize,
-)
-    requires { n ≤ 999999 }
-{
+) {
     let mut room = [0u8; LONGEST_TEXT + 1];
     send_from(rt, name, &mut room, bank, n, tries);
 }

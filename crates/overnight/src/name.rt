@@ -1,4 +1,4 @@
-// The name of a request, for either output.
+// The name of a request, for either output; written by hand, as `script::say` has it.
 use frame::read::Frame;
 use night::name::Name;
 use script::call;
@@ -31,7 +31,7 @@ fn sector(buffer: &[u8]) -> u16 {
 
 fn hex(rt: &impl Env, to: i32, number: u16) {
     let mut two = [0u8; 2];
-    buffer::number::put_number2(&mut two, 0, number);
+    buffer::number::put_number(&mut two, 0, number);
     let four = [
         digits::digit(two[0] / 16),
         digits::digit(two[0]),

@@ -1,7 +1,7 @@
 // What comes next in a night: a request, or the end.
-use crate::{name, refusals};
+use crate::name;
 use night::name::Name;
-use night::record::{Next, Night, Stand, Why};
+use night::record::{Next, Night, Refusal, Stand, Why};
 use script::call::STDERR_FILENO;
 use script::say::STDOUT_FILENO;
 use script::{call, say};
@@ -26,10 +26,9 @@ fn progress(rt: &impl Env, night: Night, buffer: &[u8]) {
 
 // The request is out before anything is said of it.
 fn send(rt: &impl Env, night: Night, buffer: &[u8], size: usize) {
-    if size <= buffer.len() {
-        let end = io::count(size as isize, buffer);
+    if let Some(frame) = buffer.get(..size) {
         say::text(rt, b"send ");
-        say::hex(rt, &buffer[..end]);
+        say::hex(rt, frame);
         say::end(rt);
         progress(rt, night, buffer);
     }
@@ -50,20 +49,17 @@ fn gave_up(rt: &impl Env, name: Name, why: Why, buffer: &[u8]) {
     call::refused(rt);
 }
 
-pub(crate) fn say(rt: &impl Env, night: Night, next: Next, buffer: &[u8]) {
+pub(crate) fn say(rt: &impl Env, night: Night, next: Result<Next, Refusal>, buffer: &[u8]) {
     match next {
-        Next::Send { name: _, size } => send(rt, night, buffer, size),
-        Next::Finished => say::text(rt, b"finished\n"),
-        Next::GaveUp { name, why } => gave_up(rt, name, why, buffer),
-        _ => refusals::number(rt, night::record::next_number(next) as usize),
+        Ok(Next::NotBegun) => say::refused_all(rt, 0),
+        Ok(Next::Send { name: _, size }) => send(rt, night, buffer, size),
+        Ok(Next::Finished) => say::text(rt, b"finished\n"),
+        Ok(Next::GaveUp { name, why }) => gave_up(rt, name, why, buffer),
+        Err(why) => say::refused_all(rt, usize::from(why)),
     }
 }
 
 // Whether an event is awaited.
-pub(crate) fn goes_on(next: Next) -> bool {
-    if let Next::Send { name: _, size: _ } = next {
-        true
-    } else {
-        false
-    }
+pub(crate) fn goes_on(next: Result<Next, Refusal>) -> bool {
+    matches!(next, Ok(Next::Send { .. }))
 }

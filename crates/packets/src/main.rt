@@ -4,24 +4,15 @@
 
 use frame::read::{Footer, Frame};
 use hex_text::fault::Refusal;
-use hex_text::read::Answer;
+use hex_text::read::ReadError;
 use layout::{Bank, SECTOR};
-use script::input::Input;
 use script::{call, input, say};
-use sender::made::{Made, ROOM};
-use sender::packet::Tally;
+use sender::made::ROOM;
 use std::env::Env;
 
 const N: usize = 32;
 
 const LONGEST_TEXT: usize = 49_152;
-
-// 32 is a number of sectors, and the image has as many: this is never said.
-fn say_refused(rt: &impl Env, number: usize) {
-    say::refused(rt, number);
-    say::end(rt);
-    call::refused(rt);
-}
 
 fn say_listed(rt: &impl Env, sector: u16, footer: Footer) {
     say::pair(rt, sector);
@@ -38,26 +29,23 @@ fn say_packet(rt: &impl Env, packet: &[u8]) {
 }
 
 fn say_made(rt: &impl Env, buffer: &[u8], size: usize) {
-    if size <= buffer.len() {
-        let n = io::count(size as isize, buffer);
-        say_packet(rt, &buffer[..n]);
+    if let Some(packet) = buffer.get(..size) {
+        say_packet(rt, packet);
     }
 }
 
+// 32 is a number of sectors, and the image has as many: no refusal by its number is ever said.
 fn list_one(rt: &impl Env, image: &[u8], p: usize) {
     let mut buffer = [0u8; ROOM];
-    let made = sender::packet::packet(image, N, p, &mut buffer);
-    match made {
-        Made::Frame(size) => say_made(rt, &buffer, size),
-        _ => say_refused(rt, sender::made::made_number(made)),
+    match sender::packet::packet(image, N, p, &mut buffer) {
+        Ok(size) => say_made(rt, &buffer, size),
+        Err(why) => say::refused_all(rt, usize::from(why)),
     }
 }
 
 fn list_all(rt: &impl Env, image: &[u8], count: usize) {
-    let mut p = 0;
-    while p < count {
+    for p in 0..count {
         list_one(rt, image, p);
-        p += 1;
     }
     say::text(rt, b"sent ");
     say::decimal(rt, count);
@@ -65,50 +53,38 @@ fn list_all(rt: &impl Env, image: &[u8], count: usize) {
 }
 
 fn list(rt: &impl Env, image: &[u8]) {
-    let tally = sender::packet::count(image, N);
-    match tally {
-        Tally::Packets(count) => list_all(rt, image, count),
-        _ => say_refused(rt, sender::packet::tally_number(tally)),
+    match sender::packet::count(image, N) {
+        Ok(count) => list_all(rt, image, count),
+        Err(why) => say::refused_all(rt, usize::from(why)),
     }
 }
 
 fn say_refusal(rt: &impl Env, refusal: Refusal) {
-    let kind = refusal.kind;
-    let number = hex_text::fault::kind_number(kind) as usize;
-    say::refused_place(rt, number, refusal.line, refusal.byte);
-    say::end(rt);
-    call::refused(rt);
+    say::refused_place_all(
+        rt,
+        usize::from(u8::from(refusal.kind)),
+        refusal.line,
+        refusal.byte,
+    );
 }
 
 fn answer(rt: &impl Env, text: &[u8]) {
     let mut image = [0u8; SECTOR * N];
     let answer = hex_text::read::read(text, Bank::Zero, N, &mut image);
     match answer {
-        Answer::Refused(refusal) => say_refusal(rt, refusal),
-        Answer::Accepted => list(rt, &image),
-        _ => say_refused(rt, hex_text::read::answer_number(answer)),
+        Err(ReadError::Line(refusal)) => say_refusal(rt, refusal),
+        Ok(()) => list(rt, &image),
+        _ => say::refused_all(rt, hex_text::read::answer_number(answer)),
     }
-}
-
-fn say_too_long(rt: &impl Env) {
-    say::text(rt, b"too long\n");
-    call::refused(rt);
-}
-
-fn answer_read(rt: &impl Env, text: &[u8], size: usize) {
-    if size > LONGEST_TEXT {
-        return say_too_long(rt);
-    }
-    let end = io::count(size as isize, text);
-    answer(rt, &text[..end]);
 }
 
 // The room is a byte larger than the longest text, so that a longer one is seen to be so.
 fn list_input(rt: &(impl Env + std::io::Input)) {
-    let mut text = [0u8; LONGEST_TEXT + 1];
-    match input::all(rt, &mut text) {
-        Input::Unread => (),
-        Input::Read(size) => answer_read(rt, &text, size),
+    let mut room = [0u8; LONGEST_TEXT + 1];
+    match input::all(rt, &mut room) {
+        Some(size) if size > LONGEST_TEXT => say::words_refused(rt, b"too long"),
+        Some(size) => answer(rt, &room[..size]),
+        None => (),
     }
 }
 

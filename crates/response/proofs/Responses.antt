@@ -1,6 +1,6 @@
 -- Each way out of the reading of a response.
 -- Assumes nothing.
-use Rattle.std.specs.Prelude.{Some, None, Option, slice_get}
+use Rattle.std.proofs.Common.{Some, None, Option, slice_get}
 use mathlib.Core.Path.{◌≡◌, refl, sym, ap, ◌∙◌}
 use mathlib.Core.Bool.{true, false}
 use mathlib.Core.List.{List, [], ◌∷◌}
@@ -13,7 +13,6 @@ use Rattle.buffer.specs.Number.{byte_at, number_at}
 use Rattle.buffer.proofs.Bools.{split, no_way}
 use Rattle.std.proofs.lemmas.Option.{get_or_from_slice_get}
 use Rattle.commands.specs.Command.{error_code, added_bytes, answered_by}
-use Rattle.commands.specs.declared.Coded.TheVariants.{Unknown, Is}
 use Rattle.commands.specs.declared.Command.{Command}
 use Rattle.commands.specs.declared.Command.TheVariants.{ModeStart, BankInfo, VersionInfo, WriteStart, WriteEnd, ModeEnd}
 use Rattle.frame.specs.Read.{read_of, parameters_in, data_in}
@@ -116,11 +115,11 @@ module _ (code : ℕ) (parameters : List ℕ) where
   unfolding control_of
   by_error e = rw (eq-eqb code error_code e)
 
-  pub no_response : (code ≡ error_code → ⊥) → Unknown ≡ answered_by code → None ≡ control_of code parameters
+  pub no_response : (code ≡ error_code → ⊥) → None ≡ answered_by code → None ≡ control_of code parameters
   unfolding control_of
   no_response n k = rw (ne_eqb code error_code n, ← k)
 
-  pub by_command : (command : Command) → (code ≡ error_code → ⊥) → Is command ≡ answered_by code → own_of command parameters ≡ control_of code parameters
+  pub by_command : (command : Command) → (code ≡ error_code → ⊥) → Some command ≡ answered_by code → own_of command parameters ≡ control_of code parameters
   unfolding control_of
   by_command command n k = rw (ne_eqb code error_code n, ← k)
 

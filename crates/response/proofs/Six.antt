@@ -1,6 +1,6 @@
 -- Number 6 is said exactly when one of the listed causes holds, and else the result that stands first.
 -- Assumes nothing.
-use Rattle.std.specs.Prelude.{Option, Some, None, option_map}
+use Rattle.std.proofs.Common.{Option, Some, None, option_map}
 use mathlib.Core.Path.{◌≡◌, refl, sym, ap, ◌∙◌}
 use mathlib.Core.Bool.{Bool, true, false, not, ◌&&◌, ◌||◌, cond, or-false}
 use mathlib.Core.List.{List}
@@ -12,8 +12,6 @@ use borrow.Author.Tests.{eqb-true, eqb-false, lt-ltb, le-ltb}
 use Rattle.buffer.specs.Number.{byte_at, number_at}
 use Rattle.buffer.proofs.Bools.{and_false, split}
 use Rattle.commands.specs.Command.{response_code, error_code, answered_by}
-use Rattle.commands.specs.declared.Coded.{Coded}
-use Rattle.commands.specs.declared.Coded.TheVariants.{Unknown, Is}
 use Rattle.commands.specs.declared.Command.{Command}
 use Rattle.commands.specs.declared.Command.TheVariants.{ModeStart, BankInfo, VersionInfo, WriteStart, WriteEnd, ModeEnd}
 use Rattle.commands.proofs.Codes.{error_unknown, response_back}
@@ -118,18 +116,18 @@ module _ (parameters : List ℕ) where
   unfolding control_of
   control_six code = by (eqb code error_code) (answered_by code) refl refl
     where
-      by : (t : Bool) (coded : Coded) → eqb code error_code ≡ t → answered_by code ≡ coded
+      by : (t : Bool) (coded : Option Command) → eqb code error_code ≡ t → answered_by code ≡ coded
           → unreadable (cond t (error_of parameters) (answer_of coded parameters))
           ≡ ((not t && unknown coded) || not (may_carry t (byte_at parameters 0))
           || not (eqb (length parameters) (added_by coded (byte_at parameters 0) + 1))
           || (eqb code (response_code BankInfo) && (eqb (byte_at parameters 0) 0x06 && ltb 1 (byte_at parameters 1))))
       by true coded t a =
           let e : code ≡ error_code = eqb-true code error_code t in
-          let none : coded ≡ Unknown = sym a ∙ ap answered_by e ∙ error_unknown in
+          let none : coded ≡ None = sym a ∙ ap answered_by e ∙ error_unknown in
           let other : eqb code (response_code BankInfo) ≡ false = ap (λ (x : ℕ). eqb x (response_code BankInfo)) e in
           rw (none, other) (error_six ∙ sym (or-false _))
-      by false Unknown t a = refl
-      by false (Is command) t a =
+      by false None t a = refl
+      by false (Some command) t a =
           own_six command
           ∙ ap
           (λ (x : ℕ). not (may_carry false (byte_at parameters 0)) || not (eqb (length parameters) (added_of command (byte_at parameters 0) + 1))
@@ -223,10 +221,10 @@ module _ (parameters : List ℕ) where
   accepted_says WriteEnd e = ap result (sym e)
   accepted_says ModeEnd e = ap result (sym e)
 
-  answer_says : (coded : Coded) → Says (byte_at parameters 0) (answer_of coded parameters)
+  answer_says : (coded : Option Command) → Says (byte_at parameters 0) (answer_of coded parameters)
   unfolding own_of
-  answer_says Unknown = refl
-  answer_says (Is command) =
+  answer_says None = refl
+  answer_says (Some command) =
       split (Says (byte_at parameters 0)) (may_carry false (byte_at parameters 0))
       (λ _. split (Says (byte_at parameters 0)) (eqb (length parameters) (added_of command (byte_at parameters 0) + 1))
       (λ _. split (Says (byte_at parameters 0)) (eqb (byte_at parameters 0) 0x06)

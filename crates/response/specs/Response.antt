@@ -3,8 +3,6 @@
 use Rattle.std.specs.Prelude.{Bool, true, false, not, ◌&&◌, ◌||◌, cond, List, ℕ, ◌+◌, eqb, length, Option, Some, None, option_map}
 use Rattle.buffer.specs.Number.{byte_at, number_at}
 use Rattle.commands.specs.Command.{error_code, added_bytes, answered_by}
-use Rattle.commands.specs.declared.Coded.{Coded}
-use Rattle.commands.specs.declared.Coded.TheVariants.{Unknown, Is}
 use Rattle.commands.specs.declared.Command.{Command}
 use Rattle.commands.specs.declared.Command.TheVariants.{ModeStart, BankInfo, VersionInfo, WriteStart, WriteEnd, ModeEnd}
 use Rattle.frame.specs.Read.{read_of, parameters_in, data_in}
@@ -63,9 +61,9 @@ error_of parameters =
     cond (may_carry true (byte_at parameters 0)) (cond (eqb (length parameters) 1) (Some (Error (byte_at parameters 0))) None) None
 
 -- a code that is a response
-abbrev pub answer_of : Coded → List ℕ → Option Response
-answer_of Unknown parameters = None
-answer_of (Is command) parameters = own_of command parameters
+abbrev pub answer_of : Option Command → List ℕ → Option Response
+answer_of None parameters = None
+answer_of (Some command) parameters = own_of command parameters
 
 unfoldable pub control_of : ℕ → List ℕ → Option Response
 control_of code parameters = cond (eqb code error_code) (error_of parameters) (answer_of (answered_by code) parameters)

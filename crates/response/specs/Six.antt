@@ -3,8 +3,7 @@
 use Rattle.std.specs.Prelude.{Bool, true, false, not, ◌&&◌, ◌||◌, List, ℕ, ◌+◌, eqb, ltb, length, Option, Some, None}
 use Rattle.buffer.specs.Number.{byte_at, number_at}
 use Rattle.commands.specs.Command.{response_code, error_code, answered_by}
-use Rattle.commands.specs.declared.Coded.{Coded}
-use Rattle.commands.specs.declared.Coded.TheVariants.{Unknown, Is}
+use Rattle.commands.specs.declared.Command.{Command}
 use Rattle.commands.specs.declared.Command.TheVariants.{BankInfo}
 use Rattle.frame.specs.Read.{read_of, parameters_in, data_in}
 use Rattle.frame.specs.declared.read.Footer.{Footer}
@@ -22,9 +21,9 @@ frame_faulty (Some (Control code n)) = false
 frame_faulty (Some (Write sector m footer)) = false
 
 -- "the code isn't a response": neither a command's nor E0
-abbrev pub unknown : Coded → Bool
-unknown Unknown = true
-unknown (Is command) = false
+abbrev pub unknown : Option Command → Bool
+unknown None = true
+unknown (Some command) = false
 
 abbrev pub no_response : Option Frame → Bool
 no_response None = false
@@ -44,9 +43,9 @@ parameter_error_elsewhere d (Some (Control code n)) = not (eqb code error_code) 
 parameter_error_elsewhere d (Some (Write sector m footer)) = eqb (byte_at (data_in d) 0) 0x05 || eqb (byte_at (data_in d) 1) 0x05
 
 -- "wrong for the code and result"
-abbrev pub added_by : Coded → ℕ → ℕ
-added_by Unknown result = 0
-added_by (Is command) result = added_of command result
+abbrev pub added_by : Option Command → ℕ → ℕ
+added_by None result = 0
+added_by (Some command) result = added_of command result
 
 abbrev pub length_wrong : List ℕ → Option Frame → Bool
 length_wrong d None = false

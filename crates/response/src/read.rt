@@ -4,7 +4,7 @@ ghost use Rattle.response.specs.Response.{in_table9, may_carry, added_of, bank_n
 ghost use Rattle.response.specs.Response.{repeats_of, stored_of, crc_fits, write_of};
 ghost use Rattle.response.specs.Said.{IsResponseNumber, IsResponse};
 
-use commands::{Coded, Command};
+use commands::Command;
 use frame::read::{Footer, Frame};
 use layout::Bank;
 
@@ -77,14 +77,11 @@ fn added(command: Command, res: u8) -> usize
 }
 
 // The bank that a number names.
+#[tactic(auto, unfolding(crate::specs::Response::bank_named))]
 fn named(number: u8) -> Option<Bank>
     ensures { result ≡ bank_named number }
 {
-    match number {
-        0 => Some(Bank::Zero),
-        1 => Some(Bank::One),
-        _ => None,
-    }
+    Bank::try_from(number).ok()
 }
 
 // What stands behind the result 06, there being as many bytes as it asks for.
@@ -97,10 +94,10 @@ fn accepted(command: Command, parameters: &[u8]) -> Option<Response>
             bank: named(parameters[1])?,
         },
         Command::VersionInfo => Response::Firmware {
-            id: buffer::number::number2(parameters, 1),
+            id: buffer::number::number(parameters, 1),
             major: parameters[3],
             minor: parameters[4],
-            revision: buffer::number::number4(parameters, 5),
+            revision: buffer::number::number(parameters, 5),
         },
         Command::ModeStart | Command::WriteStart | Command::WriteEnd | Command::ModeEnd => {
             Response::Plain {
@@ -150,8 +147,8 @@ fn control(code: u8, parameters: &[u8]) -> Option<Response>
         return error(parameters);
     }
     match commands::answered(code) {
-        Coded::Unknown => None,
-        Coded::Is(command) => own(command, parameters),
+        None => None,
+        Some(command) => own(command, parameters),
     }
 }
 
@@ -185,7 +182,7 @@ fn written(sector: u16, bytes: &[u8]) -> Option<Response>
     }
     let response = bytes[0];
     let write = bytes[1];
-    let crc = buffer::number::number4(bytes, 2);
+    let crc = buffer::number::number(bytes, 2);
     if !may_carry(false, response) {
         return None;
     }

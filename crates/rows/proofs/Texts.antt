@@ -6,10 +6,10 @@ use borrow.Author.Tests.{lt-leb}
 use Rattle.buffer.proofs.Bools.{no_way}
 use Rattle.buffer.proofs.Places.{sets_next, sets_front}
 use Rattle.buffer.specs.Place.{front_of}
+use Rattle.std.specs.Prelude.{Some, None}
 use Rattle.layout.specs.declared.Bank.{Bank}
 use Rattle.layout.specs.Layout.{sector_size, most_sectors, whole_length, start_of}
 use Rattle.layout.proofs.Layouts.{start_small, whole_sectors, whole_good, good_high}
-use Rattle.rows.specs.declared.text.Written.TheVariants.{BadLength, Text}
 use Rattle.rows.specs.Record.{beside_data}
 use Rattle.rows.specs.Text.{all_rows, end_line, text_of, length_of, written_of, length_says, write_says, IsLength, IsWrite}
 use Rattle.rows.specs.Places.{ImageFits}
@@ -51,39 +51,39 @@ module _ (image : List ℕ) (bank : Bank) {base : ℕ} (start : base ≡ start_o
 
 module _ (image : List ℕ) (bank : Bank) where
   -- how long it is
-  pub length_bad : whole_length (length image) ≡ false → IsLength image bank BadLength
+  pub length_bad : whole_length (length image) ≡ false → IsLength image bank None
   unfolding length_of length_says
   length_bad w = record { answered = rw w; says = rw w }
 
-  pub length_good : whole_length (length image) ≡ true → {size : ℕ} → size ≡ length (text_of image bank) → IsLength image bank (Text size)
+  pub length_good : whole_length (length image) ≡ true → {size : ℕ} → size ≡ length (text_of image bank) → IsLength image bank (Some size)
   unfolding length_of length_says
   length_good w e = record { answered = rw (w, e); says = rw (w, e) }
 
-  pub no_length : BadLength ≡ length_of image bank → whole_length (length image) ≡ false
+  pub no_length : None ≡ length_of image bank → whole_length (length image) ≡ false
   unfolding length_of
   no_length e = by (whole_length (length image)) e
     where
-      by : (w : Bool) → BadLength ≡ cond w (Text (length (text_of image bank))) BadLength → w ≡ false
+      by : (w : Bool) → None ≡ cond w (Some (length (text_of image bank))) None → w ≡ false
       by true q = cc
       by false q = refl
 
-  pub some_length : {size : ℕ} → Text size ≡ length_of image bank → (whole_length (length image) ≡ true) × (size ≡ length (text_of image bank))
+  pub some_length : {size : ℕ} → Some size ≡ length_of image bank → (whole_length (length image) ≡ true) × (size ≡ length (text_of image bank))
   unfolding length_of
   some_length {size} e = by (whole_length (length image)) refl e
     where
-      by : (w : Bool) → whole_length (length image) ≡ w → Text size ≡ cond w (Text (length (text_of image bank))) BadLength
+      by : (w : Bool) → whole_length (length image) ≡ w → Some size ≡ cond w (Some (length (text_of image bank))) None
           → (whole_length (length image) ≡ true) × (size ≡ length (text_of image bank))
       by true w q = (w, cc)
       by false w q = no_way (cc)
 
   -- and whether it was written
   module _ (text : List ℕ) where
-    pub write-bad : whole_length (length image) ≡ false → IsWrite image bank text BadLength text
+    pub write-bad : whole_length (length image) ≡ false → IsWrite image bank text None text
     unfolding written_of write_says
     write-bad w = record { answered = rw w; says = rw w; stands = rw w }
 
     module _ (w : whole_length (length image) ≡ true) where
-      pub write-short : length text < length (text_of image bank) → IsWrite image bank text BadLength text
+      pub write-short : length text < length (text_of image bank) → IsWrite image bank text None text
       unfolding written_of write_says
       write-short h =
           let s = lt-leb (length (text_of image bank)) (length text) h in
@@ -91,7 +91,7 @@ module _ (image : List ℕ) (bank : Bank) where
 
       pub write_good :
           length (text_of image bank) ≤ length text → {size : ℕ} {after : List ℕ} → size ≡ length (text_of image bank)
-          → after ≡ front_of text (text_of image bank) → IsWrite image bank text (Text size) after
+          → after ≡ front_of text (text_of image bank) → IsWrite image bank text (Some size) after
       unfolding written_of write_says
       write_good h l e =
           let s = le-leb (length (text_of image bank)) (length text) h in

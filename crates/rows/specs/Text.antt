@@ -1,14 +1,12 @@
 -- The hex text of an image (02 §2), and what comes back of it.
 -- Assumes nothing.
-use Rattle.std.specs.Prelude.{◌≡◌, ℕ, zero, suc, ◌+◌, ◌*◌, ◌/◌, cond, ◌&&◌, List, [], ◌++◌, length, take, drop, ◌==◌, nat_le}
+use Rattle.std.specs.Prelude.{◌≡◌, ℕ, zero, suc, ◌+◌, ◌*◌, ◌/◌, cond, ◌&&◌, List, [], ◌++◌, length, take, drop, ◌==◌, nat_le, Option, Some, None}
 use Rattle.buffer.specs.Compare.{blank_of}
 use Rattle.buffer.specs.Number.{bytes_of}
 use Rattle.buffer.specs.Place.{front_of}
 use Rattle.layout.specs.declared.Bank.{Bank}
 use Rattle.layout.specs.Layout.{whole_length, start_of}
 use Rattle.layout.specs.Said.{Said, number, value, code}
-use Rattle.rows.specs.declared.text.Written.{Written}
-use Rattle.rows.specs.declared.text.Written.TheVariants.{BadLength, Text}
 use Rattle.rows.specs.Record.{record_line}
 
 -- ROWS "of 16 bytes, aligned from the bank's start", which has the address `base`: row k, its address and that address's upper half
@@ -68,24 +66,24 @@ abbrev pub longest_text : ℕ
 longest_text = 707121
 
 -- WHAT COMES BACK: 2 "for image length or an output buffer too short for the whole text", and else how long the text is
-unfoldable pub length_of : List ℕ → Bank → Written
-length_of image bank = cond (whole_length (length image)) (Text (length (text_of image bank))) BadLength
+unfoldable pub length_of : List ℕ → Bank → Option ℕ
+length_of image bank = cond (whole_length (length image)) (Some (length (text_of image bank))) None
 
-unfoldable pub written_of : List ℕ → Bank → ℕ → Written
+unfoldable pub written_of : List ℕ → Bank → ℕ → Option ℕ
 written_of image bank room =
-    cond (whole_length (length image) && nat_le (length (text_of image bank)) room) (Text (length (text_of image bank))) BadLength
+    cond (whole_length (length image) && nat_le (length (text_of image bank)) room) (Some (length (text_of image bank))) None
 
 -- "nothing written" then; else the text at the front, and the rest keeps its bytes
-abbrev pub buffer_after : Written → List ℕ → List ℕ → List ℕ
-buffer_after BadLength before text = before
-buffer_after (Text size) before text = front_of before text
+abbrev pub buffer_after : Option ℕ → List ℕ → List ℕ → List ℕ
+buffer_after None before text = before
+buffer_after (Some size) before text = front_of before text
 
 -- in the paper's numbers
-abbrev pub written_said : Written → Said
-written_said BadLength = number 2
-written_said (Text size) = value size
+abbrev pub written_said : Option ℕ → Said
+written_said None = number 2
+written_said (Some size) = value size
 
-abbrev pub IsWrittenNumber : Written → ℕ → Type 0
+abbrev pub IsWrittenNumber : Option ℕ → ℕ → Type 0
 IsWrittenNumber written r = r ≡ code (written_said written)
 
 unfoldable pub length_says : List ℕ → Bank → Said
@@ -95,11 +93,11 @@ unfoldable pub write_says : List ℕ → Bank → ℕ → Said
 write_says image bank room =
     cond (whole_length (length image)) (cond (nat_le (length (text_of image bank)) room) (value (length (text_of image bank))) (number 2)) (number 2)
 
-pub record IsLength (image : List ℕ) (bank : Bank) (r : Written) : Type 0 where
+pub record IsLength (image : List ℕ) (bank : Bank) (r : Option ℕ) : Type 0 where
   pub answered : r ≡ length_of image bank
   pub says : written_said r ≡ length_says image bank
 
-pub record IsWrite (image : List ℕ) (bank : Bank) (before : List ℕ) (r : Written) (after : List ℕ) : Type 0 where
+pub record IsWrite (image : List ℕ) (bank : Bank) (before : List ℕ) (r : Option ℕ) (after : List ℕ) : Type 0 where
   pub answered : r ≡ written_of image bank (length before)
   pub says : written_said r ≡ write_says image bank (length before)
   pub stands : after ≡ buffer_after (written_of image bank (length before)) before (text_of image bank)

@@ -20,15 +20,10 @@ fn spell(bytes: &[u8], sum: u8, text: &mut [u8], at: usize) -> u8
     ensures { Spelt bytes.now sum text.old at result text.new }
 {
     let mut added = sum;
-    let mut p = at;
-    let mut j = 0;
-    while j < bytes.len() {
-        let byte = bytes[j];
-        text[p] = digits::digit(byte / 16);
-        text[p + 1] = digits::digit(byte);
-        added = std::num::wrapping_add_u8(added, byte);
-        p += 2;
-        j += 1;
+    for (j, byte) in bytes.iter().enumerate() {
+        text[at + 2 * j] = digits::digit(*byte / 16);
+        text[at + 2 * j + 1] = digits::digit(*byte);
+        added = added.wrapping_add(*byte);
     }
     added
 }
@@ -49,7 +44,7 @@ pub(crate) fn put_line(text: &mut [u8], at: usize, address: usize, kind: u8, byt
     let begun = spell(&head, 0, text, at + 1);
     let sum = spell(bytes, begun, text, at + 9);
     let end = at + 9 + 2 * n;
-    let checksum = [std::num::wrapping_sub_u8(0, sum)];
+    let checksum = [0u8.wrapping_sub(sum)];
     spell(&checksum, 0, text, end);
     text[end + 2] = b'\r';
     text[end + 3] = b'\n';

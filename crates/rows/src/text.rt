@@ -6,7 +6,7 @@ ghost use Rattle.rows.specs.Text.{upper_text, row_text, rows_text, all_rows, tex
 ghost use Rattle.rows.specs.Places.{RowFits, ImageFits, Room, reached_at};
 
 use crate::record::{BESIDE, DATA, END, UPPER, put_line};
-use layout::{Bank, Counted};
+use layout::Bank;
 
 // The longest text: room for it is enough for every image.
 pub const LONGEST: usize = 707_121;
@@ -19,23 +19,11 @@ const DATA_LINE: usize = BESIDE + 2 * ROW;
 
 const UPPER_LINE: usize = BESIDE + 2 * 2;
 
-// What comes back of an image.
-#[derive(Clone, Copy)]
-pub enum Written {
-    // The image is no bank's, or the text has no room.
-    BadLength,
-    // So many bytes of text.
-    Text(usize),
-}
-
-// What it says as one number: 2, or how long the text is, which is never that short.
-pub fn written_number(written: Written) -> usize
+// What was written of an image, as one number: 2, or how long the text is, which is never that short.
+pub fn written_number(written: Option<usize>) -> usize
     ensures { IsWrittenNumber written result }
 {
-    match written {
-        Written::BadLength => 2,
-        Written::Text(size) => size,
-    }
+    written.unwrap_or(2)
 }
 
 // How far the text goes, and the upper half that it told last, 0 before the first.
@@ -67,12 +55,9 @@ fn measure(image: &[u8], base: usize) -> usize
     requires { ImageFits image.now base }
     ensures { result ≡ length (all_rows image.now base) }
 {
-    let rows = image.len() / ROW;
     let mut reached = Reached { told: 0, at: 0 };
-    let mut k = 0;
-    while k < rows {
+    for k in 0..image.len() / ROW {
         reached = pass(image, base, k, reached);
-        k += 1;
     }
     reached.at
 }
@@ -117,25 +102,22 @@ fn put_rows(image: &[u8], base: usize, text: &mut [u8]) -> usize
     requires base_in_bounds { length (all_rows image.now base) ≤ length text.old }
     ensures { (result ≡ length (all_rows image.now base)) × (text.new ≡ sets text.old 0 (all_rows image.now base)) }
 {
-    let rows = image.len() / ROW;
     let mut reached = Reached { told: 0, at: 0 };
-    let mut k = 0;
-    while k < rows {
+    for k in 0..image.len() / ROW {
         reached = put_row(image, base, k, reached, text);
-        k += 1;
     }
     reached.at
 }
 
-// How long the text of an image is.
-pub fn length(image: &[u8], bank: Bank) -> Written
+// How long the text of an image is; `None` where the image is no bank's.
+pub fn length(image: &[u8], bank: Bank) -> Option<usize>
     ensures { IsLength image.now bank result }
 {
     match layout::sectors(image.len()) {
-        Counted::Refused => Written::BadLength,
-        Counted::Sectors(_) => {
+        None => None,
+        Some(_) => {
             let base = layout::start_address(bank) as usize;
-            Written::Text(measure(image, base) + BESIDE)
+            Some(measure(image, base) + BESIDE)
         }
     }
 }
@@ -150,18 +132,15 @@ fn put(image: &[u8], bank: Bank, text: &mut [u8])
     put_line(text, at, 0, END, b"");
 }
 
-// The text of an image, at the front of `text`. The rest keeps its bytes; what does not fit writes nothing.
-pub fn write(image: &[u8], bank: Bank, text: &mut [u8]) -> Written
+// The text of an image, at the front of `text`, and how long it is. The rest keeps its bytes. `None`, and nothing is written, where the image is no
+// bank's or the text has no room.
+pub fn write(image: &[u8], bank: Bank, text: &mut [u8]) -> Option<usize>
     ensures { IsWrite image.now bank text.old result text.new }
 {
-    match length(image, bank) {
-        Written::BadLength => Written::BadLength,
-        Written::Text(size) => {
-            if text.len() < size {
-                return Written::BadLength;
-            }
-            put(image, bank, text);
-            Written::Text(size)
-        }
+    let size = length(image, bank)?;
+    if text.len() < size {
+        return None;
     }
+    put(image, bank, text);
+    Some(size)
 }

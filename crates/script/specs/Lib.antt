@@ -1,4 +1,3 @@
-pub mod Input
 pub mod Line
 pub mod Spelt
 pub mod Text

@@ -1,12 +1,13 @@
 -- The line that was found, and what a program has before the first.
 -- Assumes nothing.
 use Rattle.std.specs.Prelude.{◌≡◌, cond, List, [], ℕ, ◌-◌, eqb, ltb, length, take, get_or}
-use Rattle.script.specs.declared.line.Found.TheVariants.{End}
+use Rattle.script.specs.declared.line.Found.{Found}
+use Rattle.script.specs.declared.line.Found.TheVariants.{Line, TooLong, End}
 use Rattle.script.specs.declared.line.Turn.{Turn}
 
 -- nothing was read
 abbrev pub before_first : Turn
-before_first = record { found = End; held = 0; from = 0; to = 0 }
+before_first = record { found = End; from = 0; to = 0 }
 
 abbrev pub IsBefore : Turn → Type 0
 IsBefore r = r ≡ before_first
@@ -15,6 +16,11 @@ IsBefore r = r ≡ before_first
 abbrev pub own_length : List ℕ → ℕ → ℕ
 own_length line size = cond (eqb size 0) 0 (cond (eqb (get_or line (size - 1) 0) 0x0D) (size - 1) size)
 
--- a turn that found more bytes than there are has found nothing
+-- what was found is no line where it has more bytes than there are
+abbrev pub held_of : List ℕ → Found → List ℕ
+held_of line (Line size) = cond (ltb (length line) size) [] (take (own_length line size) line)
+held_of line TooLong = []
+held_of line End = []
+
 abbrev pub IsHeld : List ℕ → Turn → List ℕ → Type 0
-IsHeld line turn r = r ≡ cond (ltb (length line) turn.held) [] (take (own_length line turn.held) line)
+IsHeld line turn r = r ≡ held_of line turn.found

@@ -1,11 +1,11 @@
 -- The fields of a line (docs/BOARD.md, docs/REQUESTS.md).
 -- Assumes nothing.
-use Rattle.std.specs.Prelude.{◌≡◌, Bool, false, cond, List, [], ◌∷◌, ℕ, suc, ◌-◌, eqb, length, take, drop, get_or}
+use Rattle.std.specs.Prelude.{◌≡◌, Bool, false, cond, List, ℕ, suc, ◌-◌, eqb, length, take, drop, get_or, ◌==◌}
+use Rattle.std.specs.List.{position_or_len}
 
 -- the place of the first blank, or the end
-unfoldable pub blank_at : List ℕ → ℕ
-blank_at [] = 0
-blank_at (b ∷ text) = cond (eqb b 0x20) 0 (suc (blank_at text))
+abbrev pub blank_at : List ℕ → ℕ
+blank_at text = position_or_len (λ b. b == 0x20) text
 
 abbrev pub IsFirst : List ℕ → List ℕ → Type 0
 IsFirst text r = r ≡ take (blank_at text) text

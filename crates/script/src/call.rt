@@ -1,6 +1,5 @@
 // How a program was called, and how it tells `./run` what became of the call. docs/RUNNING.md has the convention.
-ghost use Rattle.std.specs.Prelude.{◌≡◌, true, ◌<◌, ◌≤◌};
-ghost use Rattle.io.specs.Counts.{IsPrefixLen};
+ghost use Rattle.std.specs.Prelude.{◌≡◌, true, ◌<◌, ◌≤◌, length, IfSome};
 
 use std::env::{Env, FillError};
 use std::fmt;
@@ -12,38 +11,29 @@ pub const STDERR_FILENO: i32 = 2;
 // Where `./run` listens, if its own first argument says so.
 const LISTENER: i32 = 3;
 
-// An argument, counted from 0, which is the program's name, to the front of `into`, and its length; 0 where it is missing or longer.
-fn arg(rt: &impl Env, number: usize, into: &mut [u8]) -> usize
-    ensures { IsPrefixLen result into.new }
+// An argument, counted from 0, which is the program's name, at the front of `into`; `None` where it is missing or longer.
+fn arg<'a>(rt: &impl Env, number: usize, into: &'a mut [u8]) -> Option<&'a [u8]>
+    ensures { IfSome result (λ word. length word.now ≤ length into.old) }
 {
-    match rt.arg(number, into) {
-        Ok(size) => size,
-        Err(_) => 0,
-    }
+    let size = rt.arg(number, into).ok()?;
+    into.get(..size)
 }
 
 fn is_given(rt: &impl Env, number: usize) -> bool {
     let mut none = [0u8; 1];
-    match rt.arg(number, &mut none) {
-        Err(FillError::NotPresent) => false,
-        _ => true,
-    }
+    !matches!(rt.arg(number, &mut none), Err(FillError::NotPresent))
 }
 
 // How many arguments there are, the program's name among them.
 fn arg_count(rt: &impl Env) -> usize {
-    for i in 0..usize::MAX {
-        if !is_given(rt, i) {
-            return i;
-        }
-    }
-    usize::MAX
+    (0..usize::MAX)
+        .find(|i| !is_given(rt, *i))
+        .unwrap_or(usize::MAX)
 }
 
 fn heard(rt: &impl Env) -> bool {
     let mut first = [0u8; 16];
-    let n = arg(rt, 1, &mut first);
-    check::same(&first[..n], b"status=3")
+    matches!(arg(rt, 1, &mut first), Some(b"status=3"))
 }
 
 fn tell(rt: &impl Env, mark: &[u8]) {
@@ -107,10 +97,20 @@ pub fn cut_short(rt: &impl Env, why: &[u8]) {
     tell(rt, b"i");
 }
 
+pub fn say_usage(usage: &[u8]) {
+    io::write_all(STDERR_FILENO, usage);
+}
+
 // It was called as it cannot be.
 pub fn called_wrongly(rt: &impl Env, usage: &[u8]) {
-    io::write_all(STDERR_FILENO, usage);
+    say_usage(usage);
     tell(rt, b"c");
+}
+
+// The same of a word that cannot be, which is said first.
+pub fn wrong_word(rt: &impl Env, why: &[u8], usage: &[u8]) {
+    io::write_all(STDERR_FILENO, why);
+    called_wrongly(rt, usage);
 }
 
 // The program's own name stands before its words, and what `./run` says to it.
@@ -126,18 +126,16 @@ pub fn takes(rt: &impl Env, words: usize, usage: &[u8]) -> bool
 {
     let all = arg_count(rt);
     let before = before_words(rt);
-    if all >= before {
-        if all - before == words {
-            return true;
-        }
+    if all >= before && all - before == words {
+        return true;
     }
     called_wrongly(rt, usage);
     false
 }
 
-// A word of the call, counted from 0, to the front of `into`, and its length; 0 where it is missing or longer.
-pub fn word(rt: &impl Env, number: u8, into: &mut [u8]) -> usize
-    ensures { IsPrefixLen result into.new }
+// A word of the call, counted from 0, at the front of `into`; `None` where it is missing or longer.
+pub fn word<'a>(rt: &impl Env, number: u8, into: &'a mut [u8]) -> Option<&'a [u8]>
+    ensures { IfSome result (λ word. length word.now ≤ length into.old) }
 {
     arg(rt, before_words(rt) + number as usize, into)
 }

@@ -1,44 +1,34 @@
 // All of an input at once: standard input, or a file.
-ghost use Rattle.std.specs.Prelude.{length};
-ghost use Rattle.script.specs.Input.{Within};
+ghost use Rattle.std.specs.Prelude.{◌≤◌, length, IfSome};
 
 use crate::call;
 use std::env::Env;
 use std::fs::Files;
-use std::io::{Error, ErrorKind, Read};
+use std::io::{Error, ErrorKind, Input, Read};
 use std::{fs, str};
 
-#[derive(Clone, Copy)]
-pub enum Input {
-    // It could not be read to its end, and that was told.
-    Unread,
-    // So many bytes, at the front of the room. Where they fill it there may be more.
-    Read(usize),
-}
-
-fn read(rt: &impl Env, from: &mut impl Read, name: &[u8], room: &mut [u8]) -> Input
-    ensures { Within (length room.old) result }
+// So many bytes, at the front of the room; where they fill it there may be more. `None` where the input could not be read to its end, and that
+// was told. The index is kept: what a read takes says how far the next turn goes.
+fn read(rt: &impl Env, from: &mut impl Read, name: &[u8], room: &mut [u8]) -> Option<usize>
+    ensures { IfSome result (λ n. n ≤ length room.old) }
 {
     let mut done = 0;
     while done < room.len() {
         match from.read(&mut room[done..]) {
             Err(why) => {
                 call::unread(rt, name, why);
-                return Input::Unread;
+                return None;
             }
-            Ok(more) => {
-                if more == 0 {
-                    return Input::Read(done);
-                }
-                done += more;
-            }
+            Ok(0) => break,
+            Ok(more) => done += more,
         }
     }
-    Input::Read(done)
+    Some(done)
 }
 
-pub fn all(rt: &(impl Env + std::io::Input), room: &mut [u8]) -> Input
-    ensures { Within (length room.old) result }
+// As `read` has it.
+pub fn all(rt: &(impl Env + Input), room: &mut [u8]) -> Option<usize>
+    ensures { IfSome result (λ n. n ≤ length room.old) }
 {
     let mut from = rt.reader();
     read(rt, &mut from, b"standard input", room)
@@ -52,21 +42,26 @@ fn open<R: Files>(rt: &R, name: &[u8]) -> std::io::Result<R::File> {
     }
 }
 
-fn read_opened(rt: &impl Env, mut from: impl Read + Drop, name: &[u8], room: &mut [u8]) -> Input
-    ensures { Within (length room.old) result }
+fn read_opened(
+    rt: &impl Env,
+    mut from: impl Read + Drop,
+    name: &[u8],
+    room: &mut [u8],
+) -> Option<usize>
+    ensures { IfSome result (λ n. n ≤ length room.old) }
 {
     read(rt, &mut from, name, room)
 }
 
 // The file of that name.
-pub fn file(rt: &(impl Env + Files), name: &[u8], room: &mut [u8]) -> Input
-    ensures { Within (length room.old) result }
+pub fn file(rt: &(impl Env + Files), name: &[u8], room: &mut [u8]) -> Option<usize>
+    ensures { IfSome result (λ n. n ≤ length room.old) }
 {
     match open(rt, name) {
         Ok(from) => read_opened(rt, from, name, room),
         Err(why) => {
             call::unread(rt, name, why);
-            Input::Unread
+            None
         }
     }
 }

@@ -5,5 +5,6 @@
 pub mod call;
 pub mod input;
 pub mod line;
+pub mod room;
 pub mod say;
 pub mod text;

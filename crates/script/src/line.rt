@@ -9,20 +9,35 @@ use std::io::{Error, Input, Read, Result};
 
 #[derive(Clone, Copy)]
 pub enum Found {
-    Line,
+    // A line of so many bytes, a CR before its LF among them.
+    Line(usize),
     // It has more bytes than there is room for, and was passed over.
     TooLong,
     // The text has no further line, or could not be read further.
     End,
 }
 
-// What a turn found, the `held` bytes of its line, and the bytes of the chunk that it left unread, from `from` up to `to`.
+// What a turn found, and the bytes of the chunk that it left unread, from `from` up to `to`.
 #[derive(Clone, Copy)]
 pub struct Turn {
     pub found: Found,
-    pub held: usize,
     pub from: usize,
     pub to: usize,
+}
+
+// What a turn found, as it is handed on.
+#[derive(Clone, Copy)]
+pub enum Heard<'a> {
+    // A line, without its end.
+    Line(&'a [u8]),
+    TooLong,
+    End,
+}
+
+// What takes the lines of standard input, one after another.
+pub trait Listener {
+    // The line is the `number`th, counted from 1. Whether another one is listened to.
+    fn hear(&mut self, rt: &impl Env, number: usize, heard: Heard<'_>) -> bool;
 }
 
 // Before the first turn: nothing was read.
@@ -31,7 +46,6 @@ pub fn before() -> Turn
 {
     Turn {
         found: Found::End,
-        held: 0,
         from: 0,
         to: 0,
     }
@@ -56,12 +70,12 @@ fn read(rt: &impl Input, chunk: &mut [u8]) -> Result<usize>
 fn within(chunk: &[u8], to: usize) -> usize
     ensures { result ≤ length chunk.now }
 {
-    if to < chunk.len() { to } else { chunk.len() }
+    to.min(chunk.len())
 }
 
 fn put(line: &mut [u8], at: usize, byte: u8) {
-    if at < line.len() {
-        line[at] = byte;
+    if let Some(place) = line.get_mut(at) {
+        *place = byte;
     }
 }
 
@@ -69,7 +83,7 @@ fn whole(line: &[u8], held: usize) -> Found {
     if held > line.len() {
         Found::TooLong
     } else {
-        Found::Line
+        Found::Line(held)
     }
 }
 
@@ -81,16 +95,14 @@ fn whole_last(line: &[u8], held: usize) -> Found {
     whole(line, held)
 }
 
-// Nothing says that a line ends, so the loop counts its turns down, from a number that no run uses up.
+// Nothing says that a line ends, so the loop counts its turns, up to a number that no run uses up.
 pub fn next(rt: &(impl Env + Input), chunk: &mut [u8], line: &mut [u8], last: Turn) -> Turn
     ensures { result.to ≤ length chunk.new }
 {
     let mut from = last.from;
     let mut to = within(chunk, last.to);
     let mut held = 0;
-    let mut turns = u64::MAX;
-    while turns > 0 {
-        turns -= 1;
+    for _turn in 0..u64::MAX {
         if from >= to {
             from = 0;
             match read(rt, chunk) {
@@ -100,7 +112,6 @@ pub fn next(rt: &(impl Env + Input), chunk: &mut [u8], line: &mut [u8], last: Tu
             if to == 0 {
                 return Turn {
                     found: whole_last(line, held),
-                    held,
                     from,
                     to,
                 };
@@ -112,7 +123,6 @@ pub fn next(rt: &(impl Env + Input), chunk: &mut [u8], line: &mut [u8], last: Tu
         if byte == b'\n' {
             return Turn {
                 found: whole(line, held),
-                held,
                 from,
                 to,
             };
@@ -139,10 +149,29 @@ fn own(line: &[u8], size: usize) -> usize
 pub fn held(line: &[u8], turn: Turn) -> &[u8]
     ensures { IsHeld line.now turn result.now }
 {
-    let n = turn.held;
-    if n > line.len() {
-        return &line[..0];
+    match turn.found {
+        Found::Line(size) if size <= line.len() => &line[..own(line, size)],
+        _ => &[],
     }
-    let end = own(line, n);
-    &line[0..end]
+}
+
+fn handed(line: &[u8], turn: Turn) -> Heard<'_> {
+    match turn.found {
+        Found::Line(_) => Heard::Line(held(line, turn)),
+        Found::TooLong => Heard::TooLong,
+        Found::End => Heard::End,
+    }
+}
+
+// Nothing says that the text ends, so the loop counts the lines up to a number that no text has.
+pub fn listen(rt: &(impl Env + Input), listener: &mut impl Listener) {
+    let mut chunk = [0u8; 4096];
+    let mut line = [0u8; 4096];
+    let mut turn = before();
+    for number in 0..usize::MAX {
+        turn = next(rt, &mut chunk, &mut line, turn);
+        if !listener.hear(rt, number + 1, handed(&line, turn)) {
+            return;
+        }
+    }
 }

@@ -1,4 +1,5 @@
-// What is written to standard output.
+// What is written to standard output. It is written by hand, piece by piece: where one cannot be written that is told, and the next is tried all the
+// same, while `print!` ends at the first. Bytes are in upper case with nothing between them, which is no form of std's for a slice.
 ghost use Rattle.std.specs.Prelude.{◌<◌, ◌≤◌};
 ghost use Rattle.io.specs.Counts.{IsPrefixLen};
 ghost use Rattle.script.specs.Spelt.{IsSpell};
@@ -37,14 +38,11 @@ fn spell(bytes: &[u8], into: &mut [u8]) -> usize
     if bytes.len() > into.len() / 2 {
         return 0;
     }
-    let mut i = 0;
-    while i < bytes.len() {
-        let byte = bytes[i];
-        into[2 * i] = digits::digit(byte / 16);
-        into[2 * i + 1] = digits::digit(byte);
-        i += 1;
+    for (i, byte) in bytes.iter().enumerate() {
+        into[2 * i] = digits::digit(*byte / 16);
+        into[2 * i + 1] = digits::digit(*byte);
     }
-    2 * i
+    2 * bytes.len()
 }
 
 fn hex_piece(rt: &impl Env, bytes: &[u8]) {
@@ -53,24 +51,9 @@ fn hex_piece(rt: &impl Env, bytes: &[u8]) {
     text(rt, &spelt[..n]);
 }
 
-// How much of what is left goes into one piece.
-fn piece_of(left: usize) -> usize
-    requires { 0 < left }
-    ensures { (0 < result) × (result ≤ left) }
-{
-    if left < LARGEST_PIECE {
-        left
-    } else {
-        LARGEST_PIECE
-    }
-}
-
 pub fn hex(rt: &impl Env, bytes: &[u8]) {
-    let mut done = 0;
-    while done < bytes.len() {
-        let end = done + piece_of(bytes.len() - done);
-        hex_piece(rt, &bytes[done..end]);
-        done = end;
+    for piece in bytes.chunks(LARGEST_PIECE) {
+        hex_piece(rt, piece);
     }
 }
 
@@ -89,13 +72,13 @@ pub fn byte(rt: &impl Env, value: u8) {
 
 pub fn pair(rt: &impl Env, value: u16) {
     let mut two = [0u8; 2];
-    buffer::number::put_number2(&mut two, 0, value);
+    buffer::number::put_number(&mut two, 0, value);
     hex(rt, &two);
 }
 
 pub fn quad(rt: &impl Env, value: u32) {
     let mut four = [0u8; 4];
-    buffer::number::put_number4(&mut four, 0, value);
+    buffer::number::put_number(&mut four, 0, value);
     hex(rt, &four);
 }
 
@@ -115,7 +98,24 @@ pub fn refused(rt: &impl Env, number: usize) {
     decimal(rt, number);
 }
 
-// The same of a hex text: its fault, H1 to H6, the line, and the byte in it.
+// The end of a refusal after which nothing is done.
+pub fn end_refused(rt: &impl Env) {
+    end(rt);
+    call::refused(rt);
+}
+
+// A refusal in words, and nothing else.
+pub fn words_refused(rt: &impl Env, words: &[u8]) {
+    text(rt, words);
+    end_refused(rt);
+}
+
+pub fn refused_all(rt: &impl Env, number: usize) {
+    refused(rt, number);
+    end_refused(rt);
+}
+
+// Of a hex text: its fault, H1 to H6, the line, and the byte in it.
 pub fn refused_place(rt: &impl Env, fault: usize, line: usize, byte: usize) {
     text(rt, b"refused H");
     decimal(rt, fault);
@@ -123,4 +123,9 @@ pub fn refused_place(rt: &impl Env, fault: usize, line: usize, byte: usize) {
     decimal(rt, line);
     text(rt, b" byte ");
     decimal(rt, byte);
+}
+
+pub fn refused_place_all(rt: &impl Env, fault: usize, line: usize, byte: usize) {
+    refused_place(rt, fault, line, byte);
+    end_refused(rt);
 }

@@ -7,6 +7,7 @@ use Prim.Native.Nat.{ℕ, ◌+◌, ◌≤◌, ◌<◌}
 use native.Mathlib.Omega.{arith}
 use lib.ListN.{length, drop}
 use borrow.Author.Tests.{le-leb, lt-leb}
+use Rattle.std.specs.Prelude.{Result, Ok, Err}
 use Rattle.buffer.specs.Number.{bytes_of}
 use Rattle.buffer.specs.Place.{place_of}
 use Rattle.buffer.proofs.Numbers.{length_bytes}
@@ -18,8 +19,8 @@ use Rattle.frame.specs.Write.{put_control}
 use Rattle.frame.proofs.Writing.{length_control, control_fits}
 use Rattle.layout.specs.Layout.{good_n, start_of, end_of}
 use Rattle.layout.specs.declared.Bank.{Bank}
-use Rattle.sender.specs.declared.made.Made.{Made}
-use Rattle.sender.specs.declared.made.Made.TheVariants.{BadN, BadLength, Frame}
+use Rattle.sender.specs.declared.made.Refusal.{Refusal}
+use Rattle.sender.specs.declared.made.Refusal.TheVariants.{BadN, BadLength}
 use Rattle.sender.specs.declared.request.Request.{Request}
 use Rattle.sender.specs.declared.request.Request.TheVariants.{WriteStart}
 use Rattle.sender.specs.Made.{room, made_said, room_for, buffer_after}
@@ -27,70 +28,70 @@ use Rattle.sender.specs.Request.{command_of, asks_for, given_good, request_frame
 use Rattle.sender.proofs.Refusals.{request_says_lem}
 
 module _ (size : ℕ) (bytes : List ℕ) where
-  no_room : size < room → BadLength ≡ room_for size bytes
+  no_room : size < room → Err BadLength ≡ room_for size bytes
   unfolding room_for
   no_room h = rw (lt-leb room size h)
 
-  has_room : (n : ℕ) → n ≡ length bytes → room ≤ size → Frame n ≡ room_for size bytes
+  has_room : (n : ℕ) → n ≡ length bytes → room ≤ size → Ok n ≡ room_for size bytes
   unfolding room_for
-  has_room n e h = rw (le-leb room size h) (ap Frame e)
+  has_room n e h = rw (le-leb room size h) (ap Ok e)
 
 module _ (code : ℕ) (parameters before : List ℕ) where
-  pub control_refused : length before < room → IsControl code parameters before BadLength before
+  pub control_refused : length before < room → IsControl code parameters before (Err BadLength) before
   control_refused h =
       let frame : List ℕ = control_frame code parameters in
-      let e : BadLength ≡ room_for (length before) frame = no_room (length before) frame h in
-      record { answered = e; stands = ap (λ (m : Made). buffer_after m before frame) e }
+      let e : Err BadLength ≡ room_for (length before) frame = no_room (length before) frame h in
+      record { answered = e; stands = ap (λ (m : Result ℕ Refusal). buffer_after m before frame) e }
 
   pub control_made :
       (after : List ℕ) → length parameters ≤ 254 → room ≤ length before → after ≡ put_control before code parameters
-      → IsControl code parameters before (Frame (length parameters + 5)) after
+      → IsControl code parameters before (Ok (length parameters + 5)) after
   control_made after l h p =
       let frame : List ℕ = control_frame code parameters in
-      let e : Frame (length parameters + 5) ≡ room_for (length before) frame =
+      let e : Ok (length parameters + 5) ≡ room_for (length before) frame =
       has_room (length before) frame (length parameters + 5) (sym (length_control code parameters)) h in
       record {
         answered = e;
-        stands = p ∙ control_fits before code parameters l ∙ ap (λ (m : Made). buffer_after m before frame) e;
+        stands = p ∙ control_fits before code parameters l ∙ ap (λ (m : Result ℕ Refusal). buffer_after m before frame) e;
       }
 
 -- a request whose N is good, where there is room
-pub request_made_lem : (request : Request) (size : ℕ) → given_good request ≡ true → room ≤ size → request_made request size ≡ Frame (length (request_frame request))
+pub request_made_lem : (request : Request) (size : ℕ) → given_good request ≡ true → room ≤ size → request_made request size ≡ Ok (length (request_frame request))
 unfolding request_made room_for
 request_made_lem request size g h = rw (g, le-leb room size h)
 
 -- what is answered and what stands is all: what it says follows
-request_is : (request : Request) (before after : List ℕ) (r : Made) → r ≡ request_made request (length before)
+request_is : (request : Request) (before after : List ℕ) (r : Result ℕ Refusal) → r ≡ request_made request (length before)
     → after ≡ buffer_after (request_made request (length before)) before (request_frame request) → IsRequest request before r after
 request_is request before after r e s = record { answered = e; says = ap made_said e ∙ request_says_lem request (length before); stands = s }
 
-pub request_told : {request q : Request} {before after : List ℕ} {r : Made} → request ≡ q → IsRequest q before r after
+pub request_told : {request q : Request} {before after : List ℕ} {r : Result ℕ Refusal} → request ≡ q → IsRequest q before r after
     → IsRequest request before r after
 request_told {before = before} {after = after} {r = r} t i = subst (λ (x : Request). IsRequest x before r after) (sym t) i
 
 -- a request q is the control frame of its code and parameters, its N being good
 pub request_control :
-    {before after : List ℕ} {r : Made} {parameters : List ℕ} {code : ℕ} (q : Request) → given_good q ≡ true → code ≡ request_code (command_of q)
+    {before after : List ℕ} {r : Result ℕ Refusal} {parameters : List ℕ} {code : ℕ} (q : Request) → given_good q ≡ true → code ≡ request_code (command_of q)
     → parameters ≡ asks_for q → IsControl code parameters before r after → IsRequest q before r after
 unfolding request_made
 request_control {before} {after} {r} {parameters} q g c p i =
     let d = subst (λ (l : List ℕ). IsControl (request_code (command_of q)) l before r after) p
     (subst (λ (x : ℕ). IsControl x parameters before r after) c i) in
     let e : room_for (length before) (request_frame q) ≡ request_made q (length before) = rw g in
-    request_is q before after r (d.answered ∙ e) (d.stands ∙ ap (λ (m : Made). buffer_after m before (request_frame q)) e)
+    request_is q before after r (d.answered ∙ e) (d.stands ∙ ap (λ (m : Result ℕ Refusal). buffer_after m before (request_frame q)) e)
 
 -- a request without parameters, by the code of its command
 pub request_bare :
-    {request : Request} {command : Command} {code : ℕ} {before after : List ℕ} {r : Made} (q : Request) → request ≡ q → command ≡ command_of request
+    {request : Request} {command : Command} {code : ℕ} {before after : List ℕ} {r : Result ℕ Refusal} (q : Request) → request ≡ q → command ≡ command_of request
     → code ≡ request_code command → given_good q ≡ true → [] ≡ asks_for q → IsControl code [] before r after → IsRequest request before r after
 request_bare q t k c g p i = request_told t (request_control q g (c ∙ ap request_code (k ∙ ap command_of t)) p i)
 
 module _ (bank : Bank) (n : ℕ) (before : List ℕ) where
-  pub start_refused : good_n n ≡ false → IsRequest (WriteStart bank n) before BadN before
+  pub start_refused : good_n n ≡ false → IsRequest (WriteStart bank n) before (Err BadN) before
   unfolding request_made
   start_refused g =
-      let e : BadN ≡ request_made (WriteStart bank n) (length before) = rw g in
-      request_is (WriteStart bank n) before before BadN e (ap (λ (m : Made). buffer_after m before (request_frame (WriteStart bank n))) e)
+      let e : Err BadN ≡ request_made (WriteStart bank n) (length before) = rw g in
+      request_is (WriteStart bank n) before before (Err BadN) e (ap (λ (m : Result ℕ Refusal). buffer_after m before (request_frame (WriteStart bank n))) e)
 
 -- two numbers of four bytes put one behind the other
 two_numbers : (zeros : List ℕ) (a b : ℕ) → length zeros ≡ 8 → drop 4 (drop 4 zeros) ≡ [] → length (drop 4 zeros) ≡ 4

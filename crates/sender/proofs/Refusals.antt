@@ -4,22 +4,23 @@ use mathlib.Core.Path.{◌≡◌, refl, sym, ◌∙◌}
 use mathlib.Core.Bool.{Bool, true, false, not, ◌&&◌, cond}
 use mathlib.Core.List.{List}
 use Prim.Native.Nat.{ℕ, ◌*◌, ◌≤◌}
+use Rattle.std.specs.Prelude.{Ok, Err}
 use lib.Dec.{leb, ltb}
 use lib.ListN.{length}
 use borrow.Author.Tests.{eq-eqb, le-leb, le-ltb, ltb-false}
 use Rattle.buffer.proofs.Bools.{no_way}
 use Rattle.layout.specs.Layout.{sector_size, good_n}
 use Rattle.layout.specs.Said.{number}
-use Rattle.sender.specs.declared.made.Made.TheVariants.{BadN, BadLength, PastLast, Frame}
-use Rattle.sender.specs.declared.packet.Placed.TheVariants.{BadN as NoN, BadLength as NotSoLong, PastLast as NoneSuch, At}
-use Rattle.sender.specs.declared.packet.Tally.TheVariants.{BadN as NoBank, BadLength as NoImage, Packets}
+use Rattle.sender.specs.declared.made.Place.{Place}
+use Rattle.sender.specs.declared.made.Refusal.TheVariants.{BadN, BadLength, PastLast}
 use Rattle.sender.specs.declared.request.Request.{Request}
 use Rattle.sender.specs.Made.{room, made_said, sender_says, room_for}
 use Rattle.sender.specs.Request.{request_frame, given_good, request_made, request_says}
-use Rattle.sender.specs.Packet.{packet_count, packet_sector, packet_frame, image_good, packet_made, packet_says, tally_of, tally_said, count_says, placed_of, placed_said, place_says}
+use Rattle.sender.specs.Packet.{packet_count, packet_sector, packet_frame, image_good, packet_made, packet_says, tally_of, count_says, placed_in, placed_of, placed_said, place_says}
 
 by_tests :
-    (a b c : Bool) (n : ℕ) → made_said (cond a (cond b (cond c (Frame n) PastLast) BadLength) BadN) ≡ sender_says (not a) (not b) (not c) n
+    (a b c : Bool) (n : ℕ)
+    → made_said (cond a (cond b (cond c (Ok n) (Err PastLast)) (Err BadLength)) (Err BadN)) ≡ sender_says (not a) (not b) (not c) n
 unfolding sender_says
 by_tests true true true n = refl
 by_tests true true false n = refl
@@ -30,24 +31,23 @@ pub request_says_lem : (request : Request) (size : ℕ) → made_said (request_m
 unfolding request_made room_for
 request_says_lem request size = by_tests (given_good request) (leb room size) true (length (request_frame request))
 
-pub count_says_lem : (image : List ℕ) (n : ℕ) → tally_said (tally_of image n) ≡ count_says image n
-unfolding tally_of sender_says
-count_says_lem image n = by (good_n n) (image_good image n) (packet_count image n)
-  where
-    by : (a b : Bool) (k : ℕ) → tally_said (cond a (cond b (Packets k) NoImage) NoBank) ≡ sender_says (not a) (not b) false k
-    by true true k = refl
-    by true false k = refl
-    by false b k = refl
+pub count_says_lem : (image : List ℕ) (n : ℕ) → made_said (tally_of image n) ≡ count_says image n
+unfolding tally_of
+count_says_lem image n = by_tests (good_n n) (image_good image n) true (packet_count image n)
 
 pub place_says_lem : (image : List ℕ) (n p : ℕ) → placed_said (placed_of image n p) ≡ place_says image n p
-unfolding placed_of sender_says
-place_says_lem image n p = by (good_n n) (image_good image n) (ltb p (packet_count image n)) (packet_sector image n p) (packet_count image n)
+unfolding placed_of placed_in sender_says
+place_says_lem image n p = by (good_n n) (image_good image n) (ltb p (packet_count image n))
   where
-    by : (a b c : Bool) (k m : ℕ) → placed_said (cond a (cond b (cond c (At k m) NoneSuch) NotSoLong) NoN) ≡ sender_says (not a) (not b) (not c) k
-    by true true true k m = refl
-    by true true false k m = refl
-    by true false c k m = refl
-    by false b c k m = refl
+    there : Place
+    there = record { sector = packet_sector image n p; count = packet_count image n }
+
+    by : (a b c : Bool) → placed_said (cond a (cond b (cond c (Ok there) (Err PastLast)) (Err BadLength)) (Err BadN))
+        ≡ sender_says (not a) (not b) (not c) (packet_sector image n p)
+    by true true true = refl
+    by true true false = refl
+    by true false c = refl
+    by false b c = refl
 
 module _ (image : List ℕ) (n p size : ℕ) where
   pub packet_says_lem : made_said (packet_made image n p size) ≡ packet_says image n p size

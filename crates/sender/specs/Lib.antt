@@ -1,3 +1,4 @@
+pub mod Image
 pub mod Made
 pub mod Meaning
 pub mod Packet

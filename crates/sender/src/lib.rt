@@ -4,3 +4,4 @@
 pub mod made;
 pub mod packet;
 pub mod request;
+mod sectors;

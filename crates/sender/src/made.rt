@@ -1,29 +1,36 @@
-// What the maker of a frame answers.
-ghost use Rattle.sender.specs.Made.{IsMadeNumber};
+// What the sender answers.
+ghost use Rattle.sender.specs.Made.{IsRefusalNumber};
 
 // The least room for a frame of the sender: a sector's bytes and the seven around them.
 pub const ROOM: usize = 519;
 
-#[derive(Clone, Copy)]
-pub enum Made {
+// Why nothing is made, counted or found.
+#[derive(Clone, Copy, PartialEq, Eq)]
+pub enum Refusal {
     // No bank has so many sectors.
     BadN,
     // The image or the buffer has a wrong length.
     BadLength,
     // There is no packet of that number.
     PastLast,
-    // So many bytes at the buffer's front.
-    Frame(usize),
 }
 
-// What it says, as a number of the paper, or how many bytes were made.
-pub fn made_number(made: Made) -> usize
-    ensures { IsMadeNumber made result }
-{
-    match made {
-        Made::BadN => 3,
-        Made::BadLength => 2,
-        Made::PastLast => 5,
-        Made::Frame(size) => size,
+// The number of the paper.
+impl From<Refusal> for usize {
+    ghost from_gives = { IsRefusalNumber };
+
+    fn from(why: Refusal) -> usize {
+        match why {
+            Refusal::BadN => 3,
+            Refusal::BadLength => 2,
+            Refusal::PastLast => 5,
+        }
     }
+}
+
+// Where a packet stands: its sector, and how many packets the image has.
+#[derive(Clone, Copy, PartialEq, Eq)]
+pub struct Place {
+    pub sector: usize,
+    pub count: usize,
 }

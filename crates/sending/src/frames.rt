@@ -7,64 +7,33 @@ use script::{say, text};
 use sender::request::Request;
 use std::env::Env;
 
-fn make_in(rt: &impl Env, request: Request, buffer: &mut [u8]) {
-    let made = sender::request::make(request, buffer);
-    made::say_made(rt, made, buffer);
-}
-
-fn make(rt: &impl Env, request: Request, fields: &[u8]) -> bool {
-    let room = text::decimal(fields, 6);
-    if room > LARGEST_BUFFER {
-        return false;
-    }
+// The request in the buffer's room, which the last field says.
+fn make(rt: &impl Env, request: Request, room: &[u8]) -> Option<()> {
     let mut buffer = [0xA5u8; LARGEST_BUFFER];
-    let size = io::count(room as isize, &buffer);
-    make_in(rt, request, &mut buffer[..size]);
-    true
+    let lent = buffer.get_mut(..text::decimal(room, 6)?)?;
+    let made = sender::request::make(request, lent);
+    made::say_made(rt, made, lent);
+    Some(())
 }
 
-fn write_start(rt: &impl Env, bank: Bank, fields: &[u8]) -> bool {
-    let n = text::decimal(text::first(fields), 6);
-    if n > text::LARGEST_NUMBER {
-        return false;
-    }
-    make(rt, Request::WriteStart { bank, n }, text::rest(fields))
-}
-
-fn write(rt: &impl Env, fields: &[u8]) -> bool {
-    let bank = text::first(fields);
+fn write_start(rt: &impl Env, fields: &[u8]) -> Option<()> {
+    let bank = text::bank(text::first(fields))?;
     let later = text::rest(fields);
-    if check::same(bank, b"0") {
-        return write_start(rt, Bank::Zero, later);
-    }
-    if check::same(bank, b"1") {
-        return write_start(rt, Bank::One, later);
-    }
-    false
+    let n = text::decimal(text::first(later), 6)?;
+    make(rt, Request::WriteStart { bank, n }, text::rest(later))
 }
 
-pub(crate) fn request(rt: &impl Env, fields: &[u8]) -> bool {
-    let word = text::first(fields);
+pub(crate) fn request(rt: &impl Env, fields: &[u8]) -> Option<()> {
     let later = text::rest(fields);
-    if check::same(word, b"start") {
-        return make(rt, Request::ModeStart, later);
+    match text::first(fields) {
+        b"start" => make(rt, Request::ModeStart, later),
+        b"bank" => make(rt, Request::BankInfo, later),
+        b"version" => make(rt, Request::VersionInfo, later),
+        b"write" => write_start(rt, later),
+        b"end" => make(rt, Request::WriteEnd, later),
+        b"finish" => make(rt, Request::ModeEnd, later),
+        _ => None,
     }
-    if check::same(word, b"bank") {
-        return make(rt, Request::BankInfo, later);
-    }
-    if check::same(word, b"version") {
-        return make(rt, Request::VersionInfo, later);
-    }
-    if check::same(word, b"write") {
-        return write(rt, later);
-    }
-    if check::same(word, b"end") {
-        return make(rt, Request::WriteEnd, later);
-    }
-    if check::same(word, b"finish") {
-        return make(rt, Request::ModeEnd, later);
-    }
-    false
 }
 
 fn say_plain(rt: &impl Env, code: u8, res: u8) {
@@ -76,7 +45,7 @@ fn say_plain(rt: &impl Env, code: u8, res: u8) {
 
 fn say_bank(rt: &impl Env, bank: Bank) {
     say::text(rt, b"bank ");
-    say::decimal(rt, layout::bank_number(bank) as usize);
+    say::decimal(rt, usize::from(u8::from(bank)));
 }
 
 // The word of an answer, and its four fields.
@@ -120,13 +89,8 @@ fn say_response(rt: &impl Env, datagram: &[u8]) {
     say::end(rt);
 }
 
-pub(crate) fn response(rt: &impl Env, fields: &[u8]) -> bool {
-    let mut bytes = [0u8; 2048];
-    let got = text::bytes(fields, &mut bytes);
-    if got < 0 {
-        return false;
-    }
-    let n = io::count(got, &bytes);
-    say_response(rt, &bytes[..n]);
-    true
+pub(crate) fn response(rt: &impl Env, fields: &[u8]) -> Option<()> {
+    let mut room = [0u8; 2048];
+    say_response(rt, text::spelt(fields, &mut room)?);
+    Some(())
 }

@@ -1,40 +1,28 @@
 // What stays from one request to the next: a hex text and an image, each at the front of its room.
-ghost use Rattle.io.specs.Counts.{IsPrefixLen};
+use crate::answer;
+use script::line::{Heard, Listener};
+use script::room::Room;
+use script::say;
+use std::env::Env;
 
 pub const LONGEST_TEXT: usize = 720_896;
 
 // Two sectors more than the largest bank has: a wrong length is told from what is no request.
 pub const LONGEST_IMAGE: usize = 252_416;
 
-// The lengths.
-#[derive(Clone, Copy)]
+#[derive(Drop)]
 pub struct Held {
-    pub text: usize,
-    pub image: usize,
+    pub hex_text: Room<LONGEST_TEXT>,
+    pub image: Room<LONGEST_IMAGE>,
 }
 
-// Whether it was a request, and what is held then.
-#[derive(Clone, Copy)]
-pub enum Answered {
-    No,
-    Yes(Held),
-}
-
-// A request that leaves what is held.
-pub(crate) fn kept(known: bool, held: Held) -> Answered {
-    if known {
-        Answered::Yes(held)
-    } else {
-        Answered::No
+impl Listener for Held {
+    fn hear(&mut self, rt: &impl Env, _number: usize, heard: Heard<'_>) -> bool {
+        match heard {
+            Heard::Line(line) => answer::answer(rt, self, line),
+            Heard::TooLong => say::no_request(rt),
+            Heard::End => return false,
+        }
+        true
     }
-}
-
-// As much of a room as is held, by the contract by which that part can be lent without a proof.
-pub(crate) fn lent(room: &[u8], size: usize) -> usize
-    ensures { IsPrefixLen result room.now }
-{
-    if size > room.len() {
-        return io::count(0, room);
-    }
-    io::count(size as isize, room)
 }

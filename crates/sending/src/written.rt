@@ -1,90 +1,35 @@
 // The requests on the hex text that is written of the image.
-use crate::held;
-use crate::held::{Answered, Held, LONGEST_TEXT};
-use layout::Bank;
-use rows::text::Written;
+use crate::held::Held;
 use script::{say, text};
 use std::env::Env;
 
-fn say_told(rt: &impl Env, word: &[u8], written: Written) {
+fn say_told(rt: &impl Env, word: &[u8], written: Option<usize>) {
     match written {
-        Written::Text(size) => {
+        Some(size) => {
             say::text(rt, word);
             say::decimal(rt, size);
         }
-        _ => say::refused(rt, rows::text::written_number(written)),
+        None => say::refused(rt, rows::text::written_number(written)),
     }
 }
 
-fn say_length(rt: &impl Env, image: &[u8], bank: Bank) -> bool {
+pub(crate) fn length(rt: &impl Env, image: &[u8], fields: &[u8]) -> Option<()> {
+    let bank = text::bank(fields)?;
     say_told(rt, b"length ", rows::text::length(image, bank));
     say::end(rt);
-    true
+    Some(())
 }
 
-pub(crate) fn length(rt: &impl Env, image: &[u8], fields: &[u8]) -> bool {
-    if check::same(fields, b"0") {
-        return say_length(rt, image, Bank::Zero);
-    }
-    if check::same(fields, b"1") {
-        return say_length(rt, image, Bank::One);
-    }
-    false
-}
-
-fn size_of(written: Written, room: usize) -> usize {
-    match written {
-        Written::Text(size) => size,
-        _ => room,
-    }
-}
-
-// How much of the room is the text then: what was written, or all of it.
-fn write_into(rt: &impl Env, image: &[u8], bank: Bank, room: &mut [u8]) -> usize {
-    buffer::fill::fill(room, 0xA5);
-    let written = rows::text::write(image, bank, room);
+// What was written of the room is the text then, or all of it.
+pub(crate) fn write(rt: &impl Env, held: &mut Held, fields: &[u8]) -> Option<()> {
+    let bank = text::bank(text::first(fields))?;
+    let room = held.hex_text.lend(text::decimal(text::rest(fields), 6)?)?;
+    room.fill(0xA5);
+    let written = rows::text::write(held.image.part(), bank, room);
     say_told(rt, b"written ", written);
     say::text(rt, b" ");
     say::quad(rt, crc::crc32(room));
     say::end(rt);
-    size_of(written, room.len())
-}
-
-fn write_bank(
-    rt: &impl Env,
-    hex_text: &mut [u8],
-    image: &[u8],
-    held: Held,
-    bank: Bank,
-    fields: &[u8],
-) -> Answered {
-    let size = text::decimal(fields, 6);
-    if size > LONGEST_TEXT {
-        return Answered::No;
-    }
-    let taken = held::lent(image, held.image);
-    let room = held::lent(hex_text, size);
-    let after = write_into(rt, &image[..taken], bank, &mut hex_text[..room]);
-    Answered::Yes(Held {
-        text: after,
-        image: held.image,
-    })
-}
-
-pub(crate) fn write(
-    rt: &impl Env,
-    hex_text: &mut [u8],
-    image: &[u8],
-    held: Held,
-    fields: &[u8],
-) -> Answered {
-    let bank = text::first(fields);
-    let later = text::rest(fields);
-    if check::same(bank, b"0") {
-        return write_bank(rt, hex_text, image, held, Bank::Zero, later);
-    }
-    if check::same(bank, b"1") {
-        return write_bank(rt, hex_text, image, held, Bank::One, later);
-    }
-    Answered::No
+    held.hex_text.lent = written.unwrap_or(room.len());
+    Some(())
 }

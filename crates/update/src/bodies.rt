@@ -14,16 +14,14 @@ fn say_body(rt: &impl Env, i: usize, body: &[u8]) {
 
 // A line for each, and how many they are.
 pub(crate) fn report(rt: &impl Env, image: &[u8]) -> usize {
-    let mut i = 0;
-    while i < image.len() {
+    for i in 0..image.len() {
         let body = bank::body::body(image, i);
-        if body.len() == 0 {
+        if body.is_empty() {
             return i;
         }
         say_body(rt, i, body);
-        i += 1;
     }
-    i
+    image.len()
 }
 
 fn ask_one(rt: &impl Env, i: usize) {
@@ -34,9 +32,7 @@ fn ask_one(rt: &impl Env, i: usize) {
 
 // The board's own view of each, afterwards.
 pub(crate) fn ask(rt: &impl Env, count: usize) {
-    let mut i = 0;
-    while i < count {
+    for i in 0..count {
         ask_one(rt, i);
-        i += 1;
     }
 }

@@ -1,24 +1,23 @@
 // The frames of an update, each as a line of the script.
-use crate::refusals;
 use layout::Bank;
 use script::say;
-use sender::made::{Made, ROOM};
+use sender::made::{Refusal, ROOM};
 use sender::request::Request;
 use std::env::Env;
 
 fn say_frame(rt: &impl Env, buffer: &[u8], size: usize) {
-    if size <= buffer.len() {
-        let end = io::count(size as isize, buffer);
+    if let Some(frame) = buffer.get(..size) {
         say::text(rt, b"send ");
-        say::hex(rt, &buffer[..end]);
+        say::hex(rt, frame);
         say::end(rt);
     }
 }
 
-fn say_made(rt: &impl Env, made: Made, buffer: &[u8]) {
+fn say_made(rt: &impl Env, made: Result<usize, Refusal>, buffer: &[u8]) {
     match made {
-        Made::Frame(size) => say_frame(rt, buffer, size),
-        _ => refusals::number(rt, sender::made::made_number(made)),
+        Ok(size) => say_frame(rt, buffer, size),
+        // N was looked at, and the image is lent as it says: this is never said.
+        Err(why) => say::refused_all(rt, usize::from(why)),
     }
 }
 
@@ -50,10 +49,8 @@ fn say_packet(rt: &impl Env, image: &[u8], n: usize, p: usize) {
 }
 
 pub(crate) fn packets(rt: &impl Env, image: &[u8], n: usize, count: usize) {
-    let mut p = 0;
-    while p < count {
+    for p in 0..count {
         say_packet(rt, image, n, p);
-        p += 1;
     }
 }
 

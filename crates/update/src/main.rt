@@ -4,24 +4,19 @@
 
 mod bodies;
 mod frames;
-mod refusals;
 
-ghost use Rattle.std.specs.Prelude.{◌≤◌};
-
-use bank::check::Verdict;
-use hex_text::read::Answer;
+use hex_text::fault::Refusal;
+use hex_text::read::ReadError;
 use layout::{Bank, MOST, SECTOR};
-use script::input::Input;
 use script::{call, input, say, text};
-use sender::packet::Tally;
 use std::env::Env;
+
+const USAGE: &[u8] = b"usage: ./run update BANK N [FILE]\n";
 
 const LONGEST_TEXT: usize = 1_048_576;
 
-const LONGEST_IMAGE: usize = 251_392;
-
 fn say_bank(rt: &impl Env, target: Bank) {
-    say::decimal(rt, layout::bank_number(target) as usize);
+    say::decimal(rt, usize::from(u8::from(target)));
 }
 
 fn say_report(rt: &impl Env, image: &[u8], target: Bank, n: usize, packets: usize) -> usize {
@@ -62,120 +57,71 @@ fn say_script(rt: &impl Env, image: &[u8], target: Bank, n: usize, packets: usiz
 }
 
 fn counted(rt: &impl Env, image: &[u8], target: Bank, n: usize) {
-    let tally = sender::packet::count(image, n);
-    match tally {
-        Tally::Packets(packets) => say_script(rt, image, target, n, packets),
-        _ => refusals::number(rt, sender::packet::tally_number(tally)),
+    match sender::packet::count(image, n) {
+        Ok(packets) => say_script(rt, image, target, n, packets),
+        Err(why) => say::refused_all(rt, usize::from(why)),
     }
 }
 
 fn judged(rt: &impl Env, image: &[u8], target: Bank, n: usize) {
     match bank::check::check(image) {
-        Verdict::Sound => counted(rt, image, target, n),
-        _ => refusals::unsound(rt),
+        Ok(()) => counted(rt, image, target, n),
+        Err(_) => say::words_refused(rt, b"unsound"),
     }
 }
 
-fn read_into(rt: &impl Env, hex_text: &[u8], target: Bank, n: usize, image: &mut [u8]) {
+fn say_refusal(rt: &impl Env, refusal: Refusal) {
+    let number = u8::from(refusal.kind);
+    say::refused_place_all(rt, usize::from(number), refusal.line, refusal.byte);
+}
+
+// The image has as much of its room as N says.
+fn read_text(rt: &impl Env, hex_text: &[u8], target: Bank, n: usize) {
+    let mut room = [0u8; MOST * SECTOR];
+    let Some(image) = room.get_mut(..n.min(MOST) * SECTOR) else {
+        return;
+    };
     let answer = hex_text::read::read(hex_text, target, n, image);
     match answer {
-        Answer::Refused(refusal) => refusals::line(rt, refusal),
-        Answer::Accepted => judged(rt, image, target, n),
-        _ => refusals::number(rt, hex_text::read::answer_number(answer)),
+        Err(ReadError::Line(refusal)) => say_refusal(rt, refusal),
+        Ok(()) => judged(rt, image, target, n),
+        _ => say::refused_all(rt, hex_text::read::answer_number(answer)),
     }
 }
 
-// The image has as much of the room as N says.
-fn read_in(rt: &impl Env, hex_text: &[u8], target: Bank, n: usize, room: &mut [u8])
-    requires { n ≤ 491 }
-{
-    let length = io::count((SECTOR * n) as isize, room);
-    read_into(rt, hex_text, target, n, &mut room[..length]);
-}
-
-fn read_text(rt: &impl Env, hex_text: &[u8], target: Bank, n: usize)
-    requires { n ≤ 491 }
-{
-    let mut room = [0u8; LONGEST_IMAGE];
-    read_in(rt, hex_text, target, n, &mut room);
-}
-
-fn read_input(rt: &impl Env, room: &mut [u8], size: usize, target: Bank, n: usize)
-    requires { n ≤ 491 }
-{
-    if size > LONGEST_TEXT {
-        return refusals::too_long(rt);
-    }
-    let end = io::count(size as isize, room);
-    read_text(rt, &room[..end], target, n);
-}
-
-fn update_from(rt: &(impl Env + std::io::Input), room: &mut [u8], target: Bank, n: usize)
-    requires { n ≤ 491 }
-{
+fn update_from(rt: &(impl Env + std::io::Input), room: &mut [u8], target: Bank, n: usize) {
     match input::all(rt, room) {
-        Input::Unread => (),
-        Input::Read(size) => read_input(rt, room, size, target, n),
+        Some(size) if size > LONGEST_TEXT => say::words_refused(rt, b"too long"),
+        Some(size) => read_text(rt, &room[..size], target, n),
+        None => (),
     }
 }
 
 // The room is a byte larger than the longest text, so that a longer one is seen to be so.
-fn update(rt: &(impl Env + std::io::Input), target: Bank, n: usize)
-    requires { n ≤ 491 }
-{
+fn update(rt: &(impl Env + std::io::Input), target: Bank, n: usize) {
     let mut room = [0u8; LONGEST_TEXT + 1];
     update_from(rt, &mut room, target, n);
 }
 
-fn bank_wrong(rt: &impl Env) {
-    call::called_wrongly(
-        rt,
-        b"update: BANK is 0 or 1\nusage: ./run update BANK N [FILE]\n",
-    );
-}
-
-fn n_wrong(rt: &impl Env) {
-    call::called_wrongly(
-        rt,
-        b"update: N is 1 to 491\nusage: ./run update BANK N [FILE]\n",
-    );
-}
-
-fn for_bank(rt: &(impl Env + std::io::Input), target: Bank, n: usize) {
-    if n < 1 {
-        return n_wrong(rt);
-    }
-    if n > MOST {
-        return n_wrong(rt);
-    }
-    update(rt, target, n);
+fn n_of(word: Option<&[u8]>) -> Option<usize> {
+    text::decimal(word?, 6).filter(|n| layout::good_n(*n))
 }
 
 // The first word that is wrong is named.
-fn with_words(rt: &(impl Env + std::io::Input), number: usize, n: usize) {
-    if number == 0 {
-        return for_bank(rt, Bank::Zero, n);
-    }
-    if number == 1 {
-        return for_bank(rt, Bank::One, n);
-    }
-    bank_wrong(rt);
-}
-
 fn called(rt: &(impl Env + std::io::Input)) {
     let mut first = [0u8; 8];
     let mut second = [0u8; 8];
-    let one = call::word(rt, 0, &mut first);
-    let two = call::word(rt, 1, &mut second);
-    with_words(
-        rt,
-        text::decimal(&first[..one], 1),
-        text::decimal(&second[..two], 6),
-    );
+    let Some(target) = call::word(rt, 0, &mut first).and_then(text::bank) else {
+        return call::wrong_word(rt, b"update: BANK is 0 or 1\n", USAGE);
+    };
+    match n_of(call::word(rt, 1, &mut second)) {
+        Some(n) => update(rt, target, n),
+        None => call::wrong_word(rt, b"update: N is 1 to 491\n", USAGE),
+    }
 }
 
 fn main(rt: HostRuntime) {
-    if call::takes(&rt, 2, b"usage: ./run update BANK N [FILE]\n") {
+    if call::takes(&rt, 2, USAGE) {
         called(&rt);
     }
 }

@@ -1,10 +1,7 @@
 // The requests on where banks lie and on what they hold.
-ghost use Rattle.std.specs.Prelude.{◌≤◌, length};
-ghost use Rattle.io.specs.Counts.{IsPrefixLen};
-
 use crate::{lists, sums};
-use bank::check::Verdict;
-use layout::{Bank, Counted};
+use bank::check::Fault;
+use layout::Bank;
 use script::{say, text};
 use std::env::Env;
 
@@ -16,7 +13,7 @@ const LONGEST_SHOWN: usize = 64;
 
 fn say_layout(rt: &impl Env, bank: Bank, n: usize) {
     say::text(rt, b"layout ");
-    say::decimal(rt, layout::bank_number(bank) as usize);
+    say::decimal(rt, usize::from(u8::from(bank)));
     say::text(rt, b" ");
     say::quad(rt, layout::start_address(bank));
     say::text(rt, b" ");
@@ -24,21 +21,11 @@ fn say_layout(rt: &impl Env, bank: Bank, n: usize) {
     say::end(rt);
 }
 
-pub(crate) fn layout(rt: &impl Env, fields: &[u8]) -> bool {
-    let n = text::decimal(text::rest(fields), 6);
-    if n > text::LARGEST_NUMBER {
-        return false;
-    }
-    let bank = text::first(fields);
-    if check::same(bank, b"0") {
-        say_layout(rt, Bank::Zero, n);
-        return true;
-    }
-    if check::same(bank, b"1") {
-        say_layout(rt, Bank::One, n);
-        return true;
-    }
-    false
+pub(crate) fn layout(rt: &impl Env, fields: &[u8]) -> Option<()> {
+    let bank = text::bank(text::first(fields))?;
+    let n = text::decimal(text::rest(fields), 6)?;
+    say_layout(rt, bank, n);
+    Some(())
 }
 
 fn say_sectors(rt: &impl Env, n: usize) {
@@ -47,104 +34,55 @@ fn say_sectors(rt: &impl Env, n: usize) {
     say::end(rt);
 }
 
-pub(crate) fn sectors(rt: &impl Env, fields: &[u8]) -> bool {
-    let length = text::decimal(fields, 6);
-    if length > text::LARGEST_NUMBER {
-        return false;
-    }
+pub(crate) fn sectors(rt: &impl Env, fields: &[u8]) -> Option<()> {
+    let length = text::decimal(fields, 6)?;
     match layout::sectors(length) {
-        Counted::Refused => say::text(rt, b"refused\n"),
-        Counted::Sectors(n) => say_sectors(rt, n),
+        None => say::text(rt, b"refused\n"),
+        Some(n) => say_sectors(rt, n),
     }
-    true
+    Some(())
 }
 
-// The place of a piece's mark, or the end.
-fn mark_at(piece: &[u8]) -> usize
-    ensures { IsPrefixLen result piece.now }
-{
-    let mut i = 0;
-    while i < piece.len() {
-        if piece[i] == b':' {
-            return i;
-        }
-        if piece[i] == b'~' {
-            return i;
-        }
-        i += 1;
-    }
-    i
-}
-
-// The bytes that `digits` spells, to `bank` from `offset` on.
-fn put_bytes(bank: &mut [u8], offset: usize, digits: &[u8]) -> bool {
-    if offset > bank.len() {
-        return false;
-    }
-    text::bytes(digits, &mut bank[offset..]) >= 0
-}
-
-fn put_ramp(bank: &mut [u8], offset: usize, count: usize) -> bool {
-    if offset > bank.len() {
-        return false;
-    }
-    if count > bank.len() - offset {
-        return false;
-    }
-    let end = offset + count;
-    sums::fill(&mut bank[offset..end], sums::Pattern::Ramp, 0);
-    true
-}
-
-// Whether the piece is one and lies within the bank; one that does is put there.
-fn put_piece(bank: &mut [u8], piece: &[u8]) -> bool {
-    let mark = mark_at(piece);
-    if mark >= piece.len() {
-        return false;
-    }
-    let offset = text::decimal(&piece[..mark], 6);
-    let behind = mark + 1;
-    if piece[mark] == b':' {
-        put_bytes(bank, offset, &piece[behind..])
+// Puts a piece to its place in the bank: the bytes behind a colon, or behind a tilde so many of a ramp. `None` for what is no piece or does not lie
+// within the bank.
+fn put_piece(bank: &mut [u8], piece: &[u8]) -> Option<()> {
+    let mark = piece.iter().position(|b| matches!(*b, b':' | b'~'))?;
+    let (digits, marked) = piece.split_at_checked(mark)?;
+    let (kind, behind) = marked.split_first()?;
+    let room = bank.get_mut(text::decimal(digits, 6)?..)?;
+    if *kind == b':' {
+        text::bytes(behind, room)?;
     } else {
-        put_ramp(bank, offset, text::decimal(&piece[behind..], 6))
+        let ramp = room.get_mut(..text::decimal(behind, 6)?)?;
+        sums::fill(ramp, sums::Pattern::Ramp, 0);
     }
+    Some(())
 }
 
-// Where the field that starts at `at` ends.
-fn end_of(pieces: &[u8], at: usize) -> usize
-    requires { at ≤ length pieces.now }
-    ensures { (at ≤ result) × (result ≤ length pieces.now) }
+// The bank of so many bytes, 0xFF where no piece says otherwise, and what is said of it. The empty field behind a blank at the end would pass for no
+// piece.
+fn asked<F: FnOnce(&mut [u8]) -> Option<()>>(fields: &[u8], say: F) -> Option<()>
+    requires { F.IsAlwaysCallable say }
 {
-    at + text::first(&pieces[at..]).len()
-}
-
-fn put_pieces(bank: &mut [u8], pieces: &[u8]) -> bool {
-    let mut at = 0;
-    while at < pieces.len() {
-        let end = end_of(pieces, at);
-        if !put_piece(bank, &pieces[at..end]) {
-            return false;
-        }
-        at = end + 1;
+    if text::ends_in_blank(fields) {
+        return None;
     }
-    true
-}
-
-// What is asked of a bank.
-#[derive(Clone, Copy)]
-enum Ask {
-    Check,
-    Body(usize),
-    // How many numbers each list takes
-    Clean(usize, usize),
+    let mut room = [0xFFu8; LONGEST_BANK];
+    let bank = room.get_mut(..text::decimal(text::first(fields), 6)?)?;
+    let pieces = text::rest(fields);
+    if !pieces.is_empty() {
+        for piece in pieces.split(|b| *b == b' ') {
+            put_piece(bank, piece)?;
+        }
+    }
+    say(bank)
 }
 
 fn say_verdict(rt: &impl Env, bank: &[u8]) {
     match bank::check::check(bank) {
-        Verdict::Refused => say::text(rt, b"refused\n"),
-        Verdict::Sound => say::text(rt, b"sound\n"),
-        Verdict::Unsound => say::text(rt, b"unsound\n"),
+        Ok(()) => say::text(rt, b"sound\n"),
+        Err(Fault::BadLength) => say::text(rt, b"refused\n"),
+        Err(Fault::Unsound) => say::text(rt, b"unsound\n"),
     }
 }
 
@@ -160,60 +98,26 @@ fn say_body(rt: &impl Env, body: &[u8]) {
     say::end(rt);
 }
 
-fn said(rt: &impl Env, bank: &mut [u8], ask: Ask) -> bool {
-    match ask {
-        Ask::Check => say_verdict(rt, bank),
-        Ask::Body(i) => say_body(rt, bank::body::body(bank, i)),
-        Ask::Clean(runs, sectors) => return lists::cleaned(rt, bank, runs, sectors),
-    }
-    true
+pub(crate) fn verdict(rt: &impl Env, fields: &[u8]) -> Option<()> {
+    asked(fields, |bank| {
+        say_verdict(rt, bank);
+        Some(())
+    })
 }
 
-fn asked(rt: &impl Env, bank: &mut [u8], pieces: &[u8], ask: Ask) -> bool {
-    if !put_pieces(bank, pieces) {
-        return false;
-    }
-    said(rt, bank, ask)
+pub(crate) fn body(rt: &impl Env, fields: &[u8]) -> Option<()> {
+    let i = text::decimal(text::first(fields), 6)?;
+    asked(text::rest(fields), |bank| {
+        say_body(rt, bank::body::body(bank, i));
+        Some(())
+    })
 }
 
-// The bytes of a new bank are 0xFF.
-fn asked_of(rt: &impl Env, length: usize, pieces: &[u8], ask: Ask) -> bool {
-    if length > LONGEST_BANK {
-        return false;
-    }
-    let mut bank = [0xFFu8; LONGEST_BANK];
-    let n = io::count(length as isize, &bank);
-    asked(rt, &mut bank[..n], pieces, ask)
-}
-
-// The empty field behind a blank at the end would pass for no piece.
-fn asked_by(rt: &impl Env, fields: &[u8], ask: Ask) -> bool {
-    if text::ends_in_blank(fields) {
-        return false;
-    }
-    asked_of(
-        rt,
-        text::decimal(text::first(fields), 6),
-        text::rest(fields),
-        ask,
-    )
-}
-
-pub(crate) fn verdict(rt: &impl Env, fields: &[u8]) -> bool {
-    asked_by(rt, fields, Ask::Check)
-}
-
-pub(crate) fn body(rt: &impl Env, fields: &[u8]) -> bool {
-    let i = text::decimal(text::first(fields), 6);
-    if i > text::LARGEST_NUMBER {
-        return false;
-    }
-    asked_by(rt, text::rest(fields), Ask::Body(i))
-}
-
-pub(crate) fn clean(rt: &impl Env, fields: &[u8]) -> bool {
+pub(crate) fn clean(rt: &impl Env, fields: &[u8]) -> Option<()> {
     let later = text::rest(fields);
-    let runs = text::decimal(text::first(fields), 6);
-    let sectors = text::decimal(text::first(later), 6);
-    asked_by(rt, text::rest(later), Ask::Clean(runs, sectors))
+    let runs = text::decimal(text::first(fields), 6)?;
+    let sectors = text::decimal(text::first(later), 6)?;
+    asked(text::rest(later), |bank| {
+        lists::cleaned(rt, bank, runs, sectors)
+    })
 }

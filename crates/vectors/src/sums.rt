@@ -1,5 +1,5 @@
 // The requests for a checksum or a CRC-32.
-ghost use Rattle.std.specs.Prelude.{◌<◌, ◌≤◌};
+ghost use Rattle.std.specs.Prelude.{◌≤◌};
 
 use script::{say, text};
 use std::env::Env;
@@ -12,59 +12,29 @@ fn say_crc(rt: &impl Env, value: u32) {
     say::end(rt);
 }
 
-// What is asked of bytes that a field spells.
-#[derive(Clone, Copy)]
-enum Ask {
-    Crc,
-    More(u32),
-    Sum,
+pub(crate) fn crc(rt: &impl Env, fields: &[u8]) -> Option<()> {
+    let mut room = [0u8; 2048];
+    say_crc(rt, crc::crc32(text::spelt(fields, &mut room)?));
+    Some(())
 }
 
-fn say_more(rt: &impl Env, register: u32, bytes: &[u8]) {
+pub(crate) fn more(rt: &impl Env, fields: &[u8]) -> Option<()> {
+    let register = u32::try_from(text::number(text::first(fields), 8)?).ok()?;
+    let mut room = [0u8; 2048];
+    let bytes = text::spelt(text::rest(fields), &mut room)?;
     say::text(rt, b"more ");
     say::quad(rt, crc::crc_more(register, bytes));
     say::end(rt);
+    Some(())
 }
 
-fn say_sum(rt: &impl Env, bytes: &[u8]) {
+pub(crate) fn sum(rt: &impl Env, fields: &[u8]) -> Option<()> {
+    let mut room = [0u8; 2048];
+    let bytes = text::spelt(fields, &mut room)?;
     say::text(rt, b"sum ");
     say::byte(rt, frame::checksum::checksum(bytes));
     say::end(rt);
-}
-
-fn say_asked(rt: &impl Env, ask: Ask, bytes: &[u8]) {
-    match ask {
-        Ask::Crc => say_crc(rt, crc::crc32(bytes)),
-        Ask::More(register) => say_more(rt, register, bytes),
-        Ask::Sum => say_sum(rt, bytes),
-    }
-}
-
-fn asked(rt: &impl Env, ask: Ask, digits: &[u8]) -> bool {
-    let mut bytes = [0u8; 2048];
-    let got = text::bytes(digits, &mut bytes);
-    if got < 0 {
-        return false;
-    }
-    let n = io::count(got, &bytes);
-    say_asked(rt, ask, &bytes[..n]);
-    true
-}
-
-pub(crate) fn crc(rt: &impl Env, fields: &[u8]) -> bool {
-    asked(rt, Ask::Crc, fields)
-}
-
-pub(crate) fn more(rt: &impl Env, fields: &[u8]) -> bool {
-    let register = text::number(text::first(fields), 8);
-    if register > 0xFFFF_FFFF {
-        return false;
-    }
-    asked(rt, Ask::More(register as u32), text::rest(fields))
-}
-
-pub(crate) fn sum(rt: &impl Env, fields: &[u8]) -> bool {
-    asked(rt, Ask::Sum, fields)
+    Some(())
 }
 
 // The bytes of a long message: all the same, or 0, 1, .. 250 over and over.
@@ -85,77 +55,59 @@ fn byte_at(pattern: Pattern, at: usize) -> u8 {
 pub(crate) fn fill(piece: &mut [u8], pattern: Pattern, from: usize)
     requires { from ≤ 300000 }
 {
-    let mut i = 0;
-    while i < piece.len() {
-        piece[i] = byte_at(pattern, from + i);
-        i += 1;
+    for (i, byte) in piece.iter_mut().enumerate() {
+        *byte = byte_at(pattern, from + i);
     }
 }
 
-// How much of what is left goes into one piece.
-fn piece_of(left: usize) -> usize
-    requires { 0 < left }
-    ensures { (0 < result) × (result ≤ left) × (result ≤ 65536) }
-{
-    if left < 65536 { left } else { 65536 }
-}
+const PIECE: usize = 65_536;
 
 // The CRC-32 of `count` bytes: of a message that fits one piece by one call, of a longer one piece by piece.
 fn crc_of(pattern: Pattern, count: usize) -> u32
     requires { count ≤ 300000 }
 {
-    let mut piece = [0u8; 65536];
+    let mut piece = [0u8; PIECE];
     fill(&mut piece, pattern, 0);
-    if count <= 65536 {
-        let n = io::count(count as isize, &piece);
-        return crc::crc32(&piece[..n]);
+    match piece.get(..count) {
+        Some(message) => crc::crc32(message),
+        None => !register_of(pattern, count),
     }
-    !register_of(pattern, count)
 }
 
 fn next_register(register: u32, pattern: Pattern, from: usize, count: usize) -> u32
     requires from_bound { from ≤ 300000 }
     requires count_bound { count ≤ 65536 }
 {
-    let mut piece = [0u8; 65536];
+    let mut piece = [0u8; PIECE];
     fill(&mut piece, pattern, from);
-    let n = io::count(count as isize, &piece);
-    crc::crc_more(register, &piece[..n])
+    crc::crc_more(register, &piece[..count])
 }
 
 fn register_of(pattern: Pattern, count: usize) -> u32
     requires { count ≤ 300000 }
 {
     let mut register: u32 = 0xFFFF_FFFF;
-    let mut done = 0;
-    while done < count {
-        let n = piece_of(count - done);
-        register = next_register(register, pattern, done, n);
-        done += n;
+    let whole = count / PIECE;
+    for i in 0..whole {
+        register = next_register(register, pattern, i * PIECE, PIECE);
     }
-    register
+    next_register(register, pattern, whole * PIECE, count % PIECE)
 }
 
-fn long_crc(rt: &impl Env, pattern: Pattern, count: usize) -> bool {
+fn long_crc(rt: &impl Env, pattern: Pattern, count: &[u8]) -> Option<()> {
+    let count = text::decimal(count, 6)?;
     if count > LONGEST_RUN {
-        return false;
+        return None;
     }
     say_crc(rt, crc_of(pattern, count));
-    true
+    Some(())
 }
 
-pub(crate) fn run(rt: &impl Env, fields: &[u8]) -> bool {
-    let byte = text::number(text::first(fields), 2);
-    if byte > 255 {
-        return false;
-    }
-    long_crc(
-        rt,
-        Pattern::Same(byte as u8),
-        text::decimal(text::rest(fields), 6),
-    )
+pub(crate) fn run(rt: &impl Env, fields: &[u8]) -> Option<()> {
+    let byte = text::byte(text::first(fields))?;
+    long_crc(rt, Pattern::Same(byte), text::rest(fields))
 }
 
-pub(crate) fn ramp(rt: &impl Env, fields: &[u8]) -> bool {
-    long_crc(rt, Pattern::Ramp, text::decimal(fields, 6))
+pub(crate) fn ramp(rt: &impl Env, fields: &[u8]) -> Option<()> {
+    long_crc(rt, Pattern::Ramp, fields)
 }

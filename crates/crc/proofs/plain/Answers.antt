@@ -1,43 +1,30 @@
--- `crc::plain` meets its contract: in both loops what is left of the part, taken into the register as it is, comes to the whole.
+-- `crc::plain` meets its contract: the words, folded, and then the bytes behind them.
 -- Assumes nothing.
-use mathlib.Core.Path.{refl, sym, ap, ◌∙◌}
-use mathlib.Core.List.{List, foldl}
-use Prim.Native.Nat.{ℕ, ◌+◌}
-use native.Mathlib.Omega.{arith}
-use lib.ListN.{drop}
-use borrow.Author.Rules.{rules}
-use Rattle.buffer.proofs.Fold.{fold_more, fold_done}
+use Rattle.std.proofs.Common.{rules, ℕ, ◌*◌, ◌/◌, List, length, drop, Bor, fold, ap, ◌∙◌, arith}
+use mathlib.Core.List.{foldl}
+use Rattle.std.specs.Int.Bits.{bit_xor}
+use Rattle.std.specs.Slice.Iter.{iter_rest}
+use Rattle.buffer.proofs.Chains.{fold_lent}
+use Rattle.buffer.proofs.Fold.{fold_is}
 use Rattle.crc.specs.Crc.{crc_byte, crc_more}
-use Rattle.crc.proofs.Words.{fold_word}
+use Rattle.crc.specs.Braid.{word_at, crc_word}
+use Rattle.crc.proofs.Words.{words_fold}
 use Rattle.crc.proofs.plain.Goals as goal
 
-pub loop-i-init : goal.loop-i-init
-loop-i-init c = (search rules, refl)
-
-pub loop-i-preserved : goal.loop-i-preserved
-loop-i-preserved c =
-    let l : List ℕ = c.args.part.now in
-    let i : ℕ = c.loop-i.i in (
-      search rules,
-      ap (λ (s : ℕ). foldl crc_byte s (drop (i + 4) l)) c.near-r.ensures ∙ fold_word l c.loop-i.r i (search rules) ∙ c.loop-i.invariant.1,
-    )
-
-pub overflow_cast-part : goal.overflow_cast-part
-overflow_cast-part c = omega (arith, c.shared_slice_known-1.given c.loop-i-2.i)
-
-pub loop-i-2-preserved : goal.loop-i-2-preserved
-unfolding crc_byte
-loop-i-2-preserved c =
-    let l : List ℕ = c.args.part.now in
-    let i : ℕ = c.loop-i-2.i in (
-      search rules,
-      ap (λ (s : ℕ). foldl crc_byte s (drop (i + 1) l)) c.bits-r.ensures
-          ∙ fold_more crc_byte l c.loop-i-2.r i c.loop-i-2-test.true ∙
-          c.loop-i-2.invariant.1,
-    )
-
 pub returns : goal.returns
-unfolding crc_more
+unfolding crc_byte crc_more
 returns c =
-    sym (fold_done crc_byte c.args.part.now c.loop-i-2.r c.loop-i-2.i
-    c.loop-i-2-test.false) ∙ c.loop-i-2.invariant.1
+    let l : List ℕ = c.args.part.now in
+    let n = length l / 4 in
+    let p = c.fold-r.ensures.runs in
+    let q = c.fold.ensures.runs in
+    let by_word : ℕ → List ℕ → ℕ = λ r w. crc_word r (bit_xor 0 (word_at w 0)) in
+    q.3 (λ (r : ℕ) (x : Bor ℕ). crc_byte r x.now) (search rules)
+    ∙ (c.iter-2.ensures.runs q.0 q.0.seen).5 crc_byte c.fold-r.result q.2
+    ∙ ap (fold crc_byte c.fold-r.result) (ap iter_rest q.1 ∙ c.iter-2.ensures.rest ∙ c.as_chunks.ensures.back)
+    ∙ fold_is crc_byte c.fold-r.result (drop (n * 4) l)
+    ∙ ap (λ (r : ℕ). foldl crc_byte r (drop (n * 4) l))
+    (p.3 (λ (r : ℕ) (x : Bor (List ℕ)). by_word r x.now) (search rules)
+    ∙ fold_lent by_word c.args.register p.0.items
+    ∙ ap (fold by_word c.args.register) ((c.iter.ensures.runs p.0 p.0.seen).4 p.2 ∙ ap iter_rest p.1 ∙ c.iter.ensures.rest ∙ c.as_chunks.ensures.front))
+    ∙ words_fold n l c.args.register (omega arith)

@@ -8,4 +8,4 @@ use Rattle.bank.proofs.bodies.body_good.Goals as goal
 
 pub returns : goal.returns
 unfolding body_good
-returns c = ap (λ (r : ℕ). eqb r (c.args.entry.crc)) c.crc32.ensures
+returns c = ap (λ (r : ℕ). eqb r (c.args.entry.crc)) (rw c.end.ensures at c.crc32.ensures)

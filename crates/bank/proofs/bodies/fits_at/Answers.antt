@@ -10,4 +10,4 @@ pub returns-then-stretch-at : goal.returns-then-stretch-at
 returns-then-stretch-at c = fits_early _ _ _ c.if-stretch-lt1.false c.if-stretch-at.true
 
 pub returns : goal.returns
-returns c = fits_last _ _ _ c.if-stretch-lt1.false c.if-stretch-at.false
+returns c = rw c.end.ensures (fits_last _ _ _ c.if-stretch-lt1.false c.if-stretch-at.false)

@@ -1,13 +1,13 @@
 -- `bank::bodies::gap_good` meets its contract.
 -- Assumes nothing.
+use mathlib.Core.Path.{refl}
 use Rattle.bank.specs.Sound.{asked}
-use borrow.Author.Rules.{rules}
 use Rattle.bank.proofs.bodies.gap_good.Goals as goal
 
-pub returns-then-outside : goal.returns-then-outside
+pub returns-then-not-outside : goal.returns-then-not-outside
 unfolding asked
-returns-then-outside c = rw c.if-outside.true c.blank.ensures
+returns-then-not-outside c = rw c.if-not-outside.true refl
 
-pub returns : goal.returns
+pub returns-else-not-outside : goal.returns-else-not-outside
 unfolding asked
-returns c = search rules
+returns-else-not-outside c = rw c.if-not-outside.false c.blank.ensures

@@ -25,8 +25,8 @@ returns-then-not-entry_good c =
     let bad = sym c.entry_good.ensures ∙ c.if-not-entry_good.true in
     sym (c.loop-i.invariant.1 ∙ good-not _ _ _ _ _ c.entry_at-entry.ensures.is (omega arith) bad)
 
-pub overflow_add-at : goal.overflow_add-at
-overflow_add-at c =
+pub end-at-requires-in-loop-i : goal.end-at-requires-in-loop-i
+end-at-requires-in-loop-i c =
     let entry = c.entry_at-entry.ensures in
     omega (arith, entry.offset_small, entry.length_small)
 
@@ -35,7 +35,7 @@ loop-i-preserved c =
     let count = c.requires.count in
     let good = sym c.entry_good.ensures ∙ c.if-not-entry_good.false in
     let next = good-next _ _ _ _ _ c.entry_at-entry.ensures.is (omega arith) good in
-    (good_within _ _ _ _ good, c.loop-i.invariant.1 ∙ next)
+    rw c.end-at-in-loop-i.ensures (good_within _ _ _ _ good, c.loop-i.invariant.1 ∙ next)
 
 pub returns : goal.returns
 returns c =

@@ -1,26 +1,44 @@
--- `bank::gaps::find` meets its contract: each turn fills in one start and one end.
+-- `bank::gaps::find` meets its contract: each turn finds one gap.
 -- Assumes nothing.
 use native.Mathlib.Omega.{arith}
+use mathlib.Core.Path.{refl, ◌∙◌}
+use lib.ListN.{length-set}
+use Rattle.bank.specs.Gaps.{gaps_to}
 use Rattle.bank.proofs.Listed.{has_table}
-use Rattle.bank.proofs.Gapped.{found_none, filled-start, filled_more, found}
+use Rattle.bank.proofs.Gapped.{found_none, first_start, found_gap, next_start, found}
 use Rattle.bank.proofs.gaps.find.Goals as goal
 
 pub returns-then-n-eq0 : goal.returns-then-n-eq0
 returns-then-n-eq0 c = found_none _ _ c.count-n.ensures c.if-n-eq0.true
 
-pub end-requires : goal.end-requires
-end-requires c = (has_table _ _ c.count-n.ensures c.if-n-eq0.false).small
+pub end-start-requires : goal.end-start-requires
+end-start-requires c = (has_table _ _ c.count-n.ensures c.if-n-eq0.false).small
 
 pub loop-i-init : goal.loop-i-init
-loop-i-init c = filled-start _ _ c.count-n.ensures c.if-n-eq0.false _ c.end.ensures
+unfolding gaps_to
+loop-i-init c =
+    record {
+      few = (has_table _ _ c.count-n.ensures c.if-n-eq0.false).small;
+      room = refl;
+      found = refl;
+      start = first_start _ _ c.count-n.ensures c.if-n-eq0.false _ c.end-start.ensures;
+    }
 
-pub overflow_add-starts : goal.overflow_add-starts
-overflow_add-starts c = omega (arith, c.entry_at-entry.ensures.offset_small, c.entry_at-entry.ensures.length_small)
+pub entry_at-requires : goal.entry_at-requires
+entry_at-requires c = omega (arith, c.loop-i.invariant.few)
 
 pub loop-i-preserved : goal.loop-i-preserved
 loop-i-preserved c =
-    filled_more _ _ c.count-n.ensures c.if-n-eq0.false _ _ _ c.loop-i.invariant _ c.entry_at-entry.ensures.is
-    c.loop-i-test.true
+    let i = c.loop-i.invariant in
+    let e = c.entry_at.ensures.is in
+    record {
+      few = i.few;
+      room = length-set _ _ _ ∙ i.room;
+      found = found_gap _ _ c.count-n.ensures c.if-n-eq0.false _ _ i.found _ i.start _ e c.loop-i-test.true (omega arith);
+      start = c.end-start-in-loop-i.ensures ∙ next_start _ _ c.count-n.ensures c.if-n-eq0.false _ _ i.found _ i.start _ e c.loop-i-test.true;
+    }
 
 pub returns : goal.returns
-returns c = found _ _ c.count-n.ensures c.if-n-eq0.false _ _ _ c.loop-i.invariant c.loop-i-test.false
+returns c =
+    let i = c.loop-i.invariant in
+    found _ _ c.count-n.ensures c.if-n-eq0.false _ _ i.found _ i.start (omega arith) (omega arith)

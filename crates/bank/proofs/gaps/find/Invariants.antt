@@ -1,11 +1,17 @@
--- `bank::gaps::find` meets its contract: each turn fills in one start and one end.
+-- `bank::gaps::find` meets its contract: each turn finds one gap.
 -- Assumes nothing.
-use Prim.Native.Nat.{◌-◌}
-use Rattle.bank.proofs.Gapped.{Filled}
+use mathlib.Core.Path.{◌≡◌}
+use Prim.Native.Nat.{◌+◌, ◌≤◌}
+use lib.ListN.{length, take}
+use Rattle.bank.specs.Sound.{most_bodies}
+use Rattle.bank.specs.Gaps.{gap_start, gaps_to}
 use Rattle.bank.proofs.gaps.find.Given as goal
 
 abbrev pub invariant-loop-i : goal.invariant-loop-i
-invariant-loop-i l = Filled l.bank l.n l.i l.starts l.ends
-
-abbrev pub decreases-loop-i : goal.decreases-loop-i
-decreases-loop-i l = l.n - l.i
+invariant-loop-i l =
+    record {
+      few : l.n ≤ most_bodies;
+      room : length l.gaps ≡ most_bodies + 1;
+      found : take l.i l.gaps ≡ gaps_to l.bank l.i;
+      start : l.start ≡ gap_start l.bank l.i;
+    }

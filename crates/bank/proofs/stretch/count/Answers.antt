@@ -1,12 +1,15 @@
 -- `bank::stretch::count` meets its contract.
 -- Assumes nothing.
-use mathlib.Core.Path.{sym, ◌∙◌}
-use Rattle.layout.proofs.Layouts.{counted_whole, refused_whole}
-use Rattle.bank.proofs.Listed.{count_refused}
+use mathlib.Core.Path.{◌∙◌}
+use Rattle.layout.proofs.Layouts.{whole_some}
+use Rattle.bank.proofs.Listed.{count_refused, listed_count}
 use Rattle.bank.proofs.stretch.count.Goals as goal
 
-pub returns-in_default : goal.returns-in_default
-returns-in_default c = count_refused _ (refused_whole _ (sym c.in_default.is ∙ c.sectors.ensures.counted))
+pub returns-then-is_none : goal.returns-then-is_none
+returns-then-is_none c = count_refused _ (whole_some _ c.sectors.ensures ∙ c.if-is_none.ensures)
 
 pub listed-requires : goal.listed-requires
-listed-requires c = counted_whole _ _ (sym c.in-Sectors.is ∙ c.sectors.ensures.counted)
+listed-requires c = whole_some _ c.sectors.ensures ∙ c.if-is_none.ensures
+
+pub returns : goal.returns
+returns c = listed_count _ _ (rw c.listed.ensures at c.unwrap_or.ensures)

@@ -12,4 +12,4 @@ slice_bounds-crc32-end c = sym (length-take-le _ _ (omega (arith, c.place-at.ens
 pub returns : goal.returns
 returns c =
     let place = c.place-at.ensures ∙ crc_place_lem _ _ c.requires.count in
-    table_crc _ _ place _ _ c.crc32.ensures c.number4.ensures
+    table_crc _ _ place _ _ c.crc32.ensures c.number.ensures

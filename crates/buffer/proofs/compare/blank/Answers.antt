@@ -1,35 +1,34 @@
--- `buffer::compare::blank` meets its contract: what is left is blank just where the whole is.
+-- `buffer::compare::blank` meets its contract: all runs are blank, and the rest, or one run is not.
 -- Assumes nothing.
-use mathlib.Core.Path.{◌≡◌, refl, sym, ap, ◌∙◌}
-use mathlib.Core.Bool.{true, false}
-use native.Mathlib.Omega.{arith}
-use lib.ListN.{take, drop}
-use borrow.Author.Rules.{rules}
+use Rattle.std.proofs.Common.{rules, ℕ, ◌/◌, List, [], Some, true, false, length, slice_index_or, ap, ◌∙◌, arith, ◌≡◌}
+use Rattle.std.specs.Slice.Iter.{iter_rest}
 use Rattle.buffer.specs.Compare.{blank_of}
-use Rattle.buffer.proofs.Parts.{part_out, rest_out}
-use Rattle.buffer.proofs.Comparing.{blank_run}
+use Rattle.buffer.proofs.Chains.{of_each, of_some}
+use Rattle.buffer.proofs.Comparing.{blank_runs, run_not_blank}
 use Rattle.buffer.proofs.compare.blank.Goals as goal
 
-pub loop-i-init : goal.loop-i-init
-loop-i-init c = (search rules, refl)
+pub returns-then-all : goal.returns-then-all
+returns-then-all c =
+    let l = c.args.bytes.now in
+    let p = c.if-all.ensures.runs in
+    let items = c.iter.ensures.runs p.0 p.0.seen in
+    let from = ap iter_rest p.1 ∙ c.iter.ensures.rest in
+    let count : length (iter_rest p.0.from) ≡ length l / 64 = ap length from ∙ c.as_chunks.ensures.front_len in
+    c.blank_run.ensures
+    ∙ ap blank_of c.as_chunks.ensures.back
+    ∙ blank_runs 64 (length l / 64) l (λ k h.
+    of_each (λ (run : List ℕ). blank_of run ≡ true) (λ x called. search rules) _ (p.0.at k)
+    (items.2 k [] (omega (arith, items.1 p.2.0)) ∙ ap (λ (runs : List (List ℕ)). Some (slice_index_or runs k [])) (from ∙ c.as_chunks.ensures.front)) (p.2.1 (search rules) k))
 
-pub returns-then-not-blank_run : goal.returns-then-not-blank_run
-returns-then-not-blank_run c =
-    let l = c.loop-i in
-    let e : false ≡ blank_of (take 64 (drop l.i c.args.bytes.now)) = sym
-    c.if-not-blank_run.true ∙ c.blank_run.ensures ∙ ap blank_of
-    (part_out c.args.bytes.now l.i 64) in
-    blank_run c.args.bytes.now l.i 64 false e ∙ l.invariant.1
-
-pub loop-i-preserved : goal.loop-i-preserved
-loop-i-preserved c =
-    let l = c.loop-i in
-    let e : true ≡ blank_of (take 64 (drop l.i c.args.bytes.now)) = sym
-    c.if-not-blank_run.false ∙ c.blank_run.ensures ∙ ap blank_of
-    (part_out c.args.bytes.now l.i 64) in
-    (omega arith, blank_run c.args.bytes.now l.i 64 true e ∙ l.invariant.1)
-
-pub returns : goal.returns
-returns c =
-    let l = c.loop-i in
-    c.blank_run-2.ensures ∙ ap blank_of (rest_out c.args.bytes.now l.i) ∙ l.invariant.1
+pub returns-else-all : goal.returns-else-all
+returns-else-all c =
+    let l = c.args.bytes.now in
+    let p = c.if-all.ensures.runs in
+    let items = c.iter.ensures.runs p.0 p.0.seen in
+    let from = ap iter_rest p.1 ∙ c.iter.ensures.rest in
+    let count : length (iter_rest p.0.from) ≡ length l / 64 = ap length from ∙ c.as_chunks.ensures.front_len in
+    let some = p.2 (search rules) in
+    c.if-all.false ∙
+    run_not_blank 64 (length l / 64) l some.0 (omega (arith, items.0, some.1))
+    (of_some (λ (run : List ℕ). blank_of run ≡ false) (λ x called. search rules) _ (p.0.at some.0)
+    (items.2 some.0 [] some.1 ∙ ap (λ (runs : List (List ℕ)). Some (slice_index_or runs some.0 [])) (from ∙ c.as_chunks.ensures.front)) some.2)

@@ -1,20 +1,17 @@
--- `buffer::compare::blank_run` meets its contract: what was looked at, and what is left, are blank just where the run is.
+-- `buffer::compare::blank_run` meets its contract.
 -- Assumes nothing.
-use mathlib.Core.Path.{refl, sym, ◌∙◌}
-use native.Mathlib.Omega.{arith}
-use borrow.Author.Rules.{rules}
-use Rattle.buffer.proofs.Comparing.{blank_more, blank_done}
+use Rattle.std.proofs.Common.{rules, ℕ, Bool, true, ◌&&◌, nat_eq, ap, ◌∙◌}
+use denote.Ref.{Bor}
+use Rattle.std.specs.List.{fold}
+use Rattle.std.specs.Slice.Iter.{iter_rest}
+use Rattle.buffer.proofs.Comparing.{blank_fold}
+use Rattle.buffer.proofs.Chains.{fold_lent}
 use Rattle.buffer.proofs.compare.blank_run.Goals as goal
-
-pub loop-i-init : goal.loop-i-init
-loop-i-init c = (search rules, refl)
-
-pub loop-i-preserved : goal.loop-i-preserved
-loop-i-preserved c =
-    let l = c.loop-i in
-    (omega arith, blank_more c.args.run.now l.i l.all (omega arith) ∙ l.invariant.1)
 
 pub returns : goal.returns
 returns c =
-    let l = c.loop-i in
-    sym (blank_done c.args.run.now l.i l.all (omega arith)) ∙ l.invariant.1
+    let p = c.fold.ensures.runs in
+    p.3 (λ (all : Bool) (x : Bor ℕ). all && nat_eq x.now 0xFF) (search rules)
+    ∙ fold_lent (λ (all : Bool) (b : ℕ). all && nat_eq b 0xFF) true p.0.items
+    ∙ ap (fold (λ (all : Bool) (b : ℕ). all && nat_eq b 0xFF) true) ((c.iter.ensures.runs p.0 p.0.seen).4 p.2 ∙ ap iter_rest p.1 ∙ c.iter.ensures.rest)
+    ∙ blank_fold c.args.run.now true

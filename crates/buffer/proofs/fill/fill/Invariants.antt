@@ -1,13 +1,7 @@
--- `buffer::fill::fill` meets its contract: the first i bytes are the one given, the others as they were.
+-- `buffer::fill::fill` meets its contract: the places so far hold the byte given, the others what they held.
 -- Assumes nothing.
-use mathlib.Core.Path.{◌≡◌}
-use mathlib.Core.List.{◌++◌}
-use Prim.Native.Nat.{◌≤◌, ◌-◌}
-use lib.ListN.{length, replicate, drop}
+use Rattle.std.proofs.Common.{◌≡◌, ◌++◌, drop, replicate}
 use Rattle.buffer.proofs.fill.fill.Given as goal
 
-abbrev pub invariant-loop-i : goal.invariant-loop-i
-invariant-loop-i l = (l.i ≤ length l.initial.buffer) × (length l.buffer ≡ length l.initial.buffer) × (l.buffer ≡ replicate l.i l.byte ++ drop l.i l.initial.buffer)
-
-abbrev pub decreases-loop-i : goal.decreases-loop-i
-decreases-loop-i l = length l.initial.buffer - l.i
+abbrev pub invariant-loop-place : goal.invariant-loop-place
+invariant-loop-place l = l.place-items ≡ replicate l.place-index l.byte ++ drop l.place-index l.initial.place-items

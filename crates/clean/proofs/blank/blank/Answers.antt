@@ -6,7 +6,7 @@ use Rattle.clean.proofs.Blanking.{blanked_first, blanked-next, blanked_all, run_
 use Rattle.clean.proofs.blank.blank.Goals as goal
 
 pub loop-i-init : goal.loop-i-init
-loop-i-init c = let a = c.args in (omega arith, blanked_first a.bank.now a.runs.now)
+loop-i-init c = let a = c.args in blanked_first a.bank.now a.runs.now
 
 pub overflow_mul-from : goal.overflow_mul-from
 overflow_mul-from c = omega (arith, c.requires.1)
@@ -44,27 +44,19 @@ overflow_cast-size c =
 pub blank_run-requires : goal.blank_run-requires
 blank_run-requires c =
     let a = c.args in
-    run_fits a.bank.now a.runs.now a.n c.requires.0 c.loop-i.i (omega arith) c.loop-i.bank c.loop-i.invariant.1
-
-pub overflow_add-i : goal.overflow_add-i
-overflow_add-i c = omega arith
-
-pub loop-i-smaller : goal.loop-i-smaller
-loop-i-smaller c = omega arith
+    run_fits a.bank.now a.runs.now a.n c.requires.0 c.loop-i.i (omega arith) c.loop-i.bank c.loop-i.invariant
 
 pub loop-i-preserved : goal.loop-i-preserved
 loop-i-preserved c =
-    let a = c.args in (
-      omega arith,
-      rw c.blank_run.ensures
-          (blanked-next a.bank.now a.runs.now a.n c.requires.0 c.loop-i.i (omega arith) c.loop-i.bank c.loop-i.invariant.1),
-    )
+    let a = c.args in
+    rw c.blank_run.ensures
+    (blanked-next a.bank.now a.runs.now a.n c.requires.0 c.loop-i.i (omega arith) c.loop-i.bank c.loop-i.invariant)
 
 pub shape_of-bank : goal.shape_of-bank
-shape_of-bank c = c.loop-i.invariant.1.same_length
+shape_of-bank c = c.loop-i.invariant.same_length
 
 pub returns : goal.returns
 returns c =
     let a = c.args in
     let e : c.loop-i.i ≡ a.n = omega arith in
-    blanked_all a.bank.now a.runs.now a.n c.requires.0 c.loop-i.bank (rw e at c.loop-i.invariant.1)
+    blanked_all a.bank.now a.runs.now a.n c.requires.0 c.loop-i.bank (rw e at c.loop-i.invariant)

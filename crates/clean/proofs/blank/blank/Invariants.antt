@@ -1,11 +1,7 @@
 -- `clean::blank::blank` meets its contract: behind each run those up to there are 0xFF, and all else is as it was.
 -- Assumes nothing.
-use Prim.Native.Nat.{◌-◌, ◌≤◌}
 use Rattle.clean.proofs.Blanking.{BlankedTo}
 use Rattle.clean.proofs.blank.blank.Given as goal
 
 abbrev pub invariant-loop-i : goal.invariant-loop-i
-invariant-loop-i l = (l.i ≤ l.n) × BlankedTo l.initial.bank l.runs l.i l.bank
-
-abbrev pub decreases-loop-i : goal.decreases-loop-i
-decreases-loop-i l = l.n - l.i
+invariant-loop-i l = BlankedTo l.initial.bank l.runs l.i l.bank

@@ -13,7 +13,7 @@ pub loop-at-init : goal.loop-at-init
 loop-at-init c =
     let f = old c.args.bank.now in
     let g = c.requires.at_gap in
-    (omega arith, g.all_outside.forward, g.so_many ∙ sym (met-none f c.args.from g.no_run), sym (goes_none f c.args.from g.no_run), c.requires.marks_at)
+    (omega arith, g.all_outside.forward, g.so_many ∙ sym (met-none f c.args.gap.start g.no_run), sym (goes_none f c.args.gap.start g.no_run), c.requires.marks_at)
 
 pub end-end-requires : goal.end-end-requires
 end-end-requires c =
@@ -63,5 +63,5 @@ shape_of-marks c = omega (arith, c.loop-at.invariant.4.room, c.requires.marks_at
 pub returns : goal.returns
 returns c =
     let a = c.args in
-    let e : c.loop-at.at ≡ a.to = omega arith in
+    let e : c.loop-at.at ≡ a.gap.end = omega arith in
     record { value = rw (← e) c.loop-at.invariant.2; marks_at_2 = rw (← e) c.loop-at.invariant.4 }

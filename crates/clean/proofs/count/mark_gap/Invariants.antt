@@ -9,7 +9,7 @@ use Rattle.clean.specs.Walk.{goes}
 use Rattle.clean.proofs.count.mark_gap.Given as goal
 
 abbrev pub invariant-loop-at : goal.invariant-loop-at
-invariant-loop-at l = (l.from ≤ l.at) × (l.at ≤ l.to) × (l.met ≡ met_at (old l.bank) l.at) × (l.last ≡ goes (old l.bank) l.at) × MarksAt (old l.bank) l.at l.marks
+invariant-loop-at l = (l.gap.start ≤ l.at) × (l.at ≤ l.gap.end) × (l.met ≡ met_at (old l.bank) l.at) × (l.last ≡ goes (old l.bank) l.at) × MarksAt (old l.bank) l.at l.marks
 
 abbrev pub decreases-loop-at : goal.decreases-loop-at
-decreases-loop-at l = l.to - l.at
+decreases-loop-at l = l.gap.end - l.at

@@ -13,7 +13,7 @@ pub loop-at-init : goal.loop-at-init
 loop-at-init c =
     let g = c.requires.at_gap in
     let f = old c.args.bank.now in
-    (omega arith, g.all_outside.forward, record { so_many = g.so_many; going = sym g.no_run }, lists_none f c.args.from c.args.runs.now)
+    (omega arith, g.all_outside.forward, record { so_many = g.so_many; going = sym g.no_run }, lists_none f c.args.gap.start c.args.runs.now)
 
 pub end-end-requires : goal.end-end-requires
 end-end-requires c =
@@ -32,7 +32,7 @@ list_marked-listed-requires c =
     let w = whole_small _ g.whole in
     let e = c.end-end.ensures in
     let p = piece_of g.all_outside c.loop-at.invariant.0 c.loop-at-test.true e in
-    let m = met_on (old c.args.bank.now) {k = c.end-end.result} {m = c.args.to} (omega arith) in record { piece = (p, omega arith, omega (arith, g.all_outside.within, w.1)); mark_tells = mark_tells c.requires.marks_at.0 p (omega (arith, g.all_outside.within, w.1)); reached = (c.loop-at.invariant.2, omega (arith, c.loop-at.invariant.3.same_length, c.requires.marks_at.1)) }
+    let m = met_on (old c.args.bank.now) {k = c.end-end.result} {m = c.args.gap.end} (omega arith) in record { piece = (p, omega arith, omega (arith, g.all_outside.within, w.1)); mark_tells = mark_tells c.requires.marks_at.0 p (omega (arith, g.all_outside.within, w.1)); reached = (c.loop-at.invariant.2, omega (arith, c.loop-at.invariant.3.same_length, c.requires.marks_at.1)) }
 
 pub loop-at-smaller : goal.loop-at-smaller
 loop-at-smaller c = let e = c.end-end.ensures in omega arith
@@ -47,18 +47,18 @@ pub close-done-requires : goal.close-done-requires
 close-done-requires c =
     let f = old c.args.bank.now in
     let w = whole_small _ c.requires.at_gap.whole in
-    let e : c.loop-at.at ≡ c.args.to = omega arith in
+    let e : c.loop-at.at ≡ c.args.gap.end = omega arith in
     let reached = rw e at c.loop-at.invariant.2 in
-    let m = closing_met f c.args.to reached in
-    (omega (arith, c.requires.at_gap.all_outside.within, w.1), closing_small f c.args.to reached, omega (arith, c.loop-at.invariant.3.same_length, c.requires.marks_at.1))
+    let m = closing_met f c.args.gap.end reached in
+    (omega (arith, c.requires.at_gap.all_outside.within, w.1), closing_small f c.args.gap.end reached, omega (arith, c.loop-at.invariant.3.same_length, c.requires.marks_at.1))
 
 pub shape_of-runs : goal.shape_of-runs
 shape_of-runs c =
-    let e : c.loop-at.at ≡ c.args.to = omega arith in
-    (lists_gap (rw e at c.loop-at.invariant.3) (rw e at c.loop-at.invariant.2) c.close-done.ensures.1).same_length
+    let e : c.loop-at.at ≡ c.args.gap.end = omega arith in
+    (lists_gap c.args.gap (rw e at c.loop-at.invariant.3) (rw e at c.loop-at.invariant.2) c.close-done.ensures.1).same_length
 
 pub returns : goal.returns
 returns c =
     let f = old c.args.bank.now in
-    let e : c.loop-at.at ≡ c.args.to = omega arith in
-    let r = c.close-done.ensures in record { value = ap (λ (x : Progress). x.runs) r.0 ∙ closing_met f c.args.to (rw e at c.loop-at.invariant.2); lists_gap = lists_gap (rw e at c.loop-at.invariant.3) (rw e at c.loop-at.invariant.2) r.1 }
+    let e : c.loop-at.at ≡ c.args.gap.end = omega arith in
+    let r = c.close-done.ensures in record { value = ap (λ (x : Progress). x.runs) r.0 ∙ closing_met f c.args.gap.end (rw e at c.loop-at.invariant.2); lists_gap = lists_gap c.args.gap (rw e at c.loop-at.invariant.3) (rw e at c.loop-at.invariant.2) r.1 }

@@ -6,7 +6,7 @@ use Rattle.clean.specs.Walk.{Reached, ListsOn}
 use Rattle.clean.proofs.list.list_gap.Given as goal
 
 abbrev pub invariant-loop-at : goal.invariant-loop-at
-invariant-loop-at l = (l.from ≤ l.at) × (l.at ≤ l.to) × Reached (old l.bank) l.at l.listed × ListsOn (old l.bank) l.from l.at l.initial.runs l.runs
+invariant-loop-at l = (l.gap.start ≤ l.at) × (l.at ≤ l.gap.end) × Reached (old l.bank) l.at l.listed × ListsOn (old l.bank) l.gap.start l.at l.initial.runs l.runs
 
 abbrev pub decreases-loop-at : goal.decreases-loop-at
-decreases-loop-at l = l.to - l.at
+decreases-loop-at l = l.gap.end - l.at

@@ -10,28 +10,22 @@ use Rattle.clean.proofs.Putting.{lists_none, lists_more}
 use Rattle.clean.proofs.list.list_piece.Goals as goal
 
 pub loop-at-init : goal.loop-at-init
-loop-at-init c = (omega arith, c.requires.piece.0.all_outside.forward, c.requires.reached.0, lists_none (old c.args.bank.now) c.args.from c.args.runs.now)
+loop-at-init c = (c.requires.reached.0, lists_none (old c.args.bank.now) c.args.from c.args.runs.now)
 
 pub list_byte-so_far-requires : goal.list_byte-so_far-requires
 list_byte-so_far-requires c =
     let f = old c.args.bank.now in
-    let m = met_on f {k = c.loop-at.at + 1} {m = c.args.to} (omega arith) in record { piece = (byte_piece c.requires.piece.0.all_outside c.loop-at.invariant.0 (omega arith), omega (arith, c.requires.piece.1)); reached = (c.loop-at.invariant.2, omega (arith, c.loop-at.invariant.3.same_length, c.requires.reached.1)) }
-
-pub overflow_add-at : goal.overflow_add-at
-overflow_add-at c = omega arith
-
-pub loop-at-smaller : goal.loop-at-smaller
-loop-at-smaller c = omega arith
+    let m = met_on f {k = c.loop-at.at + 1} {m = c.args.to} (omega arith) in record { piece = (byte_piece c.requires.piece.0.all_outside (omega arith) (omega arith), omega (arith, c.requires.piece.1)); reached = (c.loop-at.invariant.0, omega (arith, c.loop-at.invariant.1.same_length, c.requires.reached.1)) }
 
 pub loop-at-preserved : goal.loop-at-preserved
 loop-at-preserved c =
     let e = c.list_byte-so_far.ensures in
-    (omega arith, omega arith, e.reached_2, lists_more c.loop-at.invariant.3 e.lists_on)
+    (e.reached_2, lists_more c.loop-at.invariant.1 e.lists_on)
 
 pub shape_of-runs : goal.shape_of-runs
-shape_of-runs c = c.loop-at.invariant.3.same_length
+shape_of-runs c = c.loop-at.invariant.1.same_length
 
 pub returns : goal.returns
 returns c =
-    let e : c.loop-at.at ≡ c.args.to = omega arith in
-    record { reached_2 = rw (← e) c.loop-at.invariant.2; lists_on = rw (← e) c.loop-at.invariant.3 }
+    let e : c.loop-at.at ≡ c.args.to = omega (arith, c.requires.piece.0.all_outside.forward) in
+    record { reached_2 = rw (← e) c.loop-at.invariant.0; lists_on = rw (← e) c.loop-at.invariant.1 }

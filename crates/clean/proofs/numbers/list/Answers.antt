@@ -15,40 +15,30 @@ pub loop-i-init : goal.loop-i-init
 loop-i-init c =
     let a = c.args in
     let none = numbers_none (mark_in a.marks.now) in
-    (omega arith, sym (ap length none), rw none)
-
-pub bounds-marks-i : goal.bounds-marks-i
-bounds-marks-i c = omega (arith, c.requires.0)
+    (sym (ap length none), rw none)
 
 pub put-m-requires : goal.put-m-requires
 put-m-requires c =
     let marked = mark_in c.args.marks.now in
     let more = numbers_more marked c.loop-i.i in
-    let on = numbers_on marked {k = c.loop-i.i + 1} {m = c.args.n} (omega arith) in
-    let n = ap length c.loop-i.invariant.2 ∙ length-sets c.args.sectors.now 0 (numbers_at marked c.loop-i.i) in
-    (omega (arith, c.requires.1), omega (arith, c.loop-i.invariant.1, c.requires.2))
-
-pub overflow_add-i : goal.overflow_add-i
-overflow_add-i c = omega arith
-
-pub loop-i-smaller : goal.loop-i-smaller
-loop-i-smaller c = omega arith
+    let on = numbers_on marked {k = c.loop-i.i + 1} {m = length c.args.marks.now} (omega arith) in
+    let n = ap length c.loop-i.invariant.1 ∙ length-sets c.args.sectors.now 0 (numbers_at marked c.loop-i.i) in
+    (omega (arith, c.requires.0), omega (arith, c.loop-i.invariant.0, c.requires.1))
 
 pub loop-i-preserved : goal.loop-i-preserved
 loop-i-preserved c =
     let marked = mark_in c.args.marks.now in
     let put = c.put-m.ensures in (
-      omega arith,
-      put.0 ∙ rw c.loop-i.invariant.1 (sym (numbers_more marked c.loop-i.i)),
-      put.1 ∙ rw (c.loop-i.invariant.2, numbers_next marked c.loop-i.i) (sets_next c.args.sectors.now (numbers_at marked c.loop-i.i) _ 0 (omega (arith, c.loop-i.invariant.1))),
+      put.0 ∙ rw c.loop-i.invariant.0 (sym (numbers_more marked c.loop-i.i)),
+      put.1 ∙ rw (c.loop-i.invariant.1, numbers_next marked c.loop-i.i) (sets_next c.args.sectors.now (numbers_at marked c.loop-i.i) _ 0 (omega (arith, c.loop-i.invariant.0))),
     )
 
 pub shape_of-sectors : goal.shape_of-sectors
 shape_of-sectors c =
     let a = c.args in
-    ap length c.loop-i.invariant.2 ∙ length-sets a.sectors.now 0 (numbers_at (mark_in a.marks.now) c.loop-i.i)
+    ap length c.loop-i.invariant.1 ∙ length-sets a.sectors.now 0 (numbers_at (mark_in a.marks.now) c.loop-i.i)
 
 pub returns : goal.returns
 returns c =
-    let e : c.loop-i.i ≡ c.args.n = omega arith in
-    rw (← e) c.loop-i.invariant.2
+    let e : c.loop-i.i ≡ length c.args.marks.now = omega arith in
+    rw (← e) c.loop-i.invariant.1

@@ -1,7 +1,6 @@
 -- `clean::numbers::list` meets its contract: behind each sector the numbers up to there are listed.
 -- Assumes nothing.
 use mathlib.Core.Path.{◌≡◌}
-use Prim.Native.Nat.{◌-◌, ◌≤◌}
 use lib.ListN.{length}
 use lib.Seq.{sets}
 use Rattle.clean.specs.Sectors.{numbers_at}
@@ -9,7 +8,4 @@ use Rattle.clean.specs.Walk.{mark_in}
 use Rattle.clean.proofs.numbers.list.Given as goal
 
 abbrev pub invariant-loop-i : goal.invariant-loop-i
-invariant-loop-i l = (l.i ≤ l.n) × (l.m ≡ length (numbers_at (mark_in l.marks) l.i)) × (l.sectors ≡ sets l.initial.sectors 0 (numbers_at (mark_in l.marks) l.i))
-
-abbrev pub decreases-loop-i : goal.decreases-loop-i
-decreases-loop-i l = l.n - l.i
+invariant-loop-i l = (l.m ≡ length (numbers_at (mark_in l.marks) l.i)) × (l.sectors ≡ sets l.initial.sectors 0 (numbers_at (mark_in l.marks) l.i))

@@ -7,4 +7,4 @@ pub returns : goal.returns
 returns c =
     let args = c.args in
     put-version args.buffer.now _ args.major args.minor args.revision
-    c.put_number4.ensures c.response_code.ensures c.put_control.ensures
+    c.put_number.ensures c.response_code.ensures c.put_control.ensures

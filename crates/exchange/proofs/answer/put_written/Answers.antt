@@ -7,4 +7,4 @@ pub returns : goal.returns
 returns c =
     let args = c.args in
     put_written args.buffer.now _ args.sector args.res args.write args.crc
-    c.put_number4.ensures c.put_write.ensures
+    c.put_number.ensures c.put_write.ensures

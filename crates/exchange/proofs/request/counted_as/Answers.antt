@@ -9,4 +9,4 @@ returns-then-n-parameter_bytes c = counted_wrong _ _ _ (λ q. c.if-n-parameter_b
 
 pub returns : goal.returns
 returns c =
-    counted_right _ _ _ (c.if-n-parameter_bytes.false ∙ c.parameter_bytes.ensures) c.number4.ensures c.number4-2.ensures
+    counted_right _ _ _ (c.if-n-parameter_bytes.false ∙ c.parameter_bytes.ensures) c.number.ensures c.number-2.ensures

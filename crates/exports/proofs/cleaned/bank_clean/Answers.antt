@@ -7,6 +7,4 @@ pub returns-then-told-lt2 : goal.returns-then-told-lt2
 returns-then-told-lt2 c = not_counted (c.if-told-lt2.true)
 
 pub returns : goal.returns
-returns c =
-    let counts = c.counts_of-counts.ensures in
-    all_counted c.if-told-lt2.false c.clean-cleaned.ensures c.cleaned_number.ensures counts.0 counts.1
+returns c = all_counted c.if-told-lt2.false c.clean-cleaned.ensures c.number_of.ensures c.counts_of-counts.ensures

@@ -1,13 +1,9 @@
 -- `exports::heard::night_take` meets its contract: at each turn the first k slots are heard.
 -- Assumes nothing.
 use mathlib.Core.Path.{◌≡◌}
-use Prim.Native.Nat.{◌≤◌, ◌-◌}
 use lib.ListN.{length}
 use Rattle.exports.specs.Heard.{stood, heard_of}
 use Rattle.exports.proofs.heard.night_take.Given as goal
 
 abbrev pub invariant-loop-k : goal.invariant-loop-k
-invariant-loop-k l = (l.k ≤ l.count) × (length l.buffer ≡ length l.initial.buffer) × (stood l.night l.told l.buffer ≡ heard_of l.image l.slots (stood l.initial.night l.initial.told l.initial.buffer) l.k)
-
-abbrev pub decreases-loop-k : goal.decreases-loop-k
-decreases-loop-k l = l.count - l.k
+invariant-loop-k l = (length l.buffer ≡ length l.initial.buffer) × (stood l.night l.told l.buffer ≡ heard_of l.image l.slots (stood l.initial.night l.initial.told l.initial.buffer) l.k)

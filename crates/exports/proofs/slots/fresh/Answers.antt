@@ -8,4 +8,4 @@ use Rattle.exports.proofs.slots.fresh.Goals as goal
 pub returns : goal.returns
 returns c =
     let made = c.new-made.ensures.is in
-    ap (λ (h : Hosted). h.client) (c.initiate-started.ensures.is ∙ ap (λ (h : Hosted). initiate_of h.client) made)
+    ap (λ (h : Hosted). h.client) (c.initiate.ensures.is ∙ ap (λ (h : Hosted). initiate_of h.client) made)

@@ -9,12 +9,12 @@ use Rattle.flash.proofs.bank.put_word.Goals as goal
 pub returns-then-word : goal.returns-then-word
 returns-then-word c =
     let a = c.args in
-    let small : (j : ℕ) → get_or a.bytes.now j 0 < 256 = λ j. omega (arith, c.shared_slice_known-1.given j) in
-    word-left a.bytes.now a.i _ (omega arith) c.number4-word.ensures small a.k c.if-word.true
+    let small : (j : ℕ) → get_or a.bytes.now j 0 < 256 = λ j. omega (arith, c.type_inv.bytes j) in
+    word-left a.bytes.now a.i _ (omega arith) c.number-word.ensures small a.k c.if-word.true
 
 pub returns : goal.returns
 returns c =
     let a = c.args in
-    let small : (j : ℕ) → get_or a.bytes.now j 0 < 256 = λ j. omega (arith, c.shared_slice_known-1.given j) in
-    word-put a.bytes.now a.i _ (omega arith) c.number4-word.ensures small a.k a.bank.now
+    let small : (j : ℕ) → get_or a.bytes.now j 0 < 256 = λ j. omega (arith, c.type_inv.bytes j) in
+    word-put a.bytes.now a.i _ (omega arith) c.number-word.ensures small a.k a.bank.now
     c.if-word.false c.store.ensures

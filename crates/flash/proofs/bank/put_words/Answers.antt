@@ -2,34 +2,24 @@
 -- Assumes nothing.
 use mathlib.Core.Path.{◌≡◌, refl, ◌∙◌}
 use native.Mathlib.Omega.{arith}
-use borrow.Author.Rules.{rules}
 use Rattle.flash.proofs.Words.{words_none, words_next}
 use Rattle.flash.proofs.bank.put_words.Goals as goal
 
 pub loop-i-init : goal.loop-i-init
-loop-i-init c = (search rules, refl, words_none c.args.k c.args.bytes.now)
-
-pub put_word-requires : goal.put_word-requires
-put_word-requires c = omega arith
-
-pub overflow_add-i : goal.overflow_add-i
-overflow_add-i c = omega arith
-
-pub loop-i-smaller : goal.loop-i-smaller
-loop-i-smaller c = omega arith
+loop-i-init c = (refl, words_none c.args.k c.args.bytes.now)
 
 pub loop-i-preserved : goal.loop-i-preserved
 loop-i-preserved c =
     let p = c.put_word in
     let a = c.args in
-    (omega arith, p.auto.bank ∙ c.loop-i.invariant.1, words_next a.k a.bytes.now c.loop-i.i c.loop-i.invariant.2 p.ensures)
+    (p.auto.bank ∙ c.loop-i.invariant.0, words_next a.k a.bytes.now c.loop-i.i c.loop-i.invariant.1 p.ensures)
 
 pub shape_of-bank : goal.shape_of-bank
-shape_of-bank c = c.loop-i.invariant.1
+shape_of-bank c = c.loop-i.invariant.0
 
 pub returns : goal.returns
 returns c =
     let l = c.loop-i in
     let a = c.args in
     let e : l.i ≡ a.n = omega arith in
-    rw e at l.invariant.2
+    rw e at l.invariant.1

@@ -2,12 +2,11 @@
 -- Assumes nothing.
 use mathlib.Core.Path.{◌≡◌, refl, ◌∙◌}
 use native.Mathlib.Omega.{arith}
-use borrow.Author.Rules.{rules}
 use Rattle.flash.proofs.Sweeps.{sweep_none, sweep_next, sweep_end}
 use Rattle.flash.proofs.bank.sweep.Goals as goal
 
 pub loop-j-init : goal.loop-j-init
-loop-j-init c = (search rules, refl, sweep_none c.args.received.now _)
+loop-j-init c = (refl, sweep_none c.args.received.now _)
 
 pub loop-j-preserved : goal.loop-j-preserved
 loop-j-preserved c =
@@ -15,10 +14,10 @@ loop-j-preserved c =
     let w = c.was_received in
     let a = c.args in
     let l = c.loop-j in
-    (omega arith, o.auto.bank ∙ l.invariant.1, sweep_next a.received.now _ l.j l.invariant.2 l.invariant.1 w.ensures o.ensures)
+    (o.auto.bank ∙ l.invariant.0, sweep_next a.received.now _ l.j l.invariant.1 l.invariant.0 w.ensures o.ensures)
 
 pub shape_of-bank : goal.shape_of-bank
-shape_of-bank c = c.loop-j.invariant.1
+shape_of-bank c = c.loop-j.invariant.0
 
 pub returns : goal.returns
 returns c =
@@ -26,4 +25,4 @@ returns c =
     let h = c.had-last in
     let a = c.args in
     let e : l.j ≡ h.result = omega arith in
-    sweep_end a.received.now a.n l.j a.bank.now l.invariant.2 (e ∙ h.ensures)
+    sweep_end a.received.now a.n l.j a.bank.now l.invariant.1 (e ∙ h.ensures)

@@ -1,24 +1,20 @@
--- `flash::sector::holds` meets its contract.
+-- `flash::sector::holds` meets its contract: the first part is compared, and then the rest.
 -- Assumes nothing.
-use mathlib.Core.Path.{◌∙◌, ap, sym}
+use mathlib.Core.Path.{ap, ◌∙◌}
 use native.Mathlib.Omega.{arith}
-use lib.Seq.{length-take-le}
 use Rattle.buffer.specs.Compare.{blank_of}
 use Rattle.buffer.proofs.Parts.{rest_out}
 use Rattle.flash.proofs.Words.{holds_not, holds_rest}
 use Rattle.flash.proofs.sector.holds.Goals as goal
 
-pub slice_bounds-same-end : goal.slice_bounds-same-end
-slice_bounds-same-end c = sym (length-take-le _ c.args.sector.now (omega arith))
-
-pub returns-then-not-same : goal.returns-then-not-same
-returns-then-not-same c =
-    let a = c.args in
-    holds_not a.sector.now a.bytes.now (omega arith) (omega arith) c.same.ensures c.if-not-same.true
-
-pub returns : goal.returns
-returns c =
+pub returns-then-same : goal.returns-then-same
+returns-then-same c =
     let a = c.args in
     c.blank.ensures
     ∙ ap blank_of (rest_out a.sector.now _)
-    ∙ holds_rest a.sector.now a.bytes.now (omega arith) (omega arith) c.same.ensures c.if-not-same.false
+    ∙ holds_rest a.sector.now a.bytes.now (omega arith) (omega arith) c.same.ensures c.if-same.true
+
+pub returns-else-same : goal.returns-else-same
+returns-else-same c =
+    let a = c.args in
+    c.if-same.false ∙ holds_not a.sector.now a.bytes.now (omega arith) (omega arith) c.same.ensures c.if-same.false

@@ -14,4 +14,4 @@ returns-in-Erase c =
 pub returns-in-Word : goal.returns-in-Word
 returns-in-Word c =
     let a = c.args in
-    c.put_number4.ensures ∙ sym (ap (λ (s : Store). stored_in s a.sector.now) c.in-Word.is)
+    c.put_number.ensures ∙ sym (ap (λ (s : Store). stored_in s a.sector.now) c.in-Word.is)

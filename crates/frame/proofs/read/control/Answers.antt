@@ -13,28 +13,28 @@ returns-in_err-get c =
 
 pub returns-then-l-eq0 : goal.returns-then-l-eq0
 returns-then-l-eq0 c =
-    control_empty c.args.datagram.now c.wide-l.result (c.wide-l.ensures ∙ byte_there _ 1 c.in_ok-get.ensures.lookup.0 c.in_ok-get.ensures.lookup.1)
+    control_empty c.args.datagram.now c.from-l.result (c.from-l.ensures ∙ byte_there _ 1 c.in_ok-get.ensures.lookup.0 c.in_ok-get.ensures.lookup.1)
     (eq-eqb _ _ c.if-l-eq0.true)
 
 pub returns-then-datagram-l : goal.returns-then-datagram-l
 returns-then-datagram-l c =
-    control_length c.args.datagram.now c.wide-l.result (c.wide-l.ensures ∙ byte_there _ 1 c.in_ok-get.ensures.lookup.0 c.in_ok-get.ensures.lookup.1)
+    control_length c.args.datagram.now c.from-l.result (c.from-l.ensures ∙ byte_there _ 1 c.in_ok-get.ensures.lookup.0 c.in_ok-get.ensures.lookup.1)
     (ne_eqb _ _ c.if-l-eq0.false) (ne_eqb _ _ c.if-datagram-l.true)
 
 pub returns-then-not-checked : goal.returns-then-not-checked
 returns-then-not-checked c =
-    control_checksum c.args.datagram.now c.wide-l.result (c.wide-l.ensures ∙ byte_there _ 1 c.in_ok-get.ensures.lookup.0 c.in_ok-get.ensures.lookup.1)
+    control_checksum c.args.datagram.now c.from-l.result (c.from-l.ensures ∙ byte_there _ 1 c.in_ok-get.ensures.lookup.0 c.in_ok-get.ensures.lookup.1)
     (ne_eqb _ _ c.if-l-eq0.false) (eq-eqb _ _ c.if-datagram-l.false)
     (sym c.checked.ensures ∙ c.if-not-checked.true)
 
 pub returns-then-datagram-l-ne3 : goal.returns-then-datagram-l-ne3
 returns-then-datagram-l-ne3 c =
-    control_footer c.args.datagram.now c.wide-l.result (c.wide-l.ensures ∙ byte_there _ 1 c.in_ok-get.ensures.lookup.0 c.in_ok-get.ensures.lookup.1)
+    control_footer c.args.datagram.now c.from-l.result (c.from-l.ensures ∙ byte_there _ 1 c.in_ok-get.ensures.lookup.0 c.in_ok-get.ensures.lookup.1)
     (ne_eqb _ _ c.if-l-eq0.false) (eq-eqb _ _ c.if-datagram-l.false)
     (sym c.checked.ensures ∙ c.if-not-checked.false) (ne_eqb _ _ c.if-datagram-l-ne3.true)
 
 pub returns : goal.returns
 returns c =
-    control_good c.args.datagram.now c.wide-l.result (c.wide-l.ensures ∙ byte_there _ 1 c.in_ok-get.ensures.lookup.0 c.in_ok-get.ensures.lookup.1)
+    control_good c.args.datagram.now c.from-l.result (c.from-l.ensures ∙ byte_there _ 1 c.in_ok-get.ensures.lookup.0 c.in_ok-get.ensures.lookup.1)
     (ne_eqb _ _ c.if-l-eq0.false) (eq-eqb _ _ c.if-datagram-l.false)
     (sym c.checked.ensures ∙ c.if-not-checked.false) (eq-eqb _ _ c.if-datagram-l-ne3.false)

@@ -15,10 +15,8 @@ returns c =
     let from = c.from in
     let put-at = c.put_at in
     let put_front = c.put_front in
-    let put-number22 = c.put_number2-2 in
-    let put-number2 = c.put_number2 in
     let c20 = c in
     let args = c20.before.before.before.before.args in
     write_put args.buffer.now args.sector args.bytes.now args.footer (omega arith) (omega arith)
-    put-number2.ensures put-number22.ensures put_front.ensures put-at.ensures
+    c.put_number.ensures c.put_number-2.ensures put_front.ensures put-at.ensures
     from.ensures c.close.ensures

@@ -13,5 +13,5 @@ returns-then-not-pair_at c = sym (due_none c.args.behind.now (sym c.pair_at.ensu
 pub returns : goal.returns
 returns c =
     let pair = sym c.pair_at.ensures ∙ c.if-not-pair_at.false in
-    let e = c.wide.ensures.0 ∙ c.value_at.ensures pair in
+    let e = c.from.ensures ∙ c.value_at.ensures pair in
     omega arith

@@ -19,26 +19,26 @@ returns-then-image-n c =
     let a = c.args in
     read-2 a.text.now a.bank a.n a.image.now (sym c.good_n.ensures ∙ c.if-not-good_n.false) c.if-image-n.true
 
-pub read_lines-outcome-requires : goal.read_lines-outcome-requires
-read_lines-outcome-requires c =
+pub read_lines-requires : goal.read_lines-requires
+read_lines-requires c =
     let a = c.args in
     let h = good_high a.n (sym c.good_n.ensures ∙ c.if-not-good_n.false) in
     let b = start_small a.bank in
-    (omega arith, omega (arith, c.fill.auto.buffer, c.if-image-n.false))
+    record { base_small = omega arith; size_small = omega (arith, c.fill.auto.buffer, c.if-image-n.false) }
 
-pub returns-in-Stopped : goal.returns-in-Stopped
-returns-in-Stopped c =
+pub returns-in-Err : goal.returns-in-Err
+returns-in-Err c =
     let a = c.args in
     let g = sym c.good_n.ensures ∙ c.if-not-good_n.false in
-    read-refused a.text.now a.bank a.n a.image.now g c.if-image-n.false (c.wide4-base.ensures.0 ∙ c.start_address.ensures)
+    read-refused a.text.now a.bank a.n a.image.now g c.if-image-n.false c.start_address-base.ensures
     c.fill.ensures
-    _ c.read_lines-outcome.new.image c.in-Stopped.ensures c.read_lines-outcome.auto.image
-    c.fill-in-Stopped.ensures
+    _ c.read_lines.new.image c.in-Err.ensures c.read_lines.auto.image
+    c.fill-in-Err.ensures
 
-pub returns-in-Through : goal.returns-in-Through
-returns-in-Through c =
+pub returns-in-Ok : goal.returns-in-Ok
+returns-in-Ok c =
     let a = c.args in
     let g = sym c.good_n.ensures ∙ c.if-not-good_n.false in
-    read-accepted a.text.now a.bank a.n a.image.now g c.if-image-n.false (c.wide4-base.ensures.0 ∙ c.start_address.ensures)
+    read-accepted a.text.now a.bank a.n a.image.now g c.if-image-n.false c.start_address-base.ensures
     c.fill.ensures
-    c.in-Through.ensures
+    c.in-Ok.ensures

@@ -7,30 +7,29 @@ use Rattle.hex_text.proofs.record.look.Goals as goal
 pub returns-then-state : goal.returns-then-state
 returns-then-state c = looked_over _ _ _ _ _ c.if-state.true
 
-pub returns-then-sum-eq-NO_SUM : goal.returns-then-sum-eq-NO_SUM
-returns-then-sum-eq-NO_SUM c =
-    looked-1 _ _ _ _ _ c.if-state.false c.record_sum-sum.ensures c.if-sum-eq-NO_SUM.true c.place_of.ensures
+pub returns-in_default : goal.returns-in_default
+returns-in_default c = looked-1 _ _ _ _ _ c.if-state.false c.in_default.ensures c.place_of.ensures
 
 pub overflow_sub-result : goal.overflow_sub-result
 overflow_sub-result c =
     let a = c.args in
-    looked-some a.line.now a.base a.size a.state _ c.if-state.false c.record_sum-sum.ensures c.if-sum-eq-NO_SUM.false
+    looked-some a.line.now a.base a.size a.state _ c.if-state.false c.in-Some.ensures
 
 pub returns-then-sum-ne0 : goal.returns-then-sum-ne0
 returns-then-sum-ne0 c =
-    looked-2 _ _ _ _ _ c.if-state.false c.record_sum-sum.ensures c.if-sum-eq-NO_SUM.false c.if-sum-ne0.true
+    looked-2 _ _ _ _ _ c.if-state.false c.in-Some.ensures c.if-sum-ne0.true
 
 pub slice_bounds-typed_at-end : goal.slice_bounds-typed_at-end
 slice_bounds-typed_at-end c =
     let a = c.args in
-    let f = looked-fits a.line.now a.base a.size a.state _ c.if-state.false c.record_sum-sum.ensures c.if-sum-eq-NO_SUM.false
+    let f = looked-fits a.line.now a.base a.size a.state _ c.if-state.false c.in-Some.ensures
     c.requires.1 in
     omega (arith, f)
 
 pub slice_bounds-typed_at-end-2 : goal.slice_bounds-typed_at-end-2
 slice_bounds-typed_at-end-2 c =
     let a = c.args in
-    let f = looked-fits a.line.now a.base a.size a.state _ c.if-state.false c.record_sum-sum.ensures c.if-sum-eq-NO_SUM.false
+    let f = looked-fits a.line.now a.base a.size a.state _ c.if-state.false c.in-Some.ensures
     c.requires.1 in
     sym (length-take-le _ _ (omega (arith, f)))
 
@@ -38,11 +37,11 @@ pub typed_at-requires : goal.typed_at-requires
 typed_at-requires c =
     let a = c.args in
     let q = c.requires in (
-      looked-counted a.line.now a.base a.size a.state _ c.if-state.false c.record_sum-sum.ensures c.if-sum-eq-NO_SUM.false q.1,
-      (q.0.upper_small, (q.0.base_small, q.0.size_small)),
+      looked-counted a.line.now a.base a.size a.state _ c.if-state.false c.in-Some.ensures q.1,
+      q.0,
     )
 
 pub returns : goal.returns
 returns c =
-    looked-typed _ _ _ _ _ c.if-state.false c.record_sum-sum.ensures c.if-sum-eq-NO_SUM.false c.requires.1 c.if-sum-ne0.false
+    looked-typed _ _ _ _ _ c.if-state.false c.in-Some.ensures c.requires.1 c.if-sum-ne0.false
     c.typed_at.ensures

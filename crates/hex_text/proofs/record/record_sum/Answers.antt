@@ -1,5 +1,6 @@
 -- `hex_text::record::record_sum` meets its contract: each test that a line fails shows that it is no record, and one that passes all is one.
 -- Assumes nothing.
+use Rattle.std.proofs.Common.{refl}
 use Rattle.hex_text.proofs.Records.{summed_short, summed_long, summed_even, summed_colon, summed-bytes, summed-count, summed}
 use Rattle.hex_text.proofs.record.record_sum.Goals as goal
 
@@ -15,23 +16,21 @@ returns-then-len-eq0 c = summed_even _ _ _ c.if-len-eq0.true
 pub returns-then-line-ne58 : goal.returns-then-line-ne58
 returns-then-line-ne58 c = summed_colon _ _ _ c.if-line-ne58.true
 
-pub returns-then-sum-eq-NO_SUM : goal.returns-then-sum-eq-NO_SUM
-returns-then-sum-eq-NO_SUM c =
+pub returns-in_err-sum : goal.returns-in_err-sum
+returns-in_err-sum c =
     let a = c.args in
-    summed-bytes a.line.now a.bytes.now _ c.if-len-eq0.false c.spell-sum.ensures.sum c.if-sum-eq-NO_SUM.true
+    rw c.from_residual.ensures (summed-bytes a.line.now a.bytes.now _ c.if-len-eq0.false c.in_err-sum.ensures.sum)
 
-pub returns-then-k-wide : goal.returns-then-k-wide
-returns-then-k-wide c =
+pub returns-then-k-from : goal.returns-then-k-from
+returns-then-k-from c =
     let a = c.args in
-    let s = c.spell-sum.ensures in
-    let good = c.if-sum-eq-NO_SUM.false in
-    summed-count a.line.now a.bytes.now _ c.if-len-eq0.false s.sum good c.if-line-ne58.false
-    c.if-len-lt11.false c.if-len.false c.requires (s.put good) c.wide.ensures.0 c.if-k-wide.true
+    let s = c.in_ok-sum.ensures in
+    summed-count a.line.now a.bytes.now _ c.if-len-eq0.false s.sum c.if-line-ne58.false
+    c.if-len-lt11.false c.if-len.false c.requires (s.put _ refl) c.from.ensures c.if-k-from.true
 
 pub returns : goal.returns
 returns c =
     let a = c.args in
-    let s = c.spell-sum.ensures in
-    let good = c.if-sum-eq-NO_SUM.false in
-    summed a.line.now a.bytes.now _ c.if-len-eq0.false s.sum good c.if-line-ne58.false
-    c.if-len-lt11.false c.if-len.false c.requires (s.put good) c.wide.ensures.0 c.if-k-wide.false
+    let s = c.in_ok-sum.ensures in
+    summed a.line.now a.bytes.now _ c.if-len-eq0.false s.sum c.if-line-ne58.false
+    c.if-len-lt11.false c.if-len.false c.requires (s.put _ refl) c.from.ensures c.if-k-from.false

@@ -6,48 +6,45 @@ use Rattle.hex_text.proofs.record.typed_at.Goals as goal
 
 pub returns-then-kind-eq0 : goal.returns-then-kind-eq0
 returns-then-kind-eq0 c =
-    let e = typed_data _ _ _ _ _ (address_read _ c.requires.0 c.number2-address.ensures) c.if-kind-eq0.true in
-    c.data_at.ensures ∙ rw c.wide.ensures.0 (sym e)
+    let e = typed_data _ _ _ _ _ (address_read _ c.requires.0 (c.from-address.ensures ∙ c.number.ensures)) c.if-kind-eq0.true in
+    c.data_at.ensures ∙ rw c.from.ensures (sym e)
 
 pub returns-then-address-ne0 : goal.returns-then-address-ne0
 returns-then-address-ne0 c =
-    sym (typed-field _ _ _ _ _ (address_read _ c.requires.0 c.number2-address.ensures) c.if-kind-eq0.false c.if-address-ne0.true)
+    sym (typed-field _ _ _ _ _ (address_read _ c.requires.0 (c.from-address.ensures ∙ c.number.ensures)) c.if-kind-eq0.false c.if-address-ne0.true)
 
-pub returns-then-n-eq0 : goal.returns-then-n-eq0
-returns-then-n-eq0 c =
-    let address = address_read _ c.requires.0 c.number2-address.ensures in
-    sym (typed-end _ _ _ _ _ address c.if-kind-eq0.false c.if-address-ne0.false c.if-kind-eq1.true c.if-n-eq0.true)
+pub returns-in-1-eq0 : goal.returns-in-1-eq0
+returns-in-1-eq0 c =
+    let address = address_read _ c.requires.0 (c.from-address.ensures ∙ c.number.ensures) in
+    sym (typed-end _ _ _ _ _ address c.if-kind-eq0.false c.if-address-ne0.false c.in-1-eq0.is-0 c.in-1-eq0.is-1)
 
-pub returns-then-kind-eq1 : goal.returns-then-kind-eq1
-returns-then-kind-eq1 c =
-    let address = address_read _ c.requires.0 c.number2-address.ensures in
-    sym (typed-bad _ _ _ _ _ address c.if-kind-eq0.false c.if-address-ne0.false (λ x. c.if-n-eq0.false) (λ x y. omega arith) (λ x y. omega arith))
+pub returns-in-4-eq2 : goal.returns-in-4-eq2
+returns-in-4-eq2 c =
+    let address = address_read _ c.requires.0 (c.from-address.ensures ∙ c.number.ensures) in
+    let upper = upper_read _ c.requires.0 c.in-4-eq2.is-1 c.number-in-4-eq2.ensures in
+    sym (typed-upper _ _ _ _ _ address c.if-kind-eq0.false c.if-address-ne0.false upper c.in-4-eq2.is-0 c.in-4-eq2.is-1)
 
-pub returns-then-n-eq2 : goal.returns-then-n-eq2
-returns-then-n-eq2 c =
-    let address = address_read _ c.requires.0 c.number2-address.ensures in
-    let upper = upper_read _ c.requires.0 c.if-n-eq2.true c.number2.ensures in
-    sym (typed-upper _ _ _ _ _ address c.if-kind-eq0.false c.if-address-ne0.false upper c.if-kind-eq4.true c.if-n-eq2.true)
+pub returns-in-5-eq4 : goal.returns-in-5-eq4
+returns-in-5-eq4 c =
+    let address = address_read _ c.requires.0 (c.from-address.ensures ∙ c.number.ensures) in
+    sym (typed-other _ _ _ _ _ address c.if-kind-eq0.false c.if-address-ne0.false c.in-5-eq4.is-0 c.in-5-eq4.is-1)
 
-pub returns-then-kind-eq4 : goal.returns-then-kind-eq4
-returns-then-kind-eq4 c =
-    let address = address_read _ c.requires.0 c.number2-address.ensures in
-    sym (typed-bad _ _ _ _ _ address c.if-kind-eq0.false c.if-address-ne0.false (λ x y. omega arith) (λ x. c.if-n-eq2.false) (λ x y. omega arith))
+pub returns-in_default : goal.returns-in_default
+returns-in_default c =
+    let address = address_read _ c.requires.0 (c.from-address.ensures ∙ c.number.ensures) in
+    sym (typed-bad _ _ _ _ _ address c.if-kind-eq0.false c.if-address-ne0.false (λ x y. omega arith) (λ x y. omega arith) (λ x y. omega arith))
 
-pub returns-then-n-eq4 : goal.returns-then-n-eq4
-returns-then-n-eq4 c =
-    let address = address_read _ c.requires.0 c.number2-address.ensures in
-    sym (typed-other _ _ _ _ _ address c.if-kind-eq0.false c.if-address-ne0.false c.if-kind-eq5.true c.if-n-eq4.true)
+pub returns-in_default-2 : goal.returns-in_default-2
+returns-in_default-2 c =
+    let address = address_read _ c.requires.0 (c.from-address.ensures ∙ c.number.ensures) in
+    sym (typed-bad _ _ _ _ _ address c.if-kind-eq0.false c.if-address-ne0.false (λ x y. omega arith) (λ x y. omega arith) (λ x y. omega arith))
 
-pub returns-else-n-eq4 : goal.returns-else-n-eq4
-returns-else-n-eq4 c =
-    let address = address_read _ c.requires.0 c.number2-address.ensures in
-    sym (typed-bad _ _ _ _ _ address c.if-kind-eq0.false c.if-address-ne0.false (λ x y. omega arith) (λ x y. omega arith) (λ x. c.if-n-eq4.false))
+pub returns-in_default-3 : goal.returns-in_default-3
+returns-in_default-3 c =
+    let address = address_read _ c.requires.0 (c.from-address.ensures ∙ c.number.ensures) in
+    sym (typed-bad _ _ _ _ _ address c.if-kind-eq0.false c.if-address-ne0.false (λ x y. omega arith) (λ x y. omega arith) (λ x y. omega arith))
 
-pub returns-else-kind-eq5 : goal.returns-else-kind-eq5
-returns-else-kind-eq5 c =
-    let address = address_read _ c.requires.0 c.number2-address.ensures in
-    let end = c.if-kind-eq1.false in
-    let upper = c.if-kind-eq4.false in
-    let start = c.if-kind-eq5.false in
-    sym (typed-bad _ _ _ _ _ address c.if-kind-eq0.false c.if-address-ne0.false (λ x y. end x) (λ x y. upper x) (λ x y. start x))
+pub returns-in_default-4 : goal.returns-in_default-4
+returns-in_default-4 c =
+    let address = address_read _ c.requires.0 (c.from-address.ensures ∙ c.number.ensures) in
+    sym (typed-bad _ _ _ _ _ address c.if-kind-eq0.false c.if-address-ne0.false (λ x y. omega arith) (λ x y. omega arith) (λ x y. omega arith))

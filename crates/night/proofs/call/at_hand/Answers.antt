@@ -10,39 +10,39 @@ pub judge-verdict-requires : goal.judge-verdict-requires
 judge-verdict-requires c =
     let looked =
     looked_for c.args.image.now c.args.night.n c.args.night.tries _ _ _ _ c.number.ensures
-    (sym c.in-Good.is ∙ c.look.ensures) in
-    let found = lent _ _ _ _ _ _ _ looked in
-    record { sector_value = sector_good _ _ _ _ _ _ _ found; sector_size_in_bounds = sector_inside _ _ _ _ _ _ _ found }
+    (sym c.in-Ok.is ∙ c.look.ensures) in
+    let found = lent _ _ _ _ _ _ looked in
+    record { sector_value = sector_good _ _ _ _ _ _ found; sector_size_in_bounds = sector_inside _ _ _ _ _ _ found }
 
 pub moved-stand-requires : goal.moved-stand-requires
 moved-stand-requires c =
     let looked =
     looked_for c.args.image.now c.args.night.n c.args.night.tries _ _ _ _ c.number.ensures
-    (sym c.in-Good.is ∙ c.look.ensures) in
-    let found = lent _ _ _ _ _ _ _ looked in
+    (sym c.in-Ok.is ∙ c.look.ensures) in
+    let found = lent _ _ _ _ _ _ looked in
     omega (arith, found.there, found.count_is)
 
 pub goes_on-requires : goal.goes_on-requires
 goes_on-requires c =
     let looked =
     looked_for c.args.image.now c.args.night.n c.args.night.tries _ _ _ _ c.number.ensures
-    (sym c.in-Good.is ∙ c.look.ensures) in
-    let found = lent _ _ _ _ _ _ _ looked in
+    (sym c.in-Ok.is ∙ c.look.ensures) in
+    let found = lent _ _ _ _ _ _ looked in
     let there =
     stands_there c.args.name c.args.gone c.args.night.tries _ c.judge-verdict.result _ found.there found.count_is
     c.moved-stand.ensures in
     record { n_value = found.good; n_value_2 = found.whole; room_in_bounds = found.roomy; stand_bound = there }
 
-pub returns-in-Refused : goal.returns-in-Refused
-returns-in-Refused c =
+pub returns-in-Err : goal.returns-in-Err
+returns-in-Err c =
     let looked =
     looked_for c.args.image.now c.args.night.n c.args.night.tries _ _ _ _ c.number.ensures
-    (sym c.in-Refused.is ∙ c.look.ensures) in
+    (sym c.in-Err.is ∙ c.look.ensures) in
     hand_refused _ _ _ _ _ _ _ _ looked c.told.ensures
 
-pub returns-in-Good : goal.returns-in-Good
-returns-in-Good c =
+pub returns-in-Ok : goal.returns-in-Ok
+returns-in-Ok c =
     let looked =
     looked_for c.args.image.now c.args.night.n c.args.night.tries _ _ _ _ c.number.ensures
-    (sym c.in-Good.is ∙ c.look.ensures) in
-    hand_moved _ _ _ _ _ _ _ _ _ _ _ _ looked c.judge-verdict.ensures c.moved-stand.ensures c.goes_on.ensures
+    (sym c.in-Ok.is ∙ c.look.ensures) in
+    hand_moved _ _ _ _ _ _ _ _ _ _ _ looked c.judge-verdict.ensures c.moved-stand.ensures c.goes_on.ensures

@@ -4,8 +4,8 @@ use mathlib.Core.Path.{sym, ◌∙◌}
 use Rattle.night.proofs.Calling.{over_refused, over_told}
 use Rattle.night.proofs.call.over.Goals as goal
 
-pub returns-in-Refused : goal.returns-in-Refused
-returns-in-Refused c = over_refused _ _ _ _ _ _ _ (sym c.in-Refused.is ∙ c.look.ensures) c.told.ensures
+pub returns-in-Err : goal.returns-in-Err
+returns-in-Err c = over_refused _ _ _ _ _ _ _ (sym c.in-Err.is ∙ c.look.ensures) c.told.ensures
 
-pub returns-in-Good : goal.returns-in-Good
-returns-in-Good c = over_told _ _ _ _ _ _ _ _ (sym c.in-Good.is ∙ c.look.ensures) c.told-in-Good.ensures
+pub returns-in-Ok : goal.returns-in-Ok
+returns-in-Ok c = over_told _ _ _ _ _ _ _ (sym c.in-Ok.is ∙ c.look.ensures) c.told-in-Ok.ensures

@@ -7,11 +7,11 @@ use Rattle.night.proofs.call.start.Goals as goal
 
 pub goes_on-requires : goal.goes_on-requires
 goes_on-requires c =
-    let found = lent _ _ _ _ _ _ _ (sym c.in-Good.is ∙ c.look.ensures) in
+    let found = lent _ _ _ _ _ _ (sym c.in-Ok.is ∙ c.look.ensures) in
     record { n_value = found.good; n_value_2 = found.whole; room_in_bounds = found.roomy; stand_bound = found.there }
 
-pub returns-in-Refused : goal.returns-in-Refused
-returns-in-Refused c = start_refused _ _ _ _ _ _ _ (sym c.in-Refused.is ∙ c.look.ensures) c.told.ensures
+pub returns-in-Err : goal.returns-in-Err
+returns-in-Err c = start_refused _ _ _ _ _ _ _ (sym c.in-Err.is ∙ c.look.ensures) c.told.ensures
 
-pub returns-in-Good : goal.returns-in-Good
-returns-in-Good c = start_gone _ _ _ _ _ _ _ _ _ (sym c.in-Good.is ∙ c.look.ensures) c.goes_on.ensures
+pub returns-in-Ok : goal.returns-in-Ok
+returns-in-Ok c = start_gone _ _ _ _ _ _ _ _ (sym c.in-Ok.is ∙ c.look.ensures) c.goes_on.ensures

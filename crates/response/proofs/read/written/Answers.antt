@@ -9,25 +9,25 @@ returns-then-bytes-ne6 c = not_six _ _ c.if-bytes-ne6.true
 
 pub returns-then-not-may_carry : goal.returns-then-not-may_carry
 returns-then-not-may_carry c =
-    bad-response _ _ c.if-bytes-ne6.false _ _ _ refl refl c.number4-crc.ensures
+    bad-response _ _ c.if-bytes-ne6.false _ _ _ refl refl c.number-crc.ensures
     (sym c.may_carry.ensures ∙ c.if-not-may_carry.true)
 
 pub returns-then-not-may_carry-2 : goal.returns-then-not-may_carry-2
 returns-then-not-may_carry-2 c =
-    bad-write _ _ c.if-bytes-ne6.false _ _ _ refl refl c.number4-crc.ensures
+    bad-write _ _ c.if-bytes-ne6.false _ _ _ refl refl c.number-crc.ensures
     (sym c.may_carry.ensures ∙ c.if-not-may_carry.false)
     (sym c.may_carry-2.ensures ∙ c.if-not-may_carry-2.true)
 
 pub returns-then-not-repeats : goal.returns-then-not-repeats
 returns-then-not-repeats c =
-    not-repeated _ _ c.if-bytes-ne6.false _ _ _ refl refl c.number4-crc.ensures
+    not-repeated _ _ c.if-bytes-ne6.false _ _ _ refl refl c.number-crc.ensures
     (sym c.may_carry.ensures ∙ c.if-not-may_carry.false)
     (sym c.may_carry-2.ensures ∙ c.if-not-may_carry-2.false)
     (sym c.repeats.ensures ∙ c.if-not-repeats.true)
 
 pub returns-then-not-crc_fits : goal.returns-then-not-crc_fits
 returns-then-not-crc_fits c =
-    bad-crc _ _ c.if-bytes-ne6.false _ _ _ refl refl c.number4-crc.ensures
+    bad-crc _ _ c.if-bytes-ne6.false _ _ _ refl refl c.number-crc.ensures
     (sym c.may_carry.ensures ∙ c.if-not-may_carry.false)
     (sym c.may_carry-2.ensures ∙ c.if-not-may_carry-2.false)
     (sym c.repeats.ensures ∙ c.if-not-repeats.false)
@@ -35,7 +35,7 @@ returns-then-not-crc_fits c =
 
 pub returns : goal.returns
 returns c =
-    is-written _ _ c.if-bytes-ne6.false _ _ _ refl refl c.number4-crc.ensures
+    is-written _ _ c.if-bytes-ne6.false _ _ _ refl refl c.number-crc.ensures
     (sym c.may_carry.ensures ∙ c.if-not-may_carry.false)
     (sym c.may_carry-2.ensures ∙ c.if-not-may_carry-2.false)
     (sym c.repeats.ensures ∙ c.if-not-repeats.false)

@@ -1,6 +1,6 @@
 -- `rows::record::put_line` meets its contract: colon, digits, checksum, CR LF, each right behind what stands there.
 -- Assumes nothing.
-use Rattle.std.proofs.Common.{arith, length-set, rules}
+use Rattle.std.proofs.Common.{arith, length-set}
 use Rattle.rows.proofs.Records.{spelt_length, pieces_length, line_put}
 use Rattle.rows.proofs.record.put_line.Goals as goal
 
@@ -44,4 +44,4 @@ pub returns : goal.returns
 returns c =
     let a = c.args in
     line_put a.text.now a.at a.address a.kind a.bytes.now c.spell-begun.ensures c.spell-sum.ensures
-    (search rules) c.wrapping_sub_u8.ensures.value c.spell.ensures
+    (omega arith) (omega arith) c.spell.ensures

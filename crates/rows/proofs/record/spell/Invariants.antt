@@ -1,7 +1,7 @@
 -- `rows::record::spell` meets its contract. The loop's invariant: storing all and adding all up is storing and adding up what is left, into what the
 -- text now holds and to the sum so far.
 -- Assumes nothing.
-use Rattle.std.proofs.Common.{◌≡◌, ◌+◌, ◌-◌, ◌*◌, ◌%◌, ◌<◌, ◌≤◌, length, drop}
+use Rattle.std.proofs.Common.{◌≡◌, ◌+◌, ◌*◌, ◌%◌, ◌<◌, length, drop}
 use lib.Seq.{sets}
 use Rattle.buffer.specs.Total.{total}
 use Rattle.digits.specs.Spelt.{digits_spelt}
@@ -9,12 +9,7 @@ use Rattle.rows.proofs.record.spell.Given as goal
 
 abbrev pub invariant-loop-j : goal.invariant-loop-j
 invariant-loop-j l =
-    (l.p ≡ l.at + 2 * l.j)
-    × (l.j ≤ length l.bytes)
-    × (length l.text ≡ length l.initial.text)
+    (length l.text ≡ length l.initial.text)
     × (l.added < 256)
-    × (sets l.text l.p (digits_spelt (drop l.j l.bytes)) ≡ sets l.initial.text l.at (digits_spelt l.bytes))
+    × (sets l.text (l.at + 2 * l.j) (digits_spelt (drop l.j l.bytes)) ≡ sets l.initial.text l.at (digits_spelt l.bytes))
     × ((l.sum + total l.bytes) % 256 ≡ (l.added + total (drop l.j l.bytes)) % 256)
-
-abbrev pub decreases-loop-j : goal.decreases-loop-j
-decreases-loop-j l = length l.bytes - l.j

@@ -11,12 +11,6 @@ loop-k-init c = let a = c.args in (omega arith, sym (reached_first a.image.now a
 pub pass-reached-requires : goal.pass-reached-requires
 pass-reached-requires c = record { fits = c.requires; inside = omega arith; so_far = c.loop-k.invariant.1 }
 
-pub overflow_add-k : goal.overflow_add-k
-overflow_add-k c = omega arith
-
-pub loop-k-smaller : goal.loop-k-smaller
-loop-k-smaller c = omega arith
-
 pub loop-k-preserved : goal.loop-k-preserved
 loop-k-preserved c = (omega arith, c.pass-reached.ensures)
 

@@ -18,12 +18,6 @@ put_row-reached-requires c =
     let g = rw e at (rows_grow a.image.now a.base (c.loop-k.k + 1) (length a.image.now / row_size - (c.loop-k.k + 1))) in
     record { row_fits = record { fits = c.requires.image_fits; inside = omega arith; so_far = c.loop-k.invariant.1 }; k_in_bounds = omega (arith, c.loop-k.invariant.2, c.requires.base_in_bounds) }
 
-pub overflow_add-k : goal.overflow_add-k
-overflow_add-k c = omega arith
-
-pub loop-k-smaller : goal.loop-k-smaller
-loop-k-smaller c = omega arith
-
 pub loop-k-preserved : goal.loop-k-preserved
 loop-k-preserved c =
     let a = c.args in

@@ -16,7 +16,7 @@ returns-then-bytes-into c =
     (search rules, spelt_none a.bytes.now a.into.now c.if-bytes-into.true)
 
 pub loop-i-init : goal.loop-i-init
-loop-i-init c = (search rules, refl, refl)
+loop-i-init c = refl
 
 pub bounds-into-i-in-loop-i : goal.bounds-into-i-in-loop-i
 bounds-into-i-in-loop-i c = simp length-set (omega arith)
@@ -28,11 +28,12 @@ loop-i-preserved c =
     let h : c.loop-i.i < length t = omega arith in
     let q : 2 * (c.loop-i.i + 1) ≡ 2 * c.loop-i.i + 2 = omega arith in
     let e = spell_more t c.loop-i.into c.loop-i.i (2 * c.loop-i.i) _ _ h c.digit.ensures c.digit-in-loop-i.ensures in
-    (omega arith, simp (length-set, length-set) (search rules), rw q (e ∙ c.loop-i.invariant.2))
+    rw q (e ∙ c.loop-i.invariant)
 
 pub returns : goal.returns
 returns c =
     let a = c.args in
     let b = a.bytes.now in
-    let all = spelt_all b a.into.now c.loop-i.into c.loop-i.i c.if-bytes-into.false (omega arith) c.loop-i.invariant.2 in
+    let n : c.loop-i.i ≡ length b = omega arith in
+    let all = spelt_all b a.into.now c.loop-i.into (length b) c.if-bytes-into.false refl (rw (sym n) c.loop-i.invariant) in
     ((search rules, sym (length-take-le _ _ (search rules))), all)

@@ -1,84 +1,70 @@
 -- `sender::packet::packet` meets its contract: each way out is a case of the definition.
 -- Assumes nothing.
-use mathlib.Core.Path.{refl, sym, ap, ◌∙◌}
+use mathlib.Core.Path.{ap, ◌∙◌}
 use Prim.Native.Nat.{ℕ}
 use native.Mathlib.Omega.{arith}
-use Rattle.layout.proofs.Layouts.{good_high}
+use mathlib.Core.List.{List}
+use Rattle.std.specs.Borrow.{Bor}
+use Rattle.std.proofs.lemmas.Result.{err_from_is_err_and}
+use Rattle.layout.specs.Layout.{sector_of}
 use Rattle.sender.specs.Packet.{footer_of}
 use Rattle.sender.proofs.Packets.{
-  seen-count,
-  seen-sector,
-  packet_end,
-  packet_small,
-  made-bad-n,
-  made-bad-image,
+  made_refused,
   made-no-room,
-  made-past,
+  packet_small,
   packet_refused,
   packet_put,
+  sent_in,
+  given_n,
+  given_length,
+  image_unplaced,
+  image_place,
 }
 use Rattle.sender.proofs.packet.packet.Goals as goal
 
-pub returns-then-not-good_n : goal.returns-then-not-good_n
-returns-then-not-good_n c = packet_refused _ _ _ _ _ (made-bad-n _ _ _ _ (sym c.good_n.ensures ∙ c.if-not-good_n.true)) refl
-
-pub overflow_mul-n : goal.overflow_mul-n
-overflow_mul-n c = omega (arith, good_high _ (sym c.good_n.ensures ∙ c.if-not-good_n.false))
-
-pub returns-then-image-n : goal.returns-then-image-n
-returns-then-image-n c =
-    let good = sym c.good_n.ensures ∙ c.if-not-good_n.false in
-    packet_refused _ _ _ _ _ (made-bad-image _ _ _ _ good c.if-image-n.true) refl
+pub returns-in_err-image : goal.returns-in_err-image
+returns-in_err-image c =
+    let p = err_from_is_err_and c.from_residual.result c.from_residual.ensures.1 in
+    rw (p.1, p.2) (packet_refused _ _ _ _ (made_refused _ _ _ _ c.in_err-image.ensures))
 
 pub returns-then-buffer-lt-ROOM : goal.returns-then-buffer-lt-ROOM
 returns-then-buffer-lt-ROOM c =
-    let good = sym c.good_n.ensures ∙ c.if-not-good_n.false in
-    packet_refused _ _ _ _ _ (made-no-room _ _ _ _ good c.if-image-n.false (omega arith)) refl
+    let held = c.in_ok-image.ensures in
+    packet_refused _ _ _ _ (made-no-room _ _ _ _ (given_n held) (given_length held) (omega arith))
 
-pub survey-seen-requires : goal.survey-seen-requires
-survey-seen-requires c = record { n_value = sym c.good_n.ensures ∙ c.if-not-good_n.false; image_len = c.if-image-n.false }
-
-pub returns-then-seen-p : goal.returns-then-seen-p
-returns-then-seen-p c =
-    let args = c.args in
-    let good = sym c.good_n.ensures ∙ c.if-not-good_n.false in
-    let counted = seen-count args.image.now args.p args.n _ c.survey-seen.ensures in
-    packet_refused _ _ _ _ _ (made-past _ _ _ _ good c.if-image-n.false (omega arith) (omega arith)) refl
-
-pub overflow_add-to : goal.overflow_add-to
-overflow_add-to c =
-    let args = c.args in
-    let good = sym c.good_n.ensures ∙ c.if-not-good_n.false in
-    let counted = seen-count args.image.now args.p args.n _ c.survey-seen.ensures in
-    let found = seen-sector args.image.now args.p args.n _ c.survey-seen.ensures in
-    omega (arith, packet_end args.image.now args.n args.p good c.if-image-n.false _ (omega arith) found, c.sector_offset-from.ensures)
+pub returns-in_err-sector : goal.returns-in_err-sector
+returns-in_err-sector c =
+    let p = err_from_is_err_and c.from_residual-in_err-sector.result c.from_residual-in_err-sector.ensures.1 in
+    rw (p.1, p.2) (image_unplaced c.in_ok-image.ensures _ (omega arith) c.place.ensures c.in_err-sector.was)
 
 pub overflow_cast-sector : goal.overflow_cast-sector
 overflow_cast-sector c =
-    let args = c.args in
-    let good = sym c.good_n.ensures ∙ c.if-not-good_n.false in
-    let counted = seen-count args.image.now args.p args.n _ c.survey-seen.ensures in
-    let found = seen-sector args.image.now args.p args.n _ c.survey-seen.ensures in
-    omega (arith, packet_small args.image.now args.n args.p good _ (omega arith) found)
+    let held = c.in_ok-image.ensures in
+    let at = image_place held c.place.ensures c.in_ok-sector.was in
+    omega (arith, packet_small _ _ _ (given_n held) _ at.there at.sector_is)
 
-pub slice_bounds-put_write-end : goal.slice_bounds-put_write-end
-slice_bounds-put_write-end c =
-    let args = c.args in
-    let good = sym c.good_n.ensures ∙ c.if-not-good_n.false in
-    let counted = seen-count args.image.now args.p args.n _ c.survey-seen.ensures in
-    let found = seen-sector args.image.now args.p args.n _ c.survey-seen.ensures in
-    omega (
-      arith,
-      packet_end args.image.now args.n args.p good c.if-image-n.false _ (omega arith) found,
-      c.sector_offset-from.ensures,
-    )
+pub sector-requires-clause-low : goal.sector-requires-clause-low
+sector-requires-clause-low c =
+    let at = image_place c.in_ok-image.ensures c.place.ensures c.in_ok-sector.was in
+    omega (arith, (sent_in _ _ _ at.there).low, at.sector_is)
+
+pub sector-requires-clause-high : goal.sector-requires-clause-high
+sector-requires-clause-high c =
+    let held = c.in_ok-image.ensures in
+    let at = image_place held c.place.ensures c.in_ok-sector.was in
+    omega (arith, (sent_in _ _ _ at.there).high, at.sector_is, held.n_is)
+
+pub footer-requires : goal.footer-requires
+footer-requires c =
+    let at = image_place c.in_ok-image.ensures c.place.ensures c.in_ok-sector.was in
+    omega (arith, at.there, at.count_is)
 
 pub returns : goal.returns
 returns c =
-    let args = c.args in
-    let good = sym c.good_n.ensures ∙ c.if-not-good_n.false in
-    let counted = seen-count args.image.now args.p args.n _ c.survey-seen.ensures in
-    let found = seen-sector args.image.now args.p args.n _ c.survey-seen.ensures in
-    let last = c.footer.ensures ∙ ap (λ (x : ℕ). footer_of x args.p) counted in
-    packet_put _ _ _ _ _ _ _ _ good c.if-image-n.false (omega arith) (omega arith) found c.sector_offset-from.ensures last
+    let place = c.in_ok-sector.field-0 in
+    let held = c.in_ok-image.ensures in
+    let at = image_place held c.place.ensures c.in_ok-sector.was in
+    packet_put _ _ _ _ _ _ _ _ (given_n held) (given_length held) (omega arith) at.there at.sector_is
+    (c.sector.ensures ∙ ap (λ (b : Bor (List ℕ)). sector_of b.now place.sector) held.bytes_is)
+    (c.footer.ensures ∙ ap (λ (x : ℕ). footer_of x c.args.p) at.count_is)
     c.put_write.ensures

@@ -13,6 +13,6 @@ returns c =
     let args = c.args in
     let pre = c.requires in
     let put =
-    start_parameters args.bank args.n _ refl refl refl c.put_number4.ensures c.put_number4-2.ensures c.start_address.ensures
+    start_parameters args.bank args.n _ refl refl refl c.put_number.ensures c.put_number-2.ensures c.start_address.ensures
     c.end_address.ensures in
     request_control (WriteStart _ _) (sym c.good_n.ensures ∙ c.if-not-good_n.false) (pre) put c.control.ensures

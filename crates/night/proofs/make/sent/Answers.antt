@@ -1,8 +1,0 @@
--- `night::make::sent` meets its contract: each way out is a case of the definition.
--- Assumes nothing.
-use mathlib.Core.Path.{sym, ap}
-use Rattle.night.specs.Call.{sent_by}
-use Rattle.night.proofs.make.sent.Goals as goal
-
-pub returns-in-Frame : goal.returns-in-Frame
-returns-in-Frame c = sym (ap (sent_by _) c.in-Frame.is)
