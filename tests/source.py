@@ -7,8 +7,9 @@ class Fault(Exception):
     pass
 
 
-# `head` is where a function's words begin and `body` where its braces stand, (from, to); `held` are its parameters as written
-Function = collections.namedtuple("Function", "name public head body held returns requires ensures")
+# `head` is where a function's words begin and `body` where its braces stand, (from, to); `held` are its parameters as written, and `generic` those of
+# its types and constants
+Function = collections.namedtuple("Function", "name public head body held returns requires ensures generic")
 
 
 def blanked(source):
@@ -39,8 +40,9 @@ def closing(text, at):
 def functions(text):
     """Each function of a blanked source, in the order of the text."""
     for found in re.finditer(r'(?:\b(pub)(\s*\([^)]*\))?\s+)?(?:(?:const|unsafe)\s+)*(?:extern\s+"C"\s+)?\bfn\s+(\w+)\s*', text):
-        at = found.end()
+        at, generic = found.end(), ""
         if text[at] == "<":
+            generic = text[at + 1 : closing(text, at) - 1]
             at = closing(text, at)
             at += len(text[at:]) - len(text[at:].lstrip())
         end = closing(text, at)
@@ -60,7 +62,7 @@ def functions(text):
         returns = bool(result.group(1)) and result.group(2).strip() != "()"
         requires = clauses["requires"] + clauses["ghost"]
         name, public = found.group(3), bool(found.group(1)) and not found.group(2)
-        yield Function(name, public, found.start(), (at, closing(text, at)), held, returns, requires, clauses["ensures"])
+        yield Function(name, public, found.start(), (at, closing(text, at)), held, returns, requires, clauses["ensures"], generic)
 
 
 def methods(text):
