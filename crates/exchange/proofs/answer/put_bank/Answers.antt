@@ -7,4 +7,4 @@ pub returns : goal.returns
 returns c =
     let args = c.args in
     put-bank args.buffer.now _ args.bank
-    c.response_code.ensures c.from.ensures c.put_control.ensures
+    c.response_code.ensures c.from-number.ensures c.put_control.ensures
