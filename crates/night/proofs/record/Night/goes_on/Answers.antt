@@ -1,4 +1,4 @@
--- `night::call::goes_on` meets its contract: each stand has a case of the definition.
+-- `night::record::Night::goes_on` meets its contract: each stand has a case of the definition.
 -- Assumes nothing.
 use mathlib.Core.Path.{refl, subst}
 use Prim.Native.Nat.{◌<◌}
@@ -6,12 +6,12 @@ use Rattle.sender.specs.Packet.{packet_count}
 use Rattle.night.specs.declared.record.Stand.{Stand}
 use Rattle.night.specs.Call.{stands_at}
 use Rattle.night.proofs.Calling.{gone_end, gone_out}
-use Rattle.night.proofs.call.goes_on.Goals as goal
+use Rattle.night.proofs.record.Night.goes_on.Goals as goal
 
 pub make-requires : goal.make-requires
 make-requires c =
     let there =
-    subst (λ (s : Stand). stands_at s < packet_count c.args.image.now c.args.night.n) c.in-At.is
+    subst (λ (s : Stand). stands_at s < packet_count c.args.image.now c.args.self.n) c.in-At.is
     c.requires.stand_bound in
     record { n_value = c.requires.n_value; n_value_2 = c.requires.n_value_2; room_in_bounds = c.requires.room_in_bounds; name_bound = there }
 

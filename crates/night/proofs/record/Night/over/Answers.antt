@@ -1,8 +1,8 @@
--- `night::call::over` meets its contract: each way out is a case of the definition.
+-- `night::record::Night::over` meets its contract: each way out is a case of the definition.
 -- Assumes nothing.
 use mathlib.Core.Path.{sym, ◌∙◌}
 use Rattle.night.proofs.Calling.{over_refused, over_told}
-use Rattle.night.proofs.call.over.Goals as goal
+use Rattle.night.proofs.record.Night.over.Goals as goal
 
 pub returns-in-Err : goal.returns-in-Err
 returns-in-Err c = over_refused _ _ _ _ _ _ _ (sym c.in-Err.is ∙ c.look.ensures) c.told.ensures

@@ -1,7 +1,7 @@
--- `night::call::step` meets its contract: each stand has a case of the definition.
+-- `night::record::Night::step` meets its contract: each stand has a case of the definition.
 -- Assumes nothing.
 use Rattle.night.proofs.Calling.{step_unbegun, step_hand, step_finished, step_gave_up}
-use Rattle.night.proofs.call.step.Goals as goal
+use Rattle.night.proofs.record.Night.step.Goals as goal
 
 pub returns-in-NotBegun : goal.returns-in-NotBegun
 returns-in-NotBegun c = step_unbegun _ _ _ _ _ c.in-NotBegun.is c.told.ensures
