@@ -60,6 +60,7 @@ fn in_table_9(res: u8) -> bool
 }
 
 // Whether a response may carry a result, the error response or another: 05 stands in the error response alone.
+#[tactic(auto, unfolding(crate::specs::Response::may_carry))]
 fn may_carry(error: bool, res: u8) -> bool
     ensures { result ≡ may_carry error res }
 {
@@ -67,6 +68,7 @@ fn may_carry(error: bool, res: u8) -> bool
 }
 
 // How many bytes follow the result.
+#[tactic(auto, unfolding(crate::specs::Response::added_of))]
 fn added(command: Command, res: u8) -> usize
     ensures { result ≡ added_of command res }
 {
@@ -110,6 +112,7 @@ fn accepted(command: Command, parameters: &[u8]) -> Option<Response>
 }
 
 // A command's own response.
+#[tactic(auto, using(crate::proofs::Responses::added_small), unfolding(crate::specs::Response::own_of))]
 fn own(command: Command, parameters: &[u8]) -> Option<Response>
     ensures { result ≡ own_of command parameters.now }
 {
@@ -127,6 +130,7 @@ fn own(command: Command, parameters: &[u8]) -> Option<Response>
 }
 
 // The error response.
+#[tactic(auto, unfolding(crate::specs::Response::error_of))]
 fn error(parameters: &[u8]) -> Option<Response>
     ensures { result ≡ error_of parameters.now }
 {
@@ -140,6 +144,7 @@ fn error(parameters: &[u8]) -> Option<Response>
 }
 
 // A control frame's code and parameters.
+#[tactic(auto, unfolding(crate::specs::Response::control_of))]
 fn control(code: u8, parameters: &[u8]) -> Option<Response>
     ensures { result ≡ control_of code parameters.now }
 {
@@ -153,6 +158,7 @@ fn control(code: u8, parameters: &[u8]) -> Option<Response>
 }
 
 // Unless the response result is 06, the write result repeats it.
+#[tactic(auto, unfolding(crate::specs::Response::repeats_of))]
 fn repeats(response: u8, write: u8) -> bool
     ensures { result ≡ repeats_of response write }
 {
@@ -160,6 +166,7 @@ fn repeats(response: u8, write: u8) -> bool
 }
 
 // Whether a result leaves a CRC to tell.
+#[tactic(auto, unfolding(crate::specs::Response::stored_of))]
 fn stored(res: u8) -> bool
     ensures { result ≡ stored_of res }
 {
@@ -167,6 +174,7 @@ fn stored(res: u8) -> bool
 }
 
 // A CRC other than 0 stands only beside two results that leave one to tell.
+#[tactic(auto, unfolding(crate::specs::Response::crc_fits))]
 fn crc_fits(response: u8, write: u8, crc: u32) -> bool
     ensures { result ≡ crc_fits response write crc }
 {
@@ -174,6 +182,7 @@ fn crc_fits(response: u8, write: u8, crc: u32) -> bool
 }
 
 // A write frame's sector and data.
+#[tactic(auto, unfolding(crate::specs::Response::write_of))]
 fn written(sector: u16, bytes: &[u8]) -> Option<Response>
     ensures { result ≡ write_of sector bytes.now }
 {
