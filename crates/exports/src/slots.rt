@@ -28,7 +28,7 @@ pub(crate) fn slots_good(slots: &[u8], count: usize) -> bool
     requires { count * slot_size ≤ length slots.now }
     ensures { result ≡ slots_good slots.now count }
 {
-    // A loop and no `all`: in its closure it would not be known that slot k is there.
+    // A loop, and no `all` over the numbers: the search does not find the definition in what that ensures.
     for k in 0..count {
         if ROOM < size_at(slots, k) {
             return false;
