@@ -42,7 +42,7 @@ fn look(bank: &[u8], from: usize, to: usize, seen: Seen) -> Seen
         last = is_old;
     }
     Seen {
-        runs: seen.runs + begun as usize,
+        runs: seen.runs + usize::from(begun),
         last,
         held,
     }

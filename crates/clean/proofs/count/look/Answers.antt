@@ -49,4 +49,4 @@ pub returns : goal.returns
 returns c =
     let a = c.args in
     let e : a.from + c.loop-byte.byte-index ≡ a.to = omega (arith, c.requires.piece.all_outside.forward) in
-    rw (← e) (seen_whole (old a.bank.now) (a.from + c.loop-byte.byte-index) (a.from / sector_size) c.loop-byte.invariant.seen)
+    rw (← e, c.from.ensures) (seen_whole (old a.bank.now) (a.from + c.loop-byte.byte-index) (a.from / sector_size) c.loop-byte.invariant.seen)
