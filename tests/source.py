@@ -73,8 +73,8 @@ def methods(text):
 
 
 def constants(text):
-    """(name, from, to) of each constant of a blanked source."""
-    for found in re.finditer(r"(?:\bpub(?:\s*\([^)]*\))?\s+)?\bconst\s+(\w+)\s*:", text):
+    """(name, from, to) of each constant of a blanked source. A const parameter, which stands behind `<` or a comma, is none."""
+    for found in re.finditer(r"(?<![<,])(?<![<,]\s)(?:\bpub(?:\s*\([^)]*\))?\s+)?\bconst\s+(\w+)\s*:", text):
         at = found.end()
         while text[at] != ";":
             at = closing(text, at) if text[at] in "([{" else at + 1

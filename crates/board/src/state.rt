@@ -62,7 +62,7 @@ impl Board {
 
 // A line that is no line of the script ends it. At the text's end there is no line, and nothing is said.
 impl Listener for Board {
-    fn hear(&mut self, rt: &impl Env, number: usize, heard: Heard<'_>) -> bool {
+    fn hear<R: Env>(&mut self, rt: &R, number: usize, heard: Heard<'_>) -> bool {
         match heard {
             Heard::Line(line) => command::follow(rt, self, number, line),
             Heard::TooLong => wrong::too_long(rt, number),

@@ -57,7 +57,7 @@ fn ended(rt: &impl Env) -> bool {
 }
 
 impl<'a> Listener for Talk<'a> {
-    fn hear(&mut self, rt: &impl Env, _number: usize, heard: Heard<'_>) -> bool {
+    fn hear<R: Env>(&mut self, rt: &R, _number: usize, heard: Heard<'_>) -> bool {
         match heard {
             Heard::Line(line) => self.event(rt, line),
             Heard::TooLong => no_event(rt),

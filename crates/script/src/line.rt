@@ -37,7 +37,7 @@ pub enum Heard<'a> {
 // What takes the lines of standard input, one after another.
 pub trait Listener {
     // The line is the `number`th, counted from 1. Whether another one is listened to.
-    fn hear(&mut self, rt: &impl Env, number: usize, heard: Heard<'_>) -> bool;
+    fn hear<R: Env>(&mut self, rt: &R, number: usize, heard: Heard<'_>) -> bool;
 }
 
 // Before the first turn: nothing was read.

@@ -17,7 +17,7 @@ use std::env::Env;
 struct Requests {}
 
 impl Listener for Requests {
-    fn hear(&mut self, rt: &impl Env, _number: usize, heard: Heard<'_>) -> bool {
+    fn hear<R: Env>(&mut self, rt: &R, _number: usize, heard: Heard<'_>) -> bool {
         match heard {
             Heard::Line(line) => answer::answer(rt, line),
             Heard::TooLong => say::no_request(rt),
