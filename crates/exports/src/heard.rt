@@ -8,7 +8,8 @@ use crate::slots::SLOT;
 use layout::Bank;
 use night::record::{Called, Next, Night, Refusal};
 
-// A request's length, which is 5, 13 or 519, or a refusal's number; what is neither has a number that is none of these.
+// A request's length, which is 5, 13 or 519, or a refusal's number; what is neither has a number that is none of these. No
+// `From`: neither type is of this crate.
 fn next_code(next: Result<Next, Refusal>) -> usize
     ensures { result ≡ next_code next }
 {

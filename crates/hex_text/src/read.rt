@@ -20,7 +20,8 @@ pub enum ReadError {
     Line(Refusal),
 }
 
-// What it says as one number: 3 or 2, 11 to 16 for H1 to H6, and 0 for a text that is accepted.
+// What it says as one number: 3 or 2, 11 to 16 for H1 to H6, and 0 for a text that is accepted. No `From`: neither type
+// is of this crate.
 pub fn answer_number(answer: Result<(), ReadError>) -> usize
     ensures { IsAnswerNumber answer result }
 {

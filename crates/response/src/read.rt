@@ -39,7 +39,8 @@ pub enum Response {
     },
 }
 
-// Its result, or number 6, which is also what 06 gives: that a response is unreadable, its case tells.
+// Its result, or number 6, which is also what 06 gives: that a response is unreadable, its case tells. No `From`: neither type is
+// of this crate.
 pub fn response_number(response: Option<Response>) -> u8
     ensures { IsResponseNumber response result }
 {

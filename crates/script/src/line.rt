@@ -7,6 +7,7 @@ use crate::call;
 use std::env::Env;
 use std::io::{Error, Input, Read, Result};
 
+// One of three, each of which is told in its own way.
 #[derive(Clone, Copy)]
 pub enum Found {
     // A line of so many bytes, a CR before its LF among them.
