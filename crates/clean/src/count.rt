@@ -27,6 +27,7 @@ pub(crate) fn no_marks() -> [bool; MOST]
 }
 
 // The bytes of a piece. There is no way out of the loop, so that the compiler takes many at once.
+// `Piece` says the fact of all three in a word: a struct of them would be made anew at each turn of a loop.
 fn look(bank: &[u8], from: usize, to: usize, seen: Seen) -> Seen
     requires piece { Piece bank.now from to }
     requires seen_value { seen ≡ seen_at (old bank.now) from (from / sector_size) }

@@ -19,6 +19,7 @@ pub struct Stepped {
 }
 
 // The notice for the host, with the sender's address; the latest session is the one before the plan.
+// Most plans ask nothing of the address, so no type could hold what `Addressed` says.
 fn notice_for(plan: Plan, latest: Latest, address: &[u8]) -> Option<Notice>
     requires { Addressed plan (length address.now) }
     ensures { result ≡ notice_of plan latest address.now }
