@@ -24,7 +24,7 @@ fn room_given(room: usize, tries: usize, found: Result<Place, Refusal>) -> Resul
     found
 }
 
-// Where packet p stands, unless something that is lent is refused.
+// Where packet p stands, unless something that is lent is refused. The sender's refusals are told apart: the tries come before its last one.
 pub(crate) fn look(
     image: &[u8],
     n: usize,

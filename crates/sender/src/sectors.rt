@@ -68,6 +68,7 @@ impl<'a> Image<'a> {
             sector: 0,
             count: 0,
         };
+        // The index is kept: it is a sector's number.
         for k in 0..self.n {
             seen = self.look(k, p, seen);
         }
