@@ -64,27 +64,28 @@ fn say_fields(rt: &impl Env, word: &[u8], pair: u16, first: u8, second: u8, quad
 fn say_response(rt: &impl Env, datagram: &[u8]) {
     let response = response::read::read_response(datagram);
     match response {
-        None => say::refused(
-            rt,
-            response::read::response_number(response) as usize,
-        ),
+        None => say::refused(rt, response::read::response_number(response) as usize),
         Some(Response::Plain { command, result }) => {
             say_plain(rt, commands::response_code(command), result)
         }
         Some(Response::Error { result }) => say_plain(rt, commands::ERROR, result),
         Some(Response::Target { bank }) => say_bank(rt, bank),
-        Some(Response::Firmware {
-            id,
-            major,
-            minor,
-            revision,
-        }) => say_fields(rt, b"version", id, major, minor, revision),
-        Some(Response::Written {
-            sector,
-            response,
-            write,
-            crc,
-        }) => say_fields(rt, b"written", sector, response, write, crc),
+        Some(
+            Response::Firmware {
+                id,
+                major,
+                minor,
+                revision,
+            },
+        ) => say_fields(rt, b"version", id, major, minor, revision),
+        Some(
+            Response::Written {
+                sector,
+                response,
+                write,
+                crc,
+            },
+        ) => say_fields(rt, b"written", sector, response, write, crc),
     }
     say::end(rt);
 }

@@ -1,7 +1,7 @@
 // The frames of an update, each as a line of the script.
 use layout::Bank;
 use script::say;
-use sender::made::{Refusal, ROOM};
+use sender::made::{ROOM, Refusal};
 use sender::request::Request;
 use std::env::Env;
 

@@ -31,11 +31,13 @@ fn say_read(rt: &impl Env, datagram: &[u8]) {
         Some(Frame::Control { code, .. }) => {
             say_control(rt, code, frame::read::parameters(datagram))
         }
-        Some(Frame::Write {
-            sector,
-            length,
-            footer,
-        }) => say_write(rt, sector, length, footer, frame::read::data(datagram)),
+        Some(
+            Frame::Write {
+                sector,
+                length,
+                footer,
+            },
+        ) => say_write(rt, sector, length, footer, frame::read::data(datagram)),
     }
 }
 
