@@ -91,7 +91,10 @@ fn register_of(pattern: Pattern, count: usize) -> u32
     for i in 0..whole {
         register = next_register(register, pattern, i * PIECE, PIECE);
     }
-    next_register(register, pattern, whole * PIECE, count % PIECE)
+    match count % PIECE {
+        0 => register,
+        rest => next_register(register, pattern, whole * PIECE, rest),
+    }
 }
 
 fn long_crc(rt: &impl Env, pattern: Pattern, count: &[u8]) -> Option<()> {
