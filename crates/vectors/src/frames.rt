@@ -1,4 +1,6 @@
 // The requests that read a frame or write one.
+ghost use Rattle.std.specs.Prelude.{◌≡◌, ◌++◌, IfSome};
+
 use frame::read::{Footer, Frame};
 use script::{say, text};
 use std::env::Env;
@@ -48,9 +50,11 @@ pub(crate) fn read(rt: &impl Env, fields: &[u8]) -> Option<()> {
 }
 
 // The frame at the front of a buffer, and what stands behind it: of all that begins there it alone is read as one.
-fn front_frame(buffer: &[u8]) -> Option<(&[u8], &[u8])> {
+fn front_frame(buffer: &[u8]) -> Option<(&[u8], &[u8])>
+    ensures { IfSome result (λ parts. parts.0.now ++ parts.1.now ≡ buffer.now) }
+{
     for end in 1..=buffer.len() {
-        let (front, behind) = buffer.split_at_checked(end)?;
+        let (front, behind) = buffer.split_at(end);
         if frame::read::read_frame(front).is_some() {
             return Some((front, behind));
         }
