@@ -17,7 +17,7 @@ pub const ADDRESS_ROOM: usize = 32;
 pub const BUFFER_ROOM: usize = 1_024;
 
 // How much of each room is lent to the client is a number of its own.
-#[derive(Drop)]
+#[derive(Clone, Copy)]
 pub struct Board {
     pub bank0: Room<BANK_ROOM>,
     pub bank1: Room<BANK_ROOM>,
