@@ -121,4 +121,7 @@ determined =
       spelt_bytes = λ text before x y u v p q. (p.stands ∙ sym q.stands, p.counted ∙ sym q.counted);
       before_lines = once _;
       held_line = λ line turn. once _;
+      room_filled = λ n byte lent. once _;
+      room_part = λ n room. once _;
+      room_lent = λ n before count x y u v p q. (p.stands ∙ sym q.stands, p.told ∙ sym q.told);
     }

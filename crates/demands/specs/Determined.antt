@@ -26,6 +26,7 @@ use Rattle.client.specs.declared.record.Client.{Client}
 use Rattle.client.specs.declared.host.NotDone.{NotDone}
 use Rattle.client.specs.declared.record.Latest.{Latest}
 use Rattle.script.specs.declared.line.Turn.{Turn}
+use Rattle.script.specs.declared.room.Room.{Room}
 use Rattle.buffer.specs.Compare.{IsSame, IsBlank}
 use Rattle.buffer.specs.Fill.{IsFill}
 use Rattle.buffer.specs.Number.{IsNumber, IsPutNumber}
@@ -71,6 +72,7 @@ use Rattle.client.specs.Step.{IsTake, IsStep}
 use Rattle.script.specs.Text.{IsFirst, IsRest, IsEndsInBlank}
 use Rattle.script.specs.Spelt.{IsHex, IsDecimal, IsByte, IsBytes, IsBank}
 use Rattle.script.specs.Line.{IsBefore, IsHeld}
+use Rattle.script.specs.Room.{IsFilled, IsPart, IsLend}
 
 pub record Determined : Type 0 where
   -- lent bytes
@@ -180,3 +182,6 @@ pub record Determined : Type 0 where
   pub spelt_bytes : (text before : List ℕ) → Twice (IsBytes text before)
   pub before_lines : Once IsBefore
   pub held_line : (line : List ℕ) (turn : Turn) → Once (IsHeld line turn)
+  pub room_filled : (n byte lent : ℕ) → Once (IsFilled n byte lent)
+  pub room_part : (n : ℕ) (room : Room n) → Once (IsPart n room)
+  pub room_lent : (n : ℕ) (before : Room n) (count : ℕ) → Twice (IsLend n before count)

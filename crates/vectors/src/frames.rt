@@ -45,7 +45,8 @@ fn say_read(rt: &impl Env, datagram: &[u8]) {
 
 pub(crate) fn read(rt: &impl Env, fields: &[u8]) -> Option<()> {
     let mut room = [0u8; 2048];
-    say_read(rt, text::spelt(fields, &mut room)?);
+    let count = text::bytes(fields, &mut room)?;
+    say_read(rt, room.get(..count)?);
     Some(())
 }
 
@@ -89,7 +90,8 @@ fn written<F: FnOnce(&mut [u8], &[u8])>(
 {
     let mut spelt = [0u8; 2048];
     let mut buffer = [0xA5u8; LARGEST_BUFFER];
-    let bytes = text::spelt(digits, &mut spelt)?;
+    let count = text::bytes(digits, &mut spelt)?;
+    let bytes = spelt.get(..count)?;
     let lent = buffer.get_mut(..text::decimal(room, 6)?)?;
     put(lent, bytes);
     say_buffer(rt, lent);
