@@ -1,9 +1,12 @@
 // A datagram for the client, and what comes of it.
+ghost use Rattle.std.specs.Prelude.{◌≡◌, min, take};
+
 use crate::state::Board;
 use crate::wrong::Wrong;
 use client::notice::Notice;
 use exchange::answer::{Answer, Refusal};
-use script::{say, text};
+use script::room::Room;
+use script::{room, say, text};
 use std::env::Env;
 
 pub(crate) fn say_refused(rt: &impl Env, number: usize) {
@@ -56,17 +59,25 @@ fn latest(answer: Result<Answer, Refusal>, count: usize, former: usize) -> usize
     if answer.is_ok() { count } else { former }
 }
 
+// What is lent of a room, to be written.
+fn lent<const N: usize>(room: &mut Room<N>) -> &mut [u8]
+    ensures { result.now ≡ take (min room.old.lent N) room.old.bytes }
+{
+    &mut room.bytes[..room.lent.min(N)]
+}
+
 // The answer is shown as it stands in the buffer.
 pub(crate) fn send(rt: &impl Env, board: &mut Board, fields: &[u8]) -> Result<(), Wrong> {
     let mut room = [0u8; 2048];
-    let datagram = text::spelt(fields, &mut room).ok_or(Wrong::Bytes)?;
+    let count = text::bytes(fields, &mut room).ok_or(Wrong::Bytes)?;
+    let datagram = room.get(..count).ok_or(Wrong::Bytes)?;
     let client = board.client;
     let stepped = client.step(
-        board.bank0.part_mut(),
-        board.bank1.part_mut(),
-        board.marks.part(),
-        board.address.part(),
-        board.buffer.part_mut(),
+        lent(&mut board.bank0),
+        lent(&mut board.bank1),
+        room::part(&board.marks),
+        room::part(&board.address),
+        lent(&mut board.buffer),
         datagram,
     );
     let answer = stepped.answer;

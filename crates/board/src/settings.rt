@@ -3,8 +3,7 @@ use crate::field;
 use crate::state::{BANK_ROOM, BUFFER_ROOM, Board, MARKS_ROOM};
 use crate::wrong::Wrong;
 use layout::Bank;
-use script::room::Room;
-use script::{say, text};
+use script::{room, say, text};
 use std::env::Env;
 
 pub(crate) fn say_bank(rt: &impl Env, bank: Bank) {
@@ -54,7 +53,7 @@ pub(crate) fn marks(rt: &impl Env, board: &mut Board, fields: &[u8]) -> Result<(
     say::text(rt, b"marks");
     say::field(rt, count);
     say::end(rt);
-    board.marks = Room::filled(0, count);
+    board.marks = room::filled(0, count);
     Ok(())
 }
 
@@ -88,7 +87,7 @@ pub(crate) fn buffer(rt: &impl Env, board: &mut Board, fields: &[u8]) -> Result<
     say::text(rt, b"buffer");
     say::field(rt, count);
     say::end(rt);
-    board.buffer = Room::filled(byte, count);
+    board.buffer = room::filled(byte, count);
     board.answered = 0;
     Ok(())
 }

@@ -7,7 +7,7 @@ use client::record::{Client, Latest};
 use decision::plan::ADDRESS;
 use exchange::state::State;
 use layout::MOST;
-use script::{say, text};
+use script::{room, say, text};
 use std::env::Env;
 
 // How many bytes these are, and their CRC-32.
@@ -23,7 +23,9 @@ pub(crate) fn body(rt: &impl Env, board: &Board, fields: &[u8]) -> Result<(), Wr
     say::text(rt, b"body");
     say_sum(
         rt,
-        board.client.body(board.bank0.part(), board.bank1.part(), i),
+        board
+            .client
+            .body(room::part(&board.bank0), room::part(&board.bank1), i),
     );
     Ok(())
 }
@@ -109,7 +111,7 @@ pub(crate) fn crc(rt: &impl Env, board: &Board, fields: &[u8]) -> Result<(), Wro
     let bank = field::bank(fields)?;
     say::text(rt, b"crc");
     say_bank(rt, bank);
-    say_sum(rt, board.bank(bank).part());
+    say_sum(rt, room::part(board.bank(bank)));
     Ok(())
 }
 
@@ -129,7 +131,9 @@ pub(crate) fn show(rt: &impl Env, board: &Board, fields: &[u8]) -> Result<(), Wr
 // What is lent of the buffer, behind the latest answer.
 pub(crate) fn rest(rt: &impl Env, board: &Board, fields: &[u8]) -> Result<(), Wrong> {
     field::none(fields)?;
-    let behind = board.buffer.part().get(board.answered..).unwrap_or(&[]);
+    let behind = room::part(&board.buffer)
+        .get(board.answered..)
+        .unwrap_or(&[]);
     say::text(rt, b"rest ");
     say::bytes(rt, behind);
     say::end(rt);

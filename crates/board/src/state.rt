@@ -4,6 +4,7 @@ use client::record::Client;
 use decision::plan::ADDRESS;
 use layout::{Bank, MOST, SECTOR};
 use script::line::{Heard, Listener};
+use script::room;
 use script::room::Room;
 use std::env::Env;
 
@@ -17,7 +18,7 @@ pub const ADDRESS_ROOM: usize = 32;
 pub const BUFFER_ROOM: usize = 1_024;
 
 // How much of each room is lent to the client is a number of its own.
-#[derive(Drop)]
+#[derive(Clone, Copy)]
 pub struct Board {
     pub bank0: Room<BANK_ROOM>,
     pub bank1: Room<BANK_ROOM>,
@@ -35,11 +36,11 @@ impl Board {
     pub(crate) fn fresh(client: Client) -> Board {
         let lent = client.fixed.n.min(MOST);
         Board {
-            bank0: Room::filled(0xFF, lent * SECTOR),
-            bank1: Room::filled(0xFF, lent * SECTOR),
-            marks: Room::filled(0, lent),
-            address: Room::filled(0, ADDRESS),
-            buffer: Room::filled(0xA5, 14),
+            bank0: room::filled(0xFF, lent * SECTOR),
+            bank1: room::filled(0xFF, lent * SECTOR),
+            marks: room::filled(0, lent),
+            address: room::filled(0, ADDRESS),
+            buffer: room::filled(0xA5, 14),
             answered: 0,
             client,
         }

@@ -50,6 +50,9 @@ abbrev pub refusal_of : Fault → Refusal
 refusal_of fault.BadLength = BadLength
 refusal_of fault.Unsound = Faulty
 
+abbrev pub IsRefusalOf : Fault → Refusal → Type 0
+IsRefusalOf fault r = r ≡ refusal_of fault
+
 -- by the paper's numbers
 abbrev pub refusal_number : Refusal → ℕ
 refusal_number BadLength = 2

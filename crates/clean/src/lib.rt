@@ -10,7 +10,7 @@ mod piece;
 ghost use Rattle.std.specs.Prelude.{◌≡◌, true, ◌&&◌, ◌/◌, leb, length};
 ghost use Rattle.layout.specs.Layout.{whole_length};
 ghost use Rattle.bank.specs.Sound.{contents_good};
-ghost use Rattle.clean.specs.Clean.{refusal_of, IsCleanNumber, IsClean};
+ghost use Rattle.clean.specs.Clean.{IsRefusalOf, IsCleanNumber, IsClean};
 
 use bank::check::Fault;
 use layout::{MOST, SECTOR};
@@ -37,7 +37,7 @@ pub enum Refusal {
 }
 
 impl From<Fault> for Refusal {
-    ghost from_gives = { λ fault refusal. refusal ≡ refusal_of fault };
+    ghost from_gives = { IsRefusalOf };
 
     fn from(fault: Fault) -> Refusal {
         match fault {

@@ -1,4 +1,4 @@
--- Every public function's contract leaves one outcome.
+-- Every public function's contract, and every conversion's, leaves one outcome.
 -- Assumes nothing.
 use mathlib.Core.Path.{sym, ◌∙◌}
 use Rattle.outcomes.proofs.Equations.{once}
@@ -44,6 +44,7 @@ determined =
       contents = λ bank x y p q. p.verdict ∙ sym q.verdict;
       check = λ bank x y p q. p.verdict ∙ sym q.verdict;
       body = λ bank i. once _;
+      refusal_of = λ fault. once _;
       clean_number = λ refusal. once _;
       clean = λ bank runs sectors x y u v s t a b p q. (
         p.answered ∙ sym q.answered,
@@ -63,6 +64,7 @@ determined =
       write_text = λ image bank before x y u v p q. (p.answered ∙ sym q.answered, p.stands ∙ sym q.stands);
       count = λ image n x y p q. p.answered ∙ sym q.answered;
       place_of_packet = λ image n number x y p q. p.answered ∙ sym q.answered;
+      taken_over = λ why. once _;
       night_number = λ next. once _;
       night_start = λ image bank n tries before x y u v p q. (p.answered ∙ sym q.answered, p.stands ∙ sym q.stands);
       night_heard = λ night datagram image before x y u v p q. (p.answered ∙ sym q.answered, p.stands ∙ sym q.stands);
@@ -121,4 +123,7 @@ determined =
       spelt_bytes = λ text before x y u v p q. (p.stands ∙ sym q.stands, p.counted ∙ sym q.counted);
       before_lines = once _;
       held_line = λ line turn. once _;
+      room_filled = λ n byte lent. once _;
+      room_part = λ n room. once _;
+      room_lent = λ n before count x y u v p q. (p.stands ∙ sym q.stands, p.told ∙ sym q.told);
     }

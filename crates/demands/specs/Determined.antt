@@ -1,5 +1,5 @@
--- Every public function's contract leaves one outcome: any two that it allows are the same (01, 'How much each function must say', "proved
--- equal"). One line for each relation that a public function's contract cites; those of
+-- Every public function's contract, and every conversion's, leaves one outcome: any two that it allows are the same (01, 'How much each function
+-- must say', "proved equal"). One line for each relation that such a contract cites; those of
 -- `exports` alone stand in its own Determined.antt.
 -- Assumes nothing.
 use Rattle.std.specs.Prelude.{Bool, List, ℕ, Option, Result}
@@ -10,6 +10,7 @@ use Rattle.layout.specs.declared.Bank.{Bank}
 use Rattle.lines.specs.declared.line.LineReader.{LineReader}
 use Rattle.hex_text.specs.declared.fault.Kind.{Kind}
 use Rattle.hex_text.specs.declared.read.ReadError.{ReadError}
+use Rattle.bank.specs.declared.check.Fault.{Fault}
 use Rattle.clean.specs.declared.Refusal.{Refusal as CleanRefusal}
 use Rattle.sender.specs.declared.made.Refusal.{Refusal as Unmade}
 use Rattle.sender.specs.declared.request.Request.{Request}
@@ -26,6 +27,7 @@ use Rattle.client.specs.declared.record.Client.{Client}
 use Rattle.client.specs.declared.host.NotDone.{NotDone}
 use Rattle.client.specs.declared.record.Latest.{Latest}
 use Rattle.script.specs.declared.line.Turn.{Turn}
+use Rattle.script.specs.declared.room.Room.{Room}
 use Rattle.buffer.specs.Compare.{IsSame, IsBlank}
 use Rattle.buffer.specs.Fill.{IsFill}
 use Rattle.buffer.specs.Number.{IsNumber, IsPutNumber}
@@ -45,7 +47,7 @@ use Rattle.bank.specs.Gaps.{IsGapSlice, IsGaps}
 use Rattle.bank.specs.Listed.{IsBodyCount, IsStretchAt}
 use Rattle.bank.specs.Said.{IsContents, IsCheck}
 use Rattle.bank.specs.Sound.{IsBody}
-use Rattle.clean.specs.Clean.{IsCleanNumber, IsClean}
+use Rattle.clean.specs.Clean.{IsRefusalOf, IsCleanNumber, IsClean}
 use Rattle.lines.specs.Places.{IsReader, IsNext}
 use Rattle.hex_text.specs.Read.{IsKindNumber, IsAnswerNumber}
 use Rattle.hex_text.specs.Read.{IsRead as IsReadText}
@@ -59,6 +61,7 @@ use Rattle.night.specs.Call.{IsStart as IsNightStart}
 use Rattle.night.specs.Call.{IsHeard as IsNightHeard}
 use Rattle.night.specs.Call.{IsSilent as IsNightSilent}
 use Rattle.night.specs.Record.{IsRefusalNumber as IsNightNumber}
+use Rattle.night.specs.Record.{IsTakenOver}
 use Rattle.commands.specs.Command.{IsRequestCode, IsResponseCode, IsParameterBytes, IsAddedBytes, IsRequested, IsAnswered}
 use Rattle.exchange.specs.Answer.{Reply, IsRefusalNumber, IsSay}
 use Rattle.exchange.specs.State.{IsClosed, IsOpen}
@@ -71,6 +74,7 @@ use Rattle.client.specs.Step.{IsTake, IsStep}
 use Rattle.script.specs.Text.{IsFirst, IsRest, IsEndsInBlank}
 use Rattle.script.specs.Spelt.{IsHex, IsDecimal, IsByte, IsBytes, IsBank}
 use Rattle.script.specs.Line.{IsBefore, IsHeld}
+use Rattle.script.specs.Room.{IsFilled, IsPart, IsLend}
 
 pub record Determined : Type 0 where
   -- lent bytes
@@ -115,6 +119,7 @@ pub record Determined : Type 0 where
   pub contents : (bank : List ℕ) → Once (IsContents bank)
   pub check : (bank : List ℕ) → Once (IsCheck bank)
   pub body : (bank : List ℕ) (i : ℕ) → Once (IsBody bank i)
+  pub refusal_of : (fault : Fault) → Once (IsRefusalOf fault)
   pub clean_number : (refusal : CleanRefusal) → Once (IsCleanNumber refusal)
   pub clean : (bank runs sectors : List ℕ) → Fourfold (IsClean bank runs sectors)
   -- hex text
@@ -138,6 +143,7 @@ pub record Determined : Type 0 where
   pub request : (request : Request) (before : List ℕ) → Twice (IsRequest request before)
   pub read_response : (datagram : List ℕ) → Once (IsResponse datagram)
   -- the night sender
+  pub taken_over : (why : Unmade) → Once (IsTakenOver why)
   pub night_number : (why : NightRefusal) → Once (IsNightNumber why)
   pub night_start : (image : List ℕ) (bank : Bank) (n tries : ℕ) (before : List ℕ) → Twice (IsNightStart image bank n tries before)
   pub night_heard : (night : Night) (datagram image before : List ℕ) → Twice (IsNightHeard night datagram image before)
@@ -180,3 +186,6 @@ pub record Determined : Type 0 where
   pub spelt_bytes : (text before : List ℕ) → Twice (IsBytes text before)
   pub before_lines : Once IsBefore
   pub held_line : (line : List ℕ) (turn : Turn) → Once (IsHeld line turn)
+  pub room_filled : (n byte lent : ℕ) → Once (IsFilled n byte lent)
+  pub room_part : (n : ℕ) (room : Room n) → Once (IsPart n room)
+  pub room_lent : (n : ℕ) (before : Room n) (count : ℕ) → Twice (IsLend n before count)

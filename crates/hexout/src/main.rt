@@ -42,7 +42,10 @@ fn called(rt: &(impl Env + std::io::Input)) {
     let mut first = [0u8; 8];
     match call::word(rt, 0, &mut first).and_then(text::bank) {
         Some(bank) => write_input(rt, bank),
-        None => call::wrong_word(rt, b"hexout: BANK is 0 or 1\n", USAGE),
+        None => call::called_wrongly(
+            rt,
+            b"hexout: BANK is 0 or 1\nusage: ./run hexout BANK [FILE]\n",
+        ),
     }
 }
 

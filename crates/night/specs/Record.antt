@@ -57,3 +57,6 @@ abbrev pub taken_over : Unmade → Refusal
 taken_over made.BadN = BadN
 taken_over made.BadLength = BadLength
 taken_over made.PastLast = NoPacket
+
+abbrev pub IsTakenOver : Unmade → Refusal → Type 0
+IsTakenOver why r = r ≡ taken_over why

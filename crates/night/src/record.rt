@@ -1,7 +1,7 @@
 // The record of a night, what comes of a call, and how the record moves.
 ghost use Rattle.std.specs.Prelude.{◌≡◌, ◌<◌};
 ghost use Rattle.night.specs.Name.{number_of};
-ghost use Rattle.night.specs.Record.{taken_over, following_of, again_of, moved_of, IsRefusalNumber};
+ghost use Rattle.night.specs.Record.{following_of, again_of, moved_of, IsTakenOver, IsRefusalNumber};
 
 use crate::judge::Verdict;
 use crate::name::Name;
@@ -53,7 +53,7 @@ pub enum Refusal {
 
 // The same, as the sender says it.
 impl From<Unmade> for Refusal {
-    ghost from_gives = { λ why r. r ≡ taken_over why };
+    ghost from_gives = { IsTakenOver };
 
     fn from(why: Unmade) -> Refusal {
         match why {

@@ -24,17 +24,29 @@ fn called(rt: &(impl Env + Files + Input)) {
     let mut third = [0u8; 8];
     let mut fourth = io::buffer();
     let Some(bank) = call::word(rt, 0, &mut first).and_then(text::bank) else {
-        return call::wrong_word(rt, b"night: BANK is 0 or 1\n", USAGE);
+        return call::called_wrongly(
+            rt,
+            b"night: BANK is 0 or 1\nusage: ./run night BANK N T FILE.hex [FILE]\n",
+        );
     };
     let Some(n) = number(call::word(rt, 1, &mut second)) else {
-        return call::wrong_word(rt, b"night: N is a number of one to six digits\n", USAGE);
+        return call::called_wrongly(
+            rt,
+            b"night: N is a number of one to six digits\nusage: ./run night BANK N T FILE.hex [FILE]\n",
+        );
     };
     let Some(tries) = number(call::word(rt, 2, &mut third)) else {
-        return call::wrong_word(rt, b"night: T is a number of one to six digits\n", USAGE);
+        return call::called_wrongly(
+            rt,
+            b"night: T is a number of one to six digits\nusage: ./run night BANK N T FILE.hex [FILE]\n",
+        );
     };
     match call::word(rt, 3, &mut fourth) {
         Some(name) if !name.is_empty() => image::send(rt, name, bank, n, tries),
-        _ => call::wrong_word(rt, b"night: FILE.hex is the name of a file\n", USAGE),
+        _ => call::called_wrongly(
+            rt,
+            b"night: FILE.hex is the name of a file\nusage: ./run night BANK N T FILE.hex [FILE]\n",
+        ),
     }
 }
 

@@ -25,7 +25,10 @@ impl<'a> Talk<'a> {
     // A line that is no event leaves the night as it is.
     fn heard(&mut self, rt: &impl Env, digits: &[u8]) -> bool {
         let mut room = [0u8; 2048];
-        let Some(datagram) = text::spelt(digits, &mut room) else {
+        let Some(count) = text::bytes(digits, &mut room) else {
+            return no_event(rt);
+        };
+        let Some(datagram) = room.get(..count) else {
             return no_event(rt);
         };
         let called = night::call::heard(self.night, datagram, self.image, &mut self.buffer);

@@ -78,11 +78,16 @@ fn answer(rt: &impl Env, text: &[u8]) {
     }
 }
 
+fn say_too_long(rt: &impl Env) {
+    say::text(rt, b"too long\n");
+    call::refused(rt);
+}
+
 // The room is a byte larger than the longest text, so that a longer one is seen to be so.
 fn list_input(rt: &(impl Env + std::io::Input)) {
     let mut room = [0u8; LONGEST_TEXT + 1];
     match input::all(rt, &mut room) {
-        Some(size) if size > LONGEST_TEXT => say::words_refused(rt, b"too long"),
+        Some(size) if size > LONGEST_TEXT => say_too_long(rt),
         Some(size) => answer(rt, &room[..size]),
         None => (),
     }

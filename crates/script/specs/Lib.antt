@@ -1,3 +1,4 @@
 pub mod Line
+pub mod Room
 pub mod Spelt
 pub mod Text

@@ -107,12 +107,6 @@ pub fn called_wrongly(rt: &impl Env, usage: &[u8]) {
     tell(rt, b"c");
 }
 
-// The same of a word that cannot be, which is said first.
-pub fn wrong_word(rt: &impl Env, why: &[u8], usage: &[u8]) {
-    io::write_all(STDERR_FILENO, why);
-    called_wrongly(rt, usage);
-}
-
 // The program's own name stands before its words, and what `./run` says to it.
 fn before_words(rt: &impl Env) -> usize
     ensures { (0 < result) × (result ≤ 2) }

@@ -1,5 +1,5 @@
 // A room of so many bytes, the first of which are lent.
-ghost use Rattle.std.specs.Prelude.{◌≡◌, ◌≤◌, min, length, take, replicate, IfSome};
+ghost use Rattle.script.specs.Room.{IsFilled, IsPart, IsLend};
 
 #[derive(Clone, Copy)]
 pub struct Room<const N: usize> {
@@ -7,36 +7,29 @@ pub struct Room<const N: usize> {
     pub lent: usize,
 }
 
-impl<const N: usize> Room<N> {
-    pub fn filled(byte: u8, lent: usize) -> Room<N>
-        ensures { (result.bytes ≡ replicate N byte) × (result.lent ≡ lent) }
-    {
-        Room {
-            bytes: [byte; N],
-            lent,
-        }
+pub fn filled<const N: usize>(byte: u8, lent: usize) -> Room<N>
+    ensures { IsFilled N byte lent result }
+{
+    Room {
+        bytes: [byte; N],
+        lent,
     }
+}
 
-    pub fn part(&self) -> &[u8]
-        ensures { result.now ≡ take (min self.now.lent N) self.now.bytes }
-    {
-        &self.bytes[..self.lent.min(N)]
-    }
+// What is lent of it; all of it, should more be.
+pub fn part<const N: usize>(room: &Room<N>) -> &[u8]
+    ensures { IsPart N room.now result.now }
+{
+    &room.bytes[..room.lent.min(N)]
+}
 
-    pub fn part_mut(&mut self) -> &mut [u8]
-        ensures { result.now ≡ take (min self.old.lent N) self.old.bytes }
-    {
-        &mut self.bytes[..self.lent.min(N)]
+// So much is lent from now on; `None` where there is less room, and as much as before is.
+pub fn lend<const N: usize>(room: &mut Room<N>, count: usize) -> Option<()>
+    ensures { IsLend N room.old count room.new result }
+{
+    if count > N {
+        return None;
     }
-
-    // So much is lent from now on; `None` where there is less room, and as much as before is.
-    pub fn lend(&mut self, count: usize) -> Option<&mut [u8]>
-        ensures { IfSome result (λ part. part.now ≡ take count self.old.bytes) }
-    {
-        if count > N {
-            return None;
-        }
-        self.lent = count;
-        Some(self.part_mut())
-    }
+    room.lent = count;
+    Some(())
 }

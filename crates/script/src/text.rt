@@ -1,5 +1,5 @@
 // The fields of a line, and what they say.
-ghost use Rattle.std.specs.Prelude.{◌≡◌, true, ◌+◌, ◌*◌, ◌/◌, ◌<◌, ◌≤◌, length, get_or, position, ◌==◌, IfSome};
+ghost use Rattle.std.specs.Prelude.{◌≡◌, true, ◌+◌, ◌*◌, ◌/◌, ◌<◌, ◌≤◌, length, get_or, position, ◌==◌};
 ghost use Rattle.buffer.specs.Place.{front_of};
 ghost use Rattle.digits.specs.Digit.{value_of};
 ghost use Rattle.script.specs.Text.{IsFirst, IsRest, IsEndsInBlank};
@@ -191,12 +191,4 @@ pub fn bytes(text: &[u8], into: &mut [u8]) -> Option<usize>
         return Some(0);
     }
     None
-}
-
-// The same, and those bytes.
-pub fn spelt<'a>(text: &[u8], into: &'a mut [u8]) -> Option<&'a [u8]>
-    ensures { IfSome result (λ bytes. length bytes.now ≤ length into.old) }
-{
-    let count = bytes(text, into)?;
-    into.get(..count)
 }

@@ -92,6 +92,7 @@ fn say_response(rt: &impl Env, datagram: &[u8]) {
 
 pub(crate) fn response(rt: &impl Env, fields: &[u8]) -> Option<()> {
     let mut room = [0u8; 2048];
-    say_response(rt, text::spelt(fields, &mut room)?);
+    let count = text::bytes(fields, &mut room)?;
+    say_response(rt, room.get(..count)?);
     Some(())
 }

@@ -10,7 +10,7 @@ pub const LONGEST_TEXT: usize = 720_896;
 // Two sectors more than the largest bank has: a wrong length is told from what is no request.
 pub const LONGEST_IMAGE: usize = 252_416;
 
-#[derive(Drop)]
+#[derive(Clone, Copy)]
 pub struct Held {
     pub hex_text: Room<LONGEST_TEXT>,
     pub image: Room<LONGEST_IMAGE>,

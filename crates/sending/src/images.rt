@@ -1,23 +1,26 @@
 // The requests on the image and on the packets that are made of it.
-use crate::held::Held;
+use crate::held::{Held, LONGEST_IMAGE};
 use crate::made;
 use crate::made::LARGEST_BUFFER;
-use script::{say, text};
+use script::{room, say, text};
 use std::env::Env;
 
 pub(crate) fn image(rt: &impl Env, held: &mut Held, fields: &[u8]) -> Option<()> {
     let size = text::decimal(fields, 6)?;
-    held.image.lend(size)?.fill(0xFF);
+    room::lend(&mut held.image, size)?;
+    held.image.bytes.get_mut(..size)?.fill(0xFF);
     say::text(rt, b"image ");
     say::decimal(rt, size);
     say::end(rt);
     Some(())
 }
 
-pub(crate) fn put(rt: &impl Env, image: &mut [u8], fields: &[u8]) -> Option<()> {
+pub(crate) fn put(rt: &impl Env, held: &mut Held, fields: &[u8]) -> Option<()> {
     let mut room = [0u8; 2048];
-    let bytes = text::spelt(text::rest(fields), &mut room)?;
+    let count = text::bytes(text::rest(fields), &mut room)?;
+    let bytes = room.get(..count)?;
     let offset = text::decimal(text::first(fields), 6)?;
+    let image = &mut held.image.bytes[..held.image.lent.min(LONGEST_IMAGE)];
     image
         .get_mut(offset..)?
         .get_mut(..bytes.len())?

@@ -11,14 +11,13 @@ mod texts;
 mod written;
 
 use held::Held;
-use script::room::Room;
-use script::{call, line};
+use script::{call, line, room};
 
 fn main(rt: HostRuntime) {
     if call::takes(&rt, 0, b"usage: ./run sending [FILE]\n") {
         let mut held = Held {
-            hex_text: Room::filled(0, 0),
-            image: Room::filled(0, 0),
+            hex_text: room::filled(0, 0),
+            image: room::filled(0, 0),
         };
         line::listen(&rt, &mut held);
     }

@@ -2,14 +2,15 @@
 use crate::held::Held;
 use hex_text::fault::Refusal;
 use hex_text::read::ReadError;
-use script::{say, text};
+use script::{room, say, text};
 use std::env::Env;
 
 // The bytes behind the first `size` of the text. A text that is spelt wrong must leave the one before as it was, so the bytes are read beside it
 // first.
 fn put(rt: &impl Env, held: &mut Held, size: usize, fields: &[u8]) -> Option<()> {
     let mut room = [0u8; 2048];
-    let bytes = text::spelt(fields, &mut room)?;
+    let count = text::bytes(fields, &mut room)?;
+    let bytes = room.get(..count)?;
     held.hex_text
         .bytes
         .get_mut(size..)?
@@ -50,9 +51,11 @@ pub(crate) fn read(rt: &impl Env, held: &mut Held, fields: &[u8]) -> Option<()> 
     let bank = text::bank(text::first(fields))?;
     let later = text::rest(fields);
     let n = text::decimal(text::first(later), 6)?;
-    let image = held.image.lend(text::decimal(text::rest(later), 6)?)?;
+    let size = text::decimal(text::rest(later), 6)?;
+    room::lend(&mut held.image, size)?;
+    let image = held.image.bytes.get_mut(..size)?;
     image.fill(0xA5);
-    let answer = hex_text::read::read(held.hex_text.part(), bank, n, image);
+    let answer = hex_text::read::read(room::part(&held.hex_text), bank, n, image);
     say_read(rt, answer, image);
     Some(())
 }

@@ -112,11 +112,17 @@ fn called(rt: &(impl Env + std::io::Input)) {
     let mut first = [0u8; 8];
     let mut second = [0u8; 8];
     let Some(target) = call::word(rt, 0, &mut first).and_then(text::bank) else {
-        return call::wrong_word(rt, b"update: BANK is 0 or 1\n", USAGE);
+        return call::called_wrongly(
+            rt,
+            b"update: BANK is 0 or 1\nusage: ./run update BANK N [FILE]\n",
+        );
     };
     match n_of(call::word(rt, 1, &mut second)) {
         Some(n) => update(rt, target, n),
-        None => call::wrong_word(rt, b"update: N is 1 to 491\n", USAGE),
+        None => call::called_wrongly(
+            rt,
+            b"update: N is 1 to 491\nusage: ./run update BANK N [FILE]\n",
+        ),
     }
 }
 

@@ -67,8 +67,12 @@ fn asked<F: FnOnce(&mut [u8]) -> Option<()>>(fields: &[u8], say: F) -> Option<()
     if text::ends_in_blank(fields) {
         return None;
     }
+    let length = text::decimal(text::first(fields), 6)?;
+    if length > LONGEST_BANK {
+        return None;
+    }
     let mut room = [0xFFu8; LONGEST_BANK];
-    let bank = room.get_mut(..text::decimal(text::first(fields), 6)?)?;
+    let bank = room.get_mut(..length)?;
     let pieces = text::rest(fields);
     if !pieces.is_empty() {
         for piece in pieces.split(|b| *b == b' ') {

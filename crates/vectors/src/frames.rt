@@ -1,4 +1,6 @@
 // The requests that read a frame or write one.
+ghost use Rattle.std.specs.Prelude.{◌≡◌, ◌++◌, IfSome};
+
 use frame::read::{Footer, Frame};
 use script::{say, text};
 use std::env::Env;
@@ -43,14 +45,17 @@ fn say_read(rt: &impl Env, datagram: &[u8]) {
 
 pub(crate) fn read(rt: &impl Env, fields: &[u8]) -> Option<()> {
     let mut room = [0u8; 2048];
-    say_read(rt, text::spelt(fields, &mut room)?);
+    let count = text::bytes(fields, &mut room)?;
+    say_read(rt, room.get(..count)?);
     Some(())
 }
 
 // The frame at the front of a buffer, and what stands behind it: of all that begins there it alone is read as one.
-fn front_frame(buffer: &[u8]) -> Option<(&[u8], &[u8])> {
+fn front_frame(buffer: &[u8]) -> Option<(&[u8], &[u8])>
+    ensures { IfSome result (λ parts. parts.0.now ++ parts.1.now ≡ buffer.now) }
+{
     for end in 1..=buffer.len() {
-        let (front, behind) = buffer.split_at_checked(end)?;
+        let (front, behind) = buffer.split_at(end);
         if frame::read::read_frame(front).is_some() {
             return Some((front, behind));
         }
@@ -85,7 +90,8 @@ fn written<F: FnOnce(&mut [u8], &[u8])>(
 {
     let mut spelt = [0u8; 2048];
     let mut buffer = [0xA5u8; LARGEST_BUFFER];
-    let bytes = text::spelt(digits, &mut spelt)?;
+    let count = text::bytes(digits, &mut spelt)?;
+    let bytes = spelt.get(..count)?;
     let lent = buffer.get_mut(..text::decimal(room, 6)?)?;
     put(lent, bytes);
     say_buffer(rt, lent);

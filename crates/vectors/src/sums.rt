@@ -14,14 +14,16 @@ fn say_crc(rt: &impl Env, value: u32) {
 
 pub(crate) fn crc(rt: &impl Env, fields: &[u8]) -> Option<()> {
     let mut room = [0u8; 2048];
-    say_crc(rt, crc::crc32(text::spelt(fields, &mut room)?));
+    let count = text::bytes(fields, &mut room)?;
+    say_crc(rt, crc::crc32(room.get(..count)?));
     Some(())
 }
 
 pub(crate) fn more(rt: &impl Env, fields: &[u8]) -> Option<()> {
     let register = u32::try_from(text::number(text::first(fields), 8)?).ok()?;
     let mut room = [0u8; 2048];
-    let bytes = text::spelt(text::rest(fields), &mut room)?;
+    let count = text::bytes(text::rest(fields), &mut room)?;
+    let bytes = room.get(..count)?;
     say::text(rt, b"more ");
     say::quad(rt, crc::crc_more(register, bytes));
     say::end(rt);
@@ -30,7 +32,8 @@ pub(crate) fn more(rt: &impl Env, fields: &[u8]) -> Option<()> {
 
 pub(crate) fn sum(rt: &impl Env, fields: &[u8]) -> Option<()> {
     let mut room = [0u8; 2048];
-    let bytes = text::spelt(fields, &mut room)?;
+    let count = text::bytes(fields, &mut room)?;
+    let bytes = room.get(..count)?;
     say::text(rt, b"sum ");
     say::byte(rt, frame::checksum::checksum(bytes));
     say::end(rt);
@@ -91,7 +94,10 @@ fn register_of(pattern: Pattern, count: usize) -> u32
     for i in 0..whole {
         register = next_register(register, pattern, i * PIECE, PIECE);
     }
-    next_register(register, pattern, whole * PIECE, count % PIECE)
+    match count % PIECE {
+        0 => register,
+        rest => next_register(register, pattern, whole * PIECE, rest),
+    }
 }
 
 fn long_crc(rt: &impl Env, pattern: Pattern, count: &[u8]) -> Option<()> {
