@@ -14,11 +14,18 @@ use client::record::Client;
 use layout::Bank;
 use script::{call, line};
 use state::Board;
+use std::env::Env;
+
+// Not compiled into `main`, which would then make room for the board before it looks at the words.
+#[inline(never)]
+fn play(rt: &(impl Env + Input)) {
+    let hosted = Client::new(32, Bank::Zero, 0, 0, 0);
+    let mut board = Board::fresh(hosted.client);
+    line::listen(rt, &mut board);
+}
 
 fn main(rt: HostRuntime) {
     if call::takes(&rt, 0, b"usage: ./run board [FILE]\n") {
-        let hosted = Client::new(32, Bank::Zero, 0, 0, 0);
-        let mut board = Board::fresh(hosted.client);
-        line::listen(&rt, &mut board);
+        play(&rt);
     }
 }

@@ -31,6 +31,8 @@ fn write(rt: &impl Env, image: &[u8], bank: Bank) {
     write_into(rt, image, bank, &mut hex_text);
 }
 
+// Not compiled into its caller, which would then take the room before it looks at the words.
+#[inline(never)]
 fn write_input(rt: &(impl Env + std::io::Input), bank: Bank) {
     let mut room = [0u8; ROOM];
     if let Some(size) = input::all(rt, &mut room) {

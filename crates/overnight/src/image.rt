@@ -51,6 +51,8 @@ fn send_from(
 }
 
 // The room is a byte larger than the longest text, so that a longer one is seen to be so.
+// Not compiled into its caller, which would then take the room before it looks at the words.
+#[inline(never)]
 pub(crate) fn send(
     rt: &(impl Env + Files + std::io::Input),
     name: &[u8],

@@ -98,6 +98,8 @@ fn update_from(rt: &(impl Env + std::io::Input), room: &mut [u8], target: Bank, 
 }
 
 // The room is a byte larger than the longest text, so that a longer one is seen to be so.
+// Not compiled into its caller, which would then take the room before it looks at the words.
+#[inline(never)]
 fn update(rt: &(impl Env + std::io::Input), target: Bank, n: usize) {
     let mut room = [0u8; LONGEST_TEXT + 1];
     update_from(rt, &mut room, target, n);
