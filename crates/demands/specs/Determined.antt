@@ -17,6 +17,7 @@ use Rattle.sender.specs.declared.request.Request.{Request}
 use Rattle.commands.specs.declared.Command.{Command}
 use Rattle.response.specs.declared.read.Response.{Response}
 use Rattle.night.specs.declared.record.Night.{Night}
+use Rattle.night.specs.declared.record.Next.{Next}
 use Rattle.night.specs.declared.record.Refusal.{Refusal as NightRefusal}
 use Rattle.exchange.specs.declared.answer.Refusal.{Refusal}
 use Rattle.exchange.specs.declared.request.Unasked.{Unasked}
@@ -61,7 +62,7 @@ use Rattle.night.specs.Call.{IsStart as IsNightStart}
 use Rattle.night.specs.Call.{IsHeard as IsNightHeard}
 use Rattle.night.specs.Call.{IsSilent as IsNightSilent}
 use Rattle.night.specs.Record.{IsRefusalNumber as IsNightNumber}
-use Rattle.night.specs.Record.{IsTakenOver}
+use Rattle.night.specs.Record.{IsTakenOver, IsNextNumber}
 use Rattle.commands.specs.Command.{IsRequestCode, IsResponseCode, IsParameterBytes, IsAddedBytes, IsRequested, IsAnswered}
 use Rattle.exchange.specs.Answer.{Reply, IsRefusalNumber, IsSay}
 use Rattle.exchange.specs.State.{IsClosed, IsOpen}
@@ -145,6 +146,7 @@ pub record Determined : Type 0 where
   -- the night sender
   pub taken_over : (why : Unmade) → Once (IsTakenOver why)
   pub night_number : (why : NightRefusal) → Once (IsNightNumber why)
+  pub next_number : (next : Result Next NightRefusal) → Once (IsNextNumber next)
   pub night_start : (image : List ℕ) (bank : Bank) (n tries : ℕ) (before : List ℕ) → Twice (IsNightStart image bank n tries before)
   pub night_heard : (night : Night) (datagram image before : List ℕ) → Twice (IsNightHeard night datagram image before)
   pub night_silent : (night : Night) (image before : List ℕ) → Twice (IsNightSilent night image before)

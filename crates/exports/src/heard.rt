@@ -14,7 +14,7 @@ fn next_code(next: Result<Next, Refusal>) -> usize
     ensures { result ≡ next_code next }
 {
     match next {
-        Err(why) => usize::from(why),
+        Err(_) => night::record::next_number(next),
         Ok(Next::NotBegun) => 21,
         Ok(Next::Send { name: _, size }) => size,
         Ok(Next::Finished) => 0,

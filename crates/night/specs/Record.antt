@@ -38,7 +38,7 @@ moved_of name gone tries count (Stops why) = stand.GaveUp name why
 abbrev pub standing : Stand → Night → Night
 standing stand night = record { bank = night.bank; n = night.n; tries = night.tries; stand = stand }
 
--- "3, 2 for lent lengths, 7 for T out of range, 8 for an image with no packet to send"; 0 of all else
+-- "3, 2 for lent lengths, 7 for T out of range, 8 for an image with no packet to send"
 abbrev pub refusal_number : Refusal → ℕ
 refusal_number BadN = 3
 refusal_number BadLength = 2
@@ -48,9 +48,13 @@ refusal_number NoPacket = 8
 abbrev pub IsRefusalNumber : Refusal → ℕ → Type 0
 IsRefusalNumber why r = r ≡ refusal_number why
 
+-- 0 of all else
 abbrev pub next_number : Result Next Refusal → ℕ
 next_number (Err why) = refusal_number why
 next_number (Ok next) = 0
+
+abbrev pub IsNextNumber : Result Next Refusal → ℕ → Type 0
+IsNextNumber next r = r ≡ next_number next
 
 -- what the sender refuses
 abbrev pub taken_over : Unmade → Refusal

@@ -1,7 +1,7 @@
 // The record of a night, what comes of a call, and how the record moves.
 ghost use Rattle.std.specs.Prelude.{◌≡◌, ◌<◌};
 ghost use Rattle.night.specs.Name.{number_of};
-ghost use Rattle.night.specs.Record.{following_of, again_of, moved_of, IsTakenOver, IsRefusalNumber};
+ghost use Rattle.night.specs.Record.{following_of, again_of, moved_of, IsTakenOver, IsRefusalNumber, IsNextNumber};
 
 use crate::judge::Verdict;
 use crate::name::Name;
@@ -85,6 +85,16 @@ pub enum Next {
     Send { name: Name, size: usize },
     Finished,
     GaveUp { name: Name, why: Why },
+}
+
+// The number of a refusal; 0 of all else.
+pub fn next_number(next: Result<Next, Refusal>) -> usize
+    ensures { IsNextNumber next result }
+{
+    match next {
+        Ok(_) => 0,
+        Err(why) => usize::from(why),
+    }
 }
 
 // The record is handed back beside what comes next.
