@@ -90,14 +90,10 @@ fn register_of(pattern: Pattern, count: usize) -> u32
     requires { count ≤ 300000 }
 {
     let mut register: u32 = 0xFFFF_FFFF;
-    let whole = count / PIECE;
-    for i in 0..whole {
-        register = next_register(register, pattern, i * PIECE, PIECE);
+    for from in (0..count).step_by(PIECE) {
+        register = next_register(register, pattern, from, PIECE.min(count - from));
     }
-    match count % PIECE {
-        0 => register,
-        rest => next_register(register, pattern, whole * PIECE, rest),
-    }
+    register
 }
 
 fn long_crc(rt: &impl Env, pattern: Pattern, count: &[u8]) -> Option<()> {
