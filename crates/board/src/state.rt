@@ -1,4 +1,6 @@
 // The board between two lines of its script.
+ghost use Rattle.std.specs.Prelude.{◌≤◌};
+
 use crate::{command, wrong};
 use client::record::Client;
 use decision::plan::ADDRESS;
@@ -31,10 +33,17 @@ pub struct Board {
     pub client: Client,
 }
 
+// As many sectors are lent as the client has, but no more than a bank can have.
+fn sectors(client: Client) -> usize
+    ensures { result ≤ 491 }
+{
+    client.fixed.n.min(MOST)
+}
+
 impl Board {
-    // All of both banks of a new board is 0xFF. As many sectors are lent as its client has, but no more than a bank can have.
+    // All of both banks of a new board is 0xFF.
     pub(crate) fn fresh(client: Client) -> Board {
-        let lent = client.fixed.n.min(MOST);
+        let lent = sectors(client);
         Board {
             bank0: room::filled(0xFF, lent * SECTOR),
             bank1: room::filled(0xFF, lent * SECTOR),

@@ -7,14 +7,22 @@ mod name;
 mod next;
 mod talk;
 
+ghost use Rattle.std.specs.Prelude.{◌≤◌, IfSome};
+
 use script::{call, text};
 use std::env::Env;
 use std::fs::Files;
 
 const USAGE: &[u8] = b"usage: ./run night BANK N T FILE.hex [FILE]\n";
 
-fn number(word: Option<&[u8]>) -> Option<usize> {
-    text::decimal(word?, 6)
+fn number(word: Option<&[u8]>) -> Option<usize>
+    ensures { IfSome result (λ n. n ≤ 999999) }
+{
+    let n = text::decimal(word?, 6)?;
+    if n > text::LARGEST_NUMBER {
+        return None;
+    }
+    Some(n)
 }
 
 // The first word that is wrong is named. Which N and T there are is the machine's to say.

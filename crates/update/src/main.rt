@@ -5,6 +5,9 @@
 mod bodies;
 mod frames;
 
+ghost use Rattle.std.specs.Prelude.{◌≡◌, true, IfSome};
+ghost use Rattle.layout.specs.Layout.{good_n};
+
 use hex_text::fault::Refusal;
 use hex_text::read::ReadError;
 use layout::{Bank, MOST, SECTOR};
@@ -105,8 +108,11 @@ fn update(rt: &(impl Env + std::io::Input), target: Bank, n: usize) {
     update_from(rt, &mut room, target, n);
 }
 
-fn n_of(word: Option<&[u8]>) -> Option<usize> {
-    text::decimal(word?, 6).filter(|n| layout::good_n(*n))
+fn n_of(word: Option<&[u8]>) -> Option<usize>
+    ensures { IfSome result (λ n. good_n n ≡ true) }
+{
+    let n = text::decimal(word?, 6)?;
+    if layout::good_n(n) { Some(n) } else { None }
 }
 
 // The first word that is wrong is named.
