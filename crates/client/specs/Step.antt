@@ -5,7 +5,6 @@ use Rattle.buffer.specs.Place.{front_of}
 use Rattle.frame.specs.Read.{data_in}
 use Rattle.layout.specs.Layout.{good_n, bank_size, other_of}
 use Rattle.layout.specs.Pair.{Banks, banks, bank_in, with_bank}
-use Rattle.exchange.specs.declared.answer.Refusal.{Refusal}
 use Rattle.exchange.specs.declared.answer.Refusal.TheVariants.{BadN, BadLength}
 use Rattle.exchange.specs.Answer.{Reply, reply_bytes, answer_number, told_length}
 use Rattle.exchange.specs.Request.{asked_of}
@@ -65,10 +64,6 @@ pub record IsCarried (d : Carried) (r : Stepped) (after answered : List ℕ) : T
   pub target : after ≡ d.target
   pub buffer : answered ≡ d.buffer
 
--- no answer, and nothing is done, whatever is lent
-abbrev pub Refuses : Client → Refusal → Stepped → Type 0
-Refuses c why r = (target address buffer : List ℕ) → IsCarried (carried_of c (Refuse why) target address buffer []) r target buffer
-
 -- ---- on the target alone
 
 -- what a datagram leads to, by what is lent with it
@@ -98,6 +93,12 @@ pub record IsTake (c : Client) (target marks address buffer datagram : List ℕ)
 -- ---- with the running bank beside it
 
 -- N and the running bank's length are asked before all else: 3, then 2
+unfoldable pub planned_beside : Client → ℕ → ℕ → List ℕ → List ℕ → ℕ → List ℕ → Plan
+planned_beside c running target marks address buffer datagram =
+    cond (good_n c.fixed.n)
+    (cond (eqb running (bank_size c.fixed.n)) (plan_of (standing_of c) target marks address buffer (asked_of datagram)) (Refuse BadLength))
+    (Refuse BadN)
+
 unfoldable pub beside_of : Client → ℕ → List ℕ → List ℕ → List ℕ → List ℕ → List ℕ → Carried
 beside_of c running target marks address buffer datagram =
     cond (good_n c.fixed.n)

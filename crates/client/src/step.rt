@@ -1,7 +1,7 @@
 // One datagram: decided upon, carried out on the target bank, answered.
 ghost use Rattle.std.specs.Prelude.{◌≡◌, length};
 ghost use Rattle.client.specs.Perform.{Fair, Addressed};
-ghost use Rattle.client.specs.Step.{notice_of, carried_of, beside_of, IsCarried, Refuses, IsTake, IsStep};
+ghost use Rattle.client.specs.Step.{notice_of, carried_of, planned_beside, beside_of, IsCarried, IsTake, IsStep};
 
 use crate::notice::Notice;
 use crate::record::{Client, Latest, address_of};
@@ -86,21 +86,33 @@ impl Client {
         self.carry(plan, target, address, buffer, frame::read::data(datagram))
     }
 
-    // Nothing is done or said. `carry` has one caller so, into which it is compiled: a call would copy the record's flags.
-    #[tactic(auto, using(crate::proofs::Stepping::refused_is))]
-    fn refused(self, why: Refusal) -> Stepped
-        ensures { Refuses self why result }
+    // N and the length of the running bank first; of that bank nothing else is seen. Then what `take` plans.
+    #[tactic(auto, using(layout::proofs::Layouts::size_good), unfolding(crate::specs::Step::planned_beside))]
+    fn planned(
+        self,
+        running: usize,
+        target: usize,
+        marks: &[u8],
+        address: &[u8],
+        buffer: usize,
+        datagram: &[u8],
+    ) -> Plan
+        ensures { result ≡ planned_beside self running target marks.now address.now buffer datagram.now }
     {
-        Stepped {
-            client: self,
-            answer: Err(why),
-            length: 0,
-            notice: None,
+        let n = self.fixed.n;
+        if !layout::good_n(n) {
+            return Plan::Refuse(Refusal::BadN);
         }
+        if running != layout::bank_size(n) {
+            return Plan::Refuse(Refusal::BadLength);
+        }
+        let standing = self.standing();
+        let asked = exchange::request::read_request(datagram);
+        standing.plan(target, marks, address, buffer, asked)
     }
 
-    // N and the length of the running bank first; of that bank nothing else is seen. What is lent comes part by part, as `take` promises of it.
-    #[tactic(auto, using(layout::proofs::Layouts::size_good), unfolding(crate::specs::Step::beside_of))]
+    // What is lent comes part by part, as `take` promises of it. It does what `take` does, but for the plan: were a refusal a way out of its own, the
+    // record's flags would be copied twice more for each datagram.
     fn beside(
         self,
         running: usize,
@@ -112,14 +124,15 @@ impl Client {
     ) -> Stepped
         ensures { IsCarried (beside_of self running target.old marks.now address.now buffer.old datagram.now) result target.new buffer.new }
     {
-        let n = self.fixed.n;
-        if !layout::good_n(n) {
-            return self.refused(Refusal::BadN);
-        }
-        if running != layout::bank_size(n) {
-            return self.refused(Refusal::BadLength);
-        }
-        self.take(target, marks, address, buffer, datagram)
+        let plan = self.planned(
+            running,
+            target.len(),
+            marks,
+            address,
+            buffer.len(),
+            datagram,
+        );
+        self.carry(plan, target, address, buffer, frame::read::data(datagram))
     }
 
     // The banks come by their numbers, so that a caller cannot take one for the other; only the target is lent on.
