@@ -67,7 +67,8 @@ def functions(text):
 
 def methods(text):
     """(type, from, to) of each block of methods of a blanked source. A trait's are called as a log calls them, `U8FromBank` for `From<Bank> for u8`."""
-    for found in re.finditer(r"\bimpl\b\s*(?:<[^>]*>)?\s*(?:(?:\w+::)*(\w+)(?:<(\w+)>)?\s+for\s+)?(\w+)[^{;]*", text):
+    # a parameter's type, as `&impl Env`, begins no line
+    for found in re.finditer(r"(?m)^[ \t]*impl\b\s*(?:<[^>]*>)?\s*(?:(?:\w+::)*(\w+)(?:<(\w+)>)?\s+for\s+)?(\w+)[^{;]*", text):
         trait, other, name = found.groups("")
         yield "".join(word[:1].upper() + word[1:] for word in (name, trait, other)), found.start(), closing(text, found.end())
 
