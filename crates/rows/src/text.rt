@@ -1,6 +1,7 @@
 // The text of an image: how long it is, and the text itself.
 ghost use Rattle.std.specs.Prelude.{◌≡◌, ◌+◌, ◌≤◌, length};
 ghost use Rattle.std.proofs.lemmas.List.Edits.{sets};
+ghost use Rattle.buffer.specs.Compare.{IsBlank};
 ghost use Rattle.buffer.specs.Place.{front_of};
 ghost use Rattle.rows.specs.Text.{upper_text, row_text, rows_text, all_rows, text_of, IsWrittenNumber, IsLength, IsWrite};
 ghost use Rattle.rows.specs.Places.{RowFits, ImageFits, Room, reached_at};
@@ -33,13 +34,20 @@ pub(crate) struct Reached {
     pub(crate) at: usize,
 }
 
+// Whether a row has nothing but 0xFF. It is shorter than what `buffer` looks at in one go, and of a blank image it is all the work.
+fn blank(row: &[u8]) -> bool
+    ensures { IsBlank row.now result }
+{
+    row.iter().fold(true, |all, byte| all & (*byte == 0xFF))
+}
+
 // Row k measured, behind the first k. It has a line if it has a byte other than 0xFF, and one before that if its upper half was not told last.
 fn pass(image: &[u8], base: usize, k: usize, reached: Reached) -> Reached
     requires { RowFits image.now base k reached }
     ensures { result ≡ reached_at image.now base (k + 1) }
 {
     let from = k * ROW;
-    if buffer::compare::blank(&image[from..from + ROW]) {
+    if blank(&image[from..from + ROW]) {
         return reached;
     }
     let told = (base + from) / 65536;
