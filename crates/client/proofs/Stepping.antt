@@ -4,6 +4,7 @@ use mathlib.Core.Path.{◌≡◌, refl, sym, ap, ap₂, ◌∙◌}
 use mathlib.Core.Bool.{Bool, true, false, cond}
 use mathlib.Core.List.{List, []}
 use Prim.Native.Nat.{ℕ}
+use Rattle.std.specs.Prelude.{None, Err}
 use lib.Dec.{eqb}
 use lib.ListN.{length}
 use Rattle.buffer.specs.Place.{front_of}
@@ -11,8 +12,10 @@ use Rattle.frame.specs.Read.{data_in}
 use Rattle.layout.specs.declared.Bank.{Bank}
 use Rattle.layout.specs.Layout.{other_of, good_n, bank_size}
 use Rattle.layout.specs.Pair.{Banks, bank_in, with_bank}
+use Rattle.exchange.specs.declared.answer.Refusal.{Refusal}
 use Rattle.exchange.specs.declared.answer.Refusal.TheVariants.{BadN, BadLength}
 use Rattle.exchange.specs.Answer.{Reply, reply_bytes, answer_number, told_length, IsSay}
+use Rattle.exchange.proofs.Saying.{say_refused}
 use Rattle.decision.specs.declared.plan.Plan.{Plan}
 use Rattle.decision.specs.declared.plan.Plan.TheVariants.{Refuse}
 use Rattle.client.specs.declared.perform.Served.{Served}
@@ -20,7 +23,7 @@ use Rattle.client.specs.declared.record.Client.{Client}
 use Rattle.client.specs.declared.step.Stepped.{Stepped}
 use Rattle.client.specs.Notice.{MaybeNotice}
 use Rattle.client.specs.Perform.{served_of, IsServed}
-use Rattle.client.specs.Step.{notice_of, Carried, carried_of, IsCarried, planned, take_of, IsTake, planned_beside, beside_of, step_of, IsStep}
+use Rattle.client.specs.Step.{notice_of, Carried, carried_of, IsCarried, Refuses, planned, take_of, IsTake, planned_beside, beside_of, step_of, IsStep}
 use Rattle.client.proofs.Numbers.{take_says_lem, beside_says_lem}
 
 -- do, and then say
@@ -37,6 +40,13 @@ carry_is c plan target address buffer bytes notice s after answered n e d a =
       target = d.target;
       buffer = a.said ∙ ap (λ (x : Reply). front_of buffer (reply_bytes x)) d.answer;
     }
+
+-- a plan that refuses, carried out: nothing done or said
+pub refused_is : (c : Client) (why : Refusal) → Refuses c why (record { client = c; answer = Err why; length = 0; notice = None })
+unfolding served_of
+refused_is c why target address buffer =
+    carry_is c (Refuse why) target address buffer [] None (record { client = c; answer = Err why }) target buffer 0 refl
+    (record { client = refl; answer = refl; target = refl }) (say_refused buffer why)
 
 -- the same carried out, by another name
 pub carried_as : (d e : Carried) (r : Stepped) (after answered : List ℕ) → d ≡ e → IsCarried d r after answered → IsCarried e r after answered

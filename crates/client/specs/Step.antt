@@ -5,6 +5,7 @@ use Rattle.buffer.specs.Place.{front_of}
 use Rattle.frame.specs.Read.{data_in}
 use Rattle.layout.specs.Layout.{good_n, bank_size, other_of}
 use Rattle.layout.specs.Pair.{Banks, banks, bank_in, with_bank}
+use Rattle.exchange.specs.declared.answer.Refusal.{Refusal}
 use Rattle.exchange.specs.declared.answer.Refusal.TheVariants.{BadN, BadLength}
 use Rattle.exchange.specs.Answer.{Reply, reply_bytes, answer_number, told_length}
 use Rattle.exchange.specs.Request.{asked_of}
@@ -63,6 +64,10 @@ pub record IsCarried (d : Carried) (r : Stepped) (after answered : List ℕ) : T
   pub notice : r.notice ≡ d.notice
   pub target : after ≡ d.target
   pub buffer : answered ≡ d.buffer
+
+-- no answer, and nothing is done, whatever is lent
+abbrev pub Refuses : Client → Refusal → Stepped → Type 0
+Refuses c why r = (target address buffer : List ℕ) → IsCarried (carried_of c (Refuse why) target address buffer []) r target buffer
 
 -- ---- on the target alone
 

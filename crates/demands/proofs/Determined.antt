@@ -125,6 +125,6 @@ determined =
       before_lines = once _;
       held_line = λ line turn. once _;
       room_filled = λ n byte lent. once _;
-      room_part = λ n room. once _;
+      room_part = λ n room x y p q. p.part ∙ sym q.part;
       room_lent = λ n before count x y u v p q. (p.stands ∙ sym q.stands, p.told ∙ sym q.told);
     }
