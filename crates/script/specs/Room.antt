@@ -10,7 +10,7 @@ filled_with n byte lent = record { bytes = replicate n byte; lent = lent }
 abbrev pub IsFilled : (n : ℕ) → ℕ → ℕ → Room n → Type 0
 IsFilled n byte lent r = r ≡ filled_with n byte lent
 
--- what is lent of it; all of it, should more be. Whoever has the room alone does not know how many bytes it has, so that is said too
+-- what is lent of it; all of it, should more be. A caller's proof does not know how long the room's array is, so that the part ends within it is said too
 pub record IsPart (n : ℕ) (room : Room n) (r : List ℕ) : Type 0 where
   pub part : r ≡ take room.lent room.bytes
   pub within : r ≡ take (min room.lent n) room.bytes
